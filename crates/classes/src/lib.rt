@@ -1,0 +1,111 @@
+// The 48 size classes: units of a slot, slots and rows of a group, and the class of a size.
+ghost use mathlib.Core.Path.{_≡_};
+ghost use Prim.Native.Nat.{_≤_, _<_};
+ghost use Rattle.classes.specs.Classes.{unitsOf, slotsOf, rowsOf, classOf, tooLarge, rowBytes};
+
+// The bytes of a row.
+pub const ROW: usize = 512;
+
+// How many classes there are.
+pub const CLASSES: usize = 48;
+
+// The largest request is one byte less.
+pub const TOO_LARGE: usize = 131052;
+
+const UNITS: [usize; 48] = [
+    1,
+    2,
+    3,
+    4,
+    5,
+    6,
+    7,
+    8,
+    9,
+    10,
+    12,
+    15,
+    18,
+    20,
+    25,
+    31,
+    36,
+    42,
+    50,
+    63,
+    72,
+    84,
+    102,
+    127,
+    146,
+    170,
+    204,
+    255,
+    292,
+    340,
+    409,
+    511,
+    584,
+    682,
+    818,
+    1023,
+    1169,
+    1364,
+    1637,
+    2047,
+    2340,
+    2730,
+    3276,
+    4095,
+    4680,
+    5460,
+    6552,
+    8191,
+];
+
+// The units of a slot of a class.
+pub fn units(c: usize) -> usize
+    requires { ⌜ c < 48 ⌝ }
+    ensures { λ r. ⌜ r ≡ unitsOf c ⌝ }
+    ensures small { λ r. ⌜ (1 ≤ r) × (r < 8192) ⌝ }
+{
+    UNITS[c]
+}
+
+// The slots of a group.
+pub fn slots(c: usize) -> usize
+    requires { ⌜ c < 48 ⌝ }
+    ensures { λ r. ⌜ r ≡ slotsOf c ⌝ }
+    ensures small { λ r. ⌜ (1 ≤ r) × (r ≤ 31) ⌝ }
+{
+    let n = 4080 / (16 * units(c));
+    if n < 1 {
+        return 1;
+    }
+    if 31 < n {
+        return 31;
+    }
+    n
+}
+
+// The rows of a group.
+pub fn rows(c: usize) -> usize
+    requires { ⌜ c < 48 ⌝ }
+    ensures { λ r. ⌜ r ≡ rowsOf rowBytes c ⌝ }
+    ensures small { λ r. ⌜ (1 ≤ r) × (r ≤ 256) ⌝ }
+{
+    (16 + 16 * units(c) * slots(c) + (ROW - 1)) / ROW
+}
+
+// The least class whose slot has n + 4 bytes.
+pub fn class_of(n: usize) -> usize
+    requires { ⌜ n < tooLarge ⌝ }
+    ensures { λ r. ⌜ r ≡ classOf n ⌝ }
+    ensures small { λ r. ⌜ r < 48 ⌝ }
+{
+    let mut c = 0;
+    while 16 * UNITS[c] < n + 4 {
+        c += 1;
+    }
+    c
+}

@@ -1,0 +1,277 @@
+-- Laws of bytes: writes, parts, zeros, tests of equality, numbers low byte first, and walks over lists.
+use mathlib.Core.Path.{_≡_, refl, sym, ap, ap₂, _∙_, subst}
+use mathlib.Core.Logic.{_⊎_, inl, inr}
+use mathlib.Core.List.{List, [], _∷_, _++_, append-assoc}
+use mathlib.Core.Bool.{Bool, false, _&&_, and-assoc, and-false}
+use Prim.Native.Nat.{ℕ, zero, suc, _+_, _-_, _*_, _/_, _%_, _^_, _<_, _≤_}
+use native.Mathlib.Nat.{zero-add, add-zero, add-suc, suc-add, add-comm, mul-zero, mul-suc, pow-suc}
+use native.Mathlib.Omega.{arith}
+use lib.Dec.{T, eqb, ltb, eqb→eq, eqb-refl, ltb→lt, lt→ltb}
+use lib.ListN.{length, getD, set, take, drop, length-append, length-drop, take-append-drop, length-replicate, replicate-append-replicate}
+use lib.Seq.{sets, sets-eq, length-sets, length-take-le, take-take, take-add, take-at, take-append-le, take-set-le, drop-cons, drop-drop, drop-at, drop-append-le, drop-append-add, drop-set-lt, drop-set-add, getD-take, getD-drop}
+use Rattle.mem.specs.Bytes.{zeros, low, number, same, part, put}
+use Rattle.mem.specs.Lists.{every, join}
+use Rattle.mem.proofs.Tests.{and-left, and-right, and-both, same-test, eq→eqb, every-at, every-by, every-left, every-right}
+
+module _ {ℓ} {A : Type ℓ} where
+  -- ---- writes
+
+  pub put-nil : (p : ℕ) (xs : List A) → put p [] xs ≡ xs
+  put-nil p [] = refl
+  put-nil zero (x ∷ xs) = refl
+  put-nil (suc p) (x ∷ xs) = ap (λ (r : List A). x ∷ r) (put-nil p xs)
+
+  -- a write is the store of its first element and the write of the rest behind it
+  pub put-cons : (p : ℕ) (v : A) (vs xs : List A) → put p (v ∷ vs) xs ≡ put (suc p) vs (set xs p v)
+  put-cons p v vs [] = refl
+  put-cons zero v vs (x ∷ xs) = refl
+  put-cons (suc p) v vs (x ∷ xs) = ap (λ (r : List A). x ∷ r) (put-cons p v vs xs)
+
+  -- a write is a run of stores
+  pub put-sets : (p : ℕ) (vs xs : List A) → put p vs xs ≡ sets xs p vs
+  put-sets p [] xs = put-nil p xs
+  put-sets p (v ∷ vs) xs = put-cons p v vs xs ∙ put-sets (suc p) vs (set xs p v)
+
+  pub put-length : (p : ℕ) (vs xs : List A) → length (put p vs xs) ≡ length xs
+  put-length p vs xs = ap length (put-sets p vs xs) ∙ length-sets xs p vs
+
+  pub put-split : (p : ℕ) (vs xs : List A) → p + length vs ≤ length xs → put p vs xs ≡ take p xs ++ (vs ++ drop (p + length vs) xs)
+  put-split p vs xs h = put-sets p vs xs ∙ sets-eq vs xs p h ∙ append-assoc (take p xs) vs (drop (p + length vs) xs)
+
+  -- a write over the whole list
+  pub put-all : (vs xs : List A) → length vs ≡ length xs → put 0 vs xs ≡ vs
+  put-all [] [] e = refl
+  put-all [] (x ∷ xs) e = absurd (omega arith)
+  put-all (v ∷ vs) [] e = absurd (omega arith)
+  put-all (v ∷ vs) (x ∷ xs) e = ap (λ (r : List A). v ∷ r) (put-all vs xs (omega arith))
+
+  -- one write is the write of its first elements and that of the rest behind them
+  pub put-append : (p : ℕ) (vs ws xs : List A) → put p (vs ++ ws) xs ≡ put (p + length vs) ws (put p vs xs)
+  put-append p [] ws xs = rw (add-zero, put-nil p xs)
+  put-append p (v ∷ vs) ws xs =
+      rw (put-cons p v (vs ++ ws) xs, put-cons p v vs xs, add-suc, ← suc-add) (put-append (suc p) vs ws (set xs p v))
+
+  -- writes that are apart may change places
+  pub put-comm : (p q : ℕ) (vs ws xs : List A) → p + length vs ≤ q → put p vs (put q ws xs) ≡ put q ws (put p vs xs)
+  put-comm p q vs ws [] h = refl
+  put-comm zero q [] ws (x ∷ xs) h = put-nil zero (put q ws (x ∷ xs))
+  put-comm zero zero (v ∷ vs) ws (x ∷ xs) h = absurd (omega arith)
+  put-comm zero (suc q) (v ∷ vs) ws (x ∷ xs) h = ap (λ (r : List A). v ∷ r) (put-comm zero q vs ws xs (omega arith))
+  put-comm (suc p) zero vs ws (x ∷ xs) h = absurd (omega arith)
+  put-comm (suc p) (suc q) vs ws (x ∷ xs) h = ap (λ (r : List A). x ∷ r) (put-comm p q vs ws xs (omega arith))
+
+  -- a write into the front, or the back, of two lists
+  pub put-front : (p : ℕ) (vs xs ys : List A) → p + length vs ≤ length xs → put p vs (xs ++ ys) ≡ put p vs xs ++ ys
+  put-front zero [] [] ys h = put-nil zero ys
+  put-front zero (v ∷ vs) [] ys h = absurd (omega arith)
+  put-front (suc p) vs [] ys h = absurd (omega arith)
+  put-front zero [] (x ∷ xs) ys h = refl
+  put-front zero (v ∷ vs) (x ∷ xs) ys h = ap (λ (r : List A). v ∷ r) (put-front zero vs xs ys (omega arith))
+  put-front (suc p) vs (x ∷ xs) ys h = ap (λ (r : List A). x ∷ r) (put-front p vs xs ys (omega arith))
+
+  pub put-back : (p : ℕ) (vs xs ys : List A) → put (length xs + p) vs (xs ++ ys) ≡ xs ++ put p vs ys
+  put-back p vs [] ys = rw zero-add
+  put-back p vs (x ∷ xs) ys = rw suc-add (ap (λ (r : List A). x ∷ r) (put-back p vs xs ys))
+
+  -- a write over the middle one of three lists
+  pub put-at : (p : ℕ) (front old new back : List A) → length front ≡ p → length new ≡ length old
+      → put p new (front ++ (old ++ back)) ≡ front ++ (new ++ back)
+  put-at p front old new back e f =
+      let q : p ≡ length front + 0 = omega arith in
+      rw (q, put-back 0 new front (old ++ back), put-front 0 new old back (omega arith), put-all new old)
+
+  pub put-seam : (front old new back : List A) → length new ≡ length old → put (length front) new (front ++ (old ++ back)) ≡ front ++ (new ++ back)
+  put-seam front old new back f = put-at (length front) front old new back refl f
+
+  -- ---- parts
+
+  pub part-length : (p k : ℕ) (xs : List A) → p + k ≤ length xs → length (part p k xs) ≡ k
+  part-length p k xs h = length-take-le k (drop p xs) (omega (arith, length-drop p xs))
+
+  pub part-cons : (p k : ℕ) (xs : List A) (d : A) → p < length xs → part p (suc k) xs ≡ getD xs p d ∷ part (suc p) k xs
+  part-cons p k xs d h = ap (take (suc k)) (drop-cons xs p d h)
+
+  pub getD-part : (p k : ℕ) (xs : List A) (i : ℕ) (d : A) → i < k → getD (part p k xs) i d ≡ getD xs (p + i) d
+  getD-part p k xs i d h = getD-take k (drop p xs) i d h ∙ getD-drop p xs i d
+
+  -- two parts side by side
+  pub part-add : (p j k : ℕ) (xs : List A) → part p (j + k) xs ≡ part p j xs ++ part (p + j) k xs
+  part-add p j k xs = take-add j k (drop p xs) ∙ rw drop-drop
+
+  -- a part in the front, or in the back, of two lists
+  pub part-front : (p k : ℕ) (xs ys : List A) → p + k ≤ length xs → part p k (xs ++ ys) ≡ part p k xs
+  part-front p k xs ys h =
+      ap (take k) (drop-append-le p xs ys (omega arith)) ∙ take-append-le k (drop p xs) ys (omega (arith, length-drop p xs))
+
+  pub part-back : (p k : ℕ) (xs ys : List A) → part (length xs + p) k (xs ++ ys) ≡ part p k ys
+  part-back p k xs ys = ap (take k) (drop-append-add xs ys p)
+
+  -- the middle one of three lists
+  pub part-at : (p k : ℕ) (front mid back : List A) → length front ≡ p → length mid ≡ k → part p k (front ++ (mid ++ back)) ≡ mid
+  part-at p k front mid back e f = ap (take k) (drop-at front (mid ++ back) p e) ∙ take-at mid back k f
+
+  pub part-part : (p m i k : ℕ) (xs : List A) → i + k ≤ m → part i k (part p m xs) ≡ part (p + i) k xs
+  part-part p m i k xs h = inner m i k (drop p xs) h ∙ ap (take k) (drop-drop i p xs)
+    where
+      inner : (m i k : ℕ) (l : List A) → i + k ≤ m → part i k (take m l) ≡ part i k l
+      inner m zero k l h = take-take k m l (omega arith)
+      inner zero (suc i) k l h = absurd (omega arith)
+      inner (suc m) (suc i) k [] h = refl
+      inner (suc m) (suc i) k (x ∷ l) h = inner m i k l (omega arith)
+
+  -- a store outside a part leaves it alone
+  pub part-set : (p k : ℕ) (xs : List A) (i : ℕ) (v : A) → (i < p) ⊎ (p + k ≤ i) → part p k (set xs i v) ≡ part p k xs
+  part-set p k xs i v (inl h) = ap (take k) (drop-set-lt p xs i v h)
+  part-set p k xs i v (inr h) =
+      let e : i ≡ p + (i - p) = omega arith in
+      ap (λ (j : ℕ). part p k (set xs j v)) e
+      ∙ ap (take k) (drop-set-add p xs (i - p) v)
+      ∙ take-set-le k (drop p xs) (i - p) v (omega arith)
+
+-- ---- zeros
+
+pub zeros-length : (n : ℕ) → length (zeros n) ≡ n
+unfolding zeros
+zeros-length n = length-replicate {A = ℕ} n 0
+
+pub zeros-cons : (n : ℕ) → zeros (suc n) ≡ 0 ∷ zeros n
+unfolding zeros
+zeros-cons n = refl
+
+pub zeros-none : zeros 0 ≡ []
+unfolding zeros
+zeros-none = refl
+
+-- the zeros that are left of n after i of them
+pub zeros-left : (n i : ℕ) → i < n → zeros (n - i) ≡ 0 ∷ zeros (n - (i + 1))
+zeros-left n i h = let e : n - i ≡ suc (n - (i + 1)) = omega arith in ap zeros e ∙ zeros-cons (n - (i + 1))
+
+pub zeros-add : (m n : ℕ) → zeros (m + n) ≡ zeros m ++ zeros n
+unfolding zeros
+zeros-add m n = sym (replicate-append-replicate m n 0)
+
+pub zeros-at : (n i : ℕ) → getD (zeros n) i 0 ≡ 0
+unfolding zeros
+zeros-at zero i = refl
+zeros-at (suc n) zero = refl
+zeros-at (suc n) (suc i) = zeros-at n i
+
+-- ---- tests of equality
+
+pub same-refl : (a : List ℕ) → T (same a a)
+same-refl [] = tt
+same-refl (x ∷ a) = and-both (eqb x x) (same a a) (eqb-refl x) (same-refl a)
+
+pub same→eq : (a b : List ℕ) → T (same a b) → a ≡ b
+same→eq [] [] t = refl
+same→eq [] (y ∷ b) t = absurd t
+same→eq (x ∷ a) [] t = absurd t
+same→eq (x ∷ a) (y ∷ b) t =
+    ap₂ (λ (h : ℕ) (r : List ℕ). h ∷ r) (eqb→eq x y (and-left (eqb x y) (same a b) t)) (same→eq a b (and-right (eqb x y) (same a b) t))
+
+pub eq→same : (a b : List ℕ) → a ≡ b → T (same a b)
+eq→same a b e = subst (λ (l : List ℕ). T (same a l)) e (same-refl a)
+
+pub same-lengths : (a b : List ℕ) → (length a ≡ length b → ⊥) → same a b ≡ false
+same-lengths [] [] h = absurd (h refl)
+same-lengths [] (y ∷ ys) h = refl
+same-lengths (x ∷ xs) [] h = refl
+same-lengths (x ∷ xs) (y ∷ ys) h = rw (same-lengths xs ys (λ e. h (ap suc e))) (and-false (eqb x y))
+
+-- a test against two lists is a test against each
+pub same-append : (s x y : List ℕ) → same s (x ++ y) ≡ (same (take (length x) s) x && same (drop (length x) s) y)
+same-append s [] y = refl
+same-append [] (b ∷ x) y = refl
+same-append (a ∷ s) (b ∷ x) y =
+    rw (same-append s x y) (sym (and-assoc (eqb a b) (same (take (length x) s) x) (same (drop (length x) s) y)))
+
+-- ---- numbers
+
+-- the number in k bytes from place p on, byte by byte
+abbrev pub digits : ℕ → ℕ → List ℕ → ℕ
+digits p zero s = 0
+digits p (suc k) s = getD s p 0 + 256 * digits (suc p) k s
+
+pub number-part : (p k : ℕ) (s : List ℕ) → p + k ≤ length s → number (part p k s) ≡ digits p k s
+number-part p zero s h = refl
+number-part p (suc k) s h =
+    ap number (part-cons p k s 0 (omega arith)) ∙ ap (λ (n : ℕ). getD s p 0 + 256 * n) (number-part (suc p) k s (omega arith))
+
+-- ---- bytes: every element is below 256
+
+-- as a test of the list, and at each place
+pub bytes-at : (bs : List ℕ) → T (every (λ b. ltb b 256) bs) → (i : ℕ) → getD bs i 0 < 256
+bytes-at bs t i = ltb→lt (getD bs i 0) 256 (every-at (λ b. ltb b 256) bs 0 t tt i)
+
+pub bytes-by : (bs : List ℕ) → ((i : ℕ) → getD bs i 0 < 256) → T (every (λ b. ltb b 256) bs)
+bytes-by bs h = every-by (λ b. ltb b 256) bs 0 (λ i l. lt→ltb (getD bs i 0) 256 (h i))
+
+-- what every element passes, every element of a part passes
+pub every-part : {A : Type 0} (f : A → Bool) (p k : ℕ) (xs : List A) → T (every f xs) → T (every f (part p k xs))
+every-part f p k xs t =
+    let u = every-right f (take p xs) (drop p xs) (rw take-append-drop t) in
+    every-left f (part p k xs) (drop k (drop p xs)) (rw take-append-drop u)
+
+pub low-length : (k x : ℕ) → length (low k x) ≡ k
+low-length zero x = refl
+low-length (suc k) x = ap suc (low-length k (x / 256))
+
+pub low-bytes : (k x : ℕ) → T (every (λ b. ltb b 256) (low k x))
+low-bytes zero x = tt
+low-bytes (suc k) x =
+    and-both (ltb (x % 256) 256) (every (λ b. ltb b 256) (low k (x / 256))) (lt→ltb (x % 256) 256 (omega arith)) (low-bytes k (x / 256))
+
+pub number-low : (k x : ℕ) → x < 256 ^ k → number (low k x) ≡ x
+number-low zero x h = omega arith
+number-low (suc k) x h = omega (arith, number-low k (x / 256) (omega (arith, pow-suc 256 k)))
+
+pub number-small : (bs : List ℕ) → T (every (λ b. ltb b 256) bs) → number bs < 256 ^ length bs
+number-small [] t = omega arith
+number-small (b ∷ bs) t =
+    let h = ltb→lt b 256 (and-left (ltb b 256) (every (λ b. ltb b 256) bs) t) in
+    omega (arith, pow-suc 256 (length bs), number-small bs (and-right (ltb b 256) (every (λ b. ltb b 256) bs) t))
+
+pub low-number : (k : ℕ) (bs : List ℕ) → length bs ≡ k → T (every (λ b. ltb b 256) bs) → low k (number bs) ≡ bs
+low-number zero [] e t = refl
+low-number zero (b ∷ bs) e t = absurd (omega arith)
+low-number (suc k) [] e t = absurd (omega arith)
+low-number (suc k) (b ∷ bs) e t =
+    let h = ltb→lt b 256 (and-left (ltb b 256) (every (λ b. ltb b 256) bs) t) in
+    let q : (b + 256 * number bs) / 256 ≡ number bs = omega arith in
+    let r : (b + 256 * number bs) % 256 ≡ b = omega arith in
+    rw (q, r) (ap (λ (l : List ℕ). b ∷ l) (low-number k bs (omega arith) (and-right (ltb b 256) (every (λ b. ltb b 256) bs) t)))
+
+-- bytes are those of a number where they make it
+pub same-low : (k : ℕ) (bs : List ℕ) (x : ℕ) → length bs ≡ k → T (every (λ b. ltb b 256) bs) → x < 256 ^ k
+    → same bs (low k x) ≡ eqb (number bs) x
+same-low k bs x e t h =
+    same-test (same bs (low k x)) (eqb (number bs) x)
+    (λ u. eq→eqb (number bs) x (ap number (same→eq bs (low k x) u) ∙ number-low k x h))
+    (λ u. eq→same bs (low k x) (sym (low-number k bs e t) ∙ ap (low k) (eqb→eq (number bs) x u)))
+
+pub same-part-low : (p k : ℕ) (s : List ℕ) (x : ℕ) → p + k ≤ length s → ((i : ℕ) → getD s i 0 < 256) → x < 256 ^ k
+    → same (part p k s) (low k x) ≡ eqb (number (part p k s)) x
+same-part-low p k s x l b h =
+    same-low k (part p k s) x (part-length p k s l) (every-part (λ b. ltb b 256) p k s (bytes-by s b)) h
+
+-- ---- walks
+
+module _ {ℓ} {A : Type ℓ} where
+  pub join-append : (f : A → List ℕ) (xs ys : List A) → join f (xs ++ ys) ≡ join f xs ++ join f ys
+  join-append f [] ys = refl
+  join-append f (x ∷ xs) ys = rw (join-append f xs ys) (sym (append-assoc (f x) (join f xs) (join f ys)))
+
+  -- where each piece has n elements
+  pub join-length : (f : A → List ℕ) (n : ℕ) → ((x : A) → length (f x) ≡ n) → (xs : List A) → length (join f xs) ≡ n * length xs
+  join-length f n h [] = sym (mul-zero n)
+  join-length f n h (x ∷ xs) =
+      rw (length-append (f x) (join f xs), h x, join-length f n h xs, mul-suc) (add-comm n (n * length xs))
+
+  -- where each piece of an element that passes a test has n elements
+  pub join-length-of : (f : A → List ℕ) (n : ℕ) (ok : A → Bool) → ((x : A) → T (ok x) → length (f x) ≡ n)
+      → (xs : List A) → T (every ok xs) → length (join f xs) ≡ n * length xs
+  join-length-of f n ok h [] t = sym (mul-zero n)
+  join-length-of f n ok h (x ∷ xs) t =
+      let u = join-length-of f n ok h xs (and-right (ok x) (every ok xs) t) in
+      rw (length-append (f x) (join f xs), h x (and-left (ok x) (every ok xs) t), u, mul-suc)
+      (add-comm n (n * length xs))

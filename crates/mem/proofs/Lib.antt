@@ -1,0 +1,3 @@
+pub mod Tests
+pub mod Masks
+pub mod Laws

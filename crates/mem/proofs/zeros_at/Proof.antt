@@ -1,0 +1,75 @@
+-- `zeros_at` meets its contract. The invariant: the test of the whole is that nothing was seen and that what is left is zero.
+use mathlib.Core.Path.{_≡_, sym, _∙_}
+use mathlib.Core.Bool.{_&&_, and-true, and-assoc}
+use mathlib.Core.List.{List}
+use Prim.Native.Nat.{ℕ, suc, _+_, _-_, _<_, _≤_}
+use native.Mathlib.Nat.{add-zero, sub-zero}
+use native.Mathlib.Omega.{arith}
+use borrow.Author.Needs.{needs}
+use denote.Ref.{now}
+use lib.Bits.{bitOr, or-add-and, and-le-l, and-le-r}
+use lib.Dec.{eqb, eqb→eq}
+use lib.ListN.{length, getD}
+use Rattle.mem.specs.Bytes.{zeros, part, same}
+use Rattle.mem.proofs.Laws.{part-cons, zeros-none, zeros-left}
+use Rattle.mem.proofs.Tests.{and-left, and-right, and-both, same-test, eq→eqb}
+use Rattle.mem.proofs.zeros_at.Statement.{statement}
+use Rattle.mem.proofs.zeros_at.Tie as tie
+
+-- an or is zero where both are
+or-none : (a b : ℕ) → eqb (bitOr a b) 0 ≡ (eqb a 0 && eqb b 0)
+or-none a b =
+    let s = or-add-and a b in
+    let l = and-le-l a b in
+    let r = and-le-r a b in
+    same-test (eqb (bitOr a b) 0) (eqb a 0 && eqb b 0)
+    (λ t. let z = eqb→eq (bitOr a b) 0 t in and-both (eqb a 0) (eqb b 0) (eq→eqb a 0 (omega arith)) (eq→eqb b 0 (omega arith)))
+    (λ t.
+    let x = eqb→eq a 0 (and-left (eqb a 0) (eqb b 0) t) in
+    let y = eqb→eq b 0 (and-right (eqb a 0) (eqb b 0) t) in
+    eq→eqb (bitOr a b) 0 (omega arith))
+
+-- one turn
+turn : (s : List ℕ) (at n i seen : ℕ) → i < n → at + n ≤ length s
+    → (eqb seen 0 && same (part (at + i) (n - i) s) (zeros (n - i)))
+    ≡ (eqb (bitOr seen (getD s (at + i) 0)) 0 && same (part (at + (i + 1)) (n - (i + 1)) s) (zeros (n - (i + 1))))
+turn s at n i seen h f =
+    let e : n - i ≡ suc (n - (i + 1)) = omega arith in
+    let p : at + (i + 1) ≡ suc (at + i) = omega arith in
+    rw (zeros-left n i h, e, p, part-cons (at + i) (n - (i + 1)) s 0 (omega arith), or-none) (simp and-assoc)
+
+abbrev Inv-loop : tie.InvT-loop
+Inv-loop s at n seen₀ i₀ seen i = (i ≤ n) × (same (part at n s) (zeros n) ≡ (eqb seen 0 && same (part (at + i) (n - i) s) (zeros (n - i))))
+
+abbrev μ-loop : tie.MeasureT-loop
+μ-loop s at n seen₀ i₀ seen i = n - i
+
+loop-holds : tie.Need-loop-holds Inv-loop μ-loop
+loop-holds c = (search needs, simp (add-zero, sub-zero))
+
+loop-again : tie.Need-loop-again Inv-loop μ-loop
+loop-again c =
+    let l = c .before .before .loop in
+    let a = c .before .before .before .args in
+    (omega arith, l .inv .1 ∙ turn (now (a .s)) (a .at) (a .n) (l .i) (l .seen) (omega arith) (omega arith))
+
+returns : tie.Need-returns Inv-loop μ-loop
+returns c =
+    let l = c .before .loop in
+    let a = c .before .before .args in
+    let e : a .n - l .i ≡ 0 = omega arith in
+    sym (l .inv .1 ∙ rw (e, zeros-none) (and-true (eqb (l .seen) 0)))
+
+pub zeros-at-spec : {M : Type 1} → statement M
+zeros-at-spec =
+    tie.close
+    (tie.spec
+    Inv-loop
+    μ-loop
+    loop-holds
+    (λ c. search needs)
+    (λ c. search needs)
+    (λ c. search needs)
+    (λ c. search needs)
+    loop-again
+    returns)

@@ -1,0 +1,49 @@
+-- A pool with no groups, and what an accepted set up leaves.
+use Prim.Native.Nat.{ℕ, zero, suc, _+_, _*_, _-_, _/_, _%_, _≤_, _<_}
+use mathlib.Core.Path.{_≡_, refl, sym, ap, _∙_}
+use mathlib.Core.Bool.{Bool, true, false, _&&_}
+use mathlib.Core.List.{List, [], _∷_, _++_}
+use native.Mathlib.Nat.{div-add-mod}
+use native.Mathlib.Omega.{arith}
+use lib.Dec.{T, leb, eqb, leb→le, eqb→eq}
+use lib.ListN.{length, length-replicate}
+use Rattle.mem.specs.Bytes.{zeros}
+use Rattle.mem.proofs.Tests.{and-left, and-right, T-true, choose-true}
+use Rattle.mem.proofs.Laws.{zeros-length}
+use Rattle.model.specs.declared.SetUp.{SetUp}
+use Rattle.model.specs.State.{Pool, wellFormed, spanSound, rows}
+use Rattle.model.specs.Answers.{setUpAnswer}
+use Rattle.model.specs.Plans.{freshPool}
+use Rattle.model.specs.Tables.{encode, arenaRight, sound, roomBytes}
+use Rattle.model.specs.Calls.{Result, setUp, setUpRight}
+use Rattle.model.proofs.Tables.{encode-sound}
+
+pub fresh-formed : (n : ℕ) → T (wellFormed (freshPool n))
+unfolding spanSound
+fresh-formed zero = tt
+fresh-formed (suc n) = fresh-formed n
+
+pub fresh-rows : (row n : ℕ) → rows row (freshPool n) ≡ n
+fresh-rows row zero = refl
+fresh-rows row (suc n) = omega (arith, fresh-rows row n)
+
+-- a lawful arena is whole rows
+pub whole-rows : (row n : ℕ) → T (arenaRight row n) → row * (n / row) ≡ n
+unfolding arenaRight
+whole-rows row n t =
+    let e : n % row ≡ 0 = eqb→eq (n % row) 0 (search (and-left, and-right)) in
+    omega (arith, div-add-mod n row)
+
+module _ (row : ℕ) (a t : List ℕ) (h : T (setUpRight row a t)) where
+  pub set-up-lawful : T (arenaRight row (length a))
+  unfolding setUpRight
+  set-up-lawful = search and-left
+
+  pub set-up-done : setUp row a t ≡ record { answer = setUpAnswer SetUp.Done; arena = zeros (length a); room = encode row (freshPool (length a / row)) }
+  unfolding setUp
+  set-up-done = choose-true (setUpRight row a t) _ _ (T-true (setUpRight row a t) h)
+
+  pub set-up-sound : 0 < row → T (sound row (length a) (encode row (freshPool (length a / row))))
+  set-up-sound pos =
+      encode-sound row pos (freshPool (length a / row)) (length a) (fresh-formed (length a / row)) set-up-lawful
+      (sym (ap (λ n. row * n) (fresh-rows row (length a / row)) ∙ whole-rows row (length a) set-up-lawful))

@@ -1,0 +1,4 @@
+pub mod Bench
+pub mod Tables
+pub mod Rooms
+pub mod Fresh

@@ -1,0 +1,349 @@
+-- Laws of the tables: their exact size, and that one state has one byte form, which says that state.
+use Prim.Native.Nat.{ℕ, zero, suc, _+_, _*_, _-_, _/_, _%_, _^_, _≤_, _<_}
+use mathlib.Core.Path.{_≡_, refl, sym, ap, ap₂, _∙_}
+use mathlib.Core.Bool.{Bool, true, false, _&&_, _||_, not}
+use mathlib.Core.List.{List, [], _∷_, _++_, map, append-assoc, append-nil}
+use native.Mathlib.Nat.{le-trans, lt-of-lt-of-le, pow-le-pow-right, zero-add, suc-add}
+use native.Mathlib.Omega.{arith}
+use lib.Dec.{T, leb, ltb, eqb, leb→le, ltb→lt, eqb→eq, lt→ltb, lit≤}
+use lib.ListN.{length, getD, take, drop, length-append, length-map}
+use lib.Seq.{take-at, drop-at}
+use borrow.Author.Tests.{eq-eqb}
+use Rattle.mem.specs.Lists.{choose, every, any, sum, join}
+use Rattle.mem.specs.Bytes.{zeros, low, number, mask, same, part}
+use Rattle.mem.proofs.Tests.{and-left, and-right, and-both, true-T, every-append}
+use Rattle.mem.proofs.Masks.{mask-below, low-test, rest-bits}
+use Rattle.mem.proofs.Laws.{zeros-length, low-length, number-low, low-bytes, same-refl, same→eq}
+use Rattle.classes.specs.Classes.{unitsOf, slotBytes, slotsOf, rowsOf, classOf, tooLarge}
+use Rattle.classes.proofs.Laws.{units-small, slots-small, rows-pos}
+use Rattle.model.specs.declared.Slot.{Slot}
+use Rattle.model.specs.declared.Slot.the-variants.{Fresh, Idle, Live}
+use Rattle.model.specs.declared.Holder.{Holder}
+use Rattle.model.specs.declared.Holder.the-variants.{Free, First, Later}
+use Rattle.model.specs.State.{Span, Pool, free, group, isReady, isWaiting, isLive, slotSound, spanSound, wellFormed, rows, rowsIn}
+use Rattle.model.specs.Tables.{slotRecord, holderBytes, rowRecord, laterRecords, roomBytes, viewSlot, viewSlots, viewGroup, viewHolder, spanOf}
+use Rattle.model.specs.Tables.{spanRecords, encode, viewRows, view, arenaRight, sound}
+
+-- ---- lengths
+
+pub slot-length : (x : Slot) → length (slotRecord x) ≡ 8
+unfolding slotRecord zeros
+slot-length Fresh = refl
+slot-length (Idle r k d) = refl
+slot-length (Live k d n) = refl
+
+pub slots-length : (ss : List Slot) → length (join slotRecord ss) ≡ 8 * length ss
+slots-length [] = refl
+slots-length (x ∷ ss) = omega (arith, length-append (slotRecord x) (join slotRecord ss), slot-length x, slots-length ss)
+
+holder-length : (h : Holder) → length (holderBytes h) ≡ 2
+holder-length Free = refl
+holder-length (First c) = refl
+holder-length (Later k) = refl
+
+-- the 16 bytes before a row's slot records
+pub rowHead : Holder → List Slot → List ℕ
+rowHead h ss = holderBytes h ++ (zeros 6 ++ (low 4 (mask (map isReady ss)) ++ low 4 (mask (map isWaiting ss))))
+
+pub head-length : (h : Holder) (ss : List Slot) → length (rowHead h ss) ≡ 16
+unfolding rowHead
+head-length h ss =
+    omega (
+      arith,
+      length-append (holderBytes h) (zeros 6 ++ (low 4 (mask (map isReady ss)) ++ low 4 (mask (map isWaiting ss)))),
+      holder-length h,
+      length-append (zeros 6) (low 4 (mask (map isReady ss)) ++ low 4 (mask (map isWaiting ss))),
+      zeros-length 6,
+    )
+
+pub row-parts : (h : Holder) (ss : List Slot) → rowRecord h ss ≡ rowHead h ss ++ (join slotRecord ss ++ zeros (8 * (31 - length ss)))
+unfolding rowRecord rowHead
+row-parts h ss = simp append-assoc
+
+pub row-length : (h : Holder) (ss : List Slot) → length ss ≤ 31 → length (rowRecord h ss) ≡ 264
+row-length h ss l =
+    ap length (row-parts h ss)
+    ∙ omega (
+      arith,
+      length-append (rowHead h ss) (join slotRecord ss ++ zeros (8 * (31 - length ss))),
+      head-length h ss,
+      length-append (join slotRecord ss) (zeros (8 * (31 - length ss))),
+      slots-length ss,
+      zeros-length (8 * (31 - length ss)),
+    )
+
+pub later-length : (m k : ℕ) → length (laterRecords m k) ≡ 264 * m
+unfolding laterRecords
+later-length zero k = refl
+later-length (suc m) k =
+    omega (arith, length-append (rowRecord (Later k) []) (laterRecords m (suc k)), row-length (Later k) [] (lit≤ tt), later-length m (suc k))
+
+-- a sound group has as many slots as its class says
+pub group-slots : (c : ℕ) (ss : List Slot) → T (spanSound (group c ss)) → length ss ≡ slotsOf c
+unfolding spanSound
+group-slots c ss t = eqb→eq (length ss) (slotsOf c) (search (and-left, and-right))
+
+pub group-few : (c : ℕ) (ss : List Slot) → T (spanSound (group c ss)) → length ss ≤ 31
+group-few c ss t = omega (arith, group-slots c ss t, slots-small c)
+
+module _ (row : ℕ) (pos : 0 < row) where
+  pub span-length : (s : Span) → T (spanSound s) → length (spanRecords row s) ≡ 264 * rowsIn row s
+  unfolding spanRecords
+  span-length free t = row-length Free [] (lit≤ tt)
+  span-length (group c ss) t =
+      omega (
+        arith,
+        length-append (rowRecord (First c) ss) (laterRecords (rowsOf row c - 1) 1),
+        row-length (First c) ss (group-few c ss t),
+        later-length (rowsOf row c - 1) 1,
+        rows-pos row c pos,
+      )
+
+  pub spans-length : (P : Pool) → T (wellFormed P) → length (join (spanRecords row) P) ≡ 264 * rows row P
+  spans-length [] t = refl
+  spans-length (s ∷ P) t =
+      omega (
+        arith,
+        length-append (spanRecords row s) (join (spanRecords row) P),
+        span-length s (and-left (spanSound s) (wellFormed P) t),
+        spans-length P (and-right (spanSound s) (wellFormed P) t),
+      )
+
+  -- the table room's one size
+  pub encode-length : (P : Pool) → T (wellFormed P) → length (encode row P) ≡ roomBytes (rows row P)
+  unfolding encode roomBytes
+  encode-length P t =
+      omega (arith, length-append (zeros 12) (join (spanRecords row) P), zeros-length 12, spans-length P t)
+
+-- ---- the byte form of a state says that state
+
+disp-fits : (c d : ℕ) → 16 * d ≤ slotBytes c - 4 → d < 256 ^ 2
+unfolding slotBytes
+disp-fits c d h = omega (arith, units-small c)
+
+view-slot : (c : ℕ) (x : Slot) → T (slotSound c x) → viewSlot (isReady x) (isWaiting x) (slotRecord x) ≡ x
+unfolding viewSlot slotRecord slotSound zeros choose tooLarge
+view-slot c Fresh t = refl
+view-slot c (Idle true k d) t = ap (Idle true k) (number-low 2 d (disp-fits c d (leb→le (16 * d) (slotBytes c - 4) (search (and-left, and-right)))))
+view-slot c (Idle false k d) t = ap (Idle false k) (number-low 2 d (disp-fits c d (leb→le (16 * d) (slotBytes c - 4) (search (and-left, and-right)))))
+view-slot c (Live k d n) t =
+    let t₁ : T (leb (16 * d + n) (slotBytes c - 4)) = search (and-left, and-right) in
+    let t₂ : T (ltb n 131052) = search (and-left, and-right) in
+    let h : 16 * d ≤ slotBytes c - 4 = omega (arith, leb→le (16 * d + n) (slotBytes c - 4) t₁) in
+    ap₂ (Live k) (number-low 2 d (disp-fits c d h)) (number-low 3 n (omega (arith, ltb→lt n 131052 t₂)))
+
+view-slots : (c : ℕ) (ss : List Slot) (rest : List ℕ) → T (every (slotSound c) ss)
+    → viewSlots (length ss) (mask (map isReady ss)) (mask (map isWaiting ss)) (join slotRecord ss ++ rest) ≡ ss
+unfolding viewSlots
+view-slots c [] rest t = refl
+view-slots c (x ∷ ss) rest t =
+    rw (
+      append-assoc (slotRecord x) (join slotRecord ss) rest,
+      take-at (slotRecord x) (join slotRecord ss ++ rest) 8 (slot-length x),
+      drop-at (slotRecord x) (join slotRecord ss ++ rest) 8 (slot-length x),
+      low-test (isReady x) (map isReady ss),
+      low-test (isWaiting x) (map isWaiting ss),
+      rest-bits (isReady x) (map isReady ss),
+      rest-bits (isWaiting x) (map isWaiting ss),
+    )
+    (ap₂ {C = List Slot} (λ y ys. y ∷ ys) (view-slot c x (and-left (slotSound c x) (every (slotSound c) ss) t))
+    (view-slots c ss rest (and-right (slotSound c x) (every (slotSound c) ss) t)))
+
+mask-fits : (f : Slot → Bool) (ss : List Slot) → length ss ≤ 31 → mask (map f ss) < 256 ^ 4
+mask-fits f ss h =
+    let l : length (map f ss) ≤ 31 = rw (length-map ss f) h in
+    lt-of-lt-of-le (mask-below (map f ss)) (le-trans (pow-le-pow-right (lit≤ tt) l) (lit≤ {m = 2 ^ 31} tt))
+
+pub view-group : (c : ℕ) (ss : List Slot) (rest : List ℕ) → T (spanSound (group c ss)) → viewGroup c (rowRecord (First c) ss ++ rest) ≡ ss
+unfolding viewGroup rowRecord zeros spanSound
+view-group c ss rest t =
+    let few : length ss ≤ 31 = group-few c ss t in
+    rw (← group-slots c ss t)
+    (ap₂ (λ x y. viewSlots (length ss) x y (drop 16 (rowRecord (First c) ss ++ rest))) (number-low 4 (mask (map isReady ss)) (mask-fits isReady ss few))
+    (number-low 4 (mask (map isWaiting ss)) (mask-fits isWaiting ss few))
+    ∙ ap (viewSlots (length ss) (mask (map isReady ss)) (mask (map isWaiting ss))) (append-assoc (join slotRecord ss) _ rest)
+    ∙ view-slots c ss _ (search (and-left, and-right)))
+
+-- ---- one row of the view
+
+module _ (row n : ℕ) (t : List ℕ) where
+  pub rows-free : viewHolder t ≡ Free → viewRows row (suc n) 0 t ≡ free ∷ viewRows row n 0 (drop 264 t)
+  unfolding viewRows
+  rows-free e = ap (spanOf (free ∷ viewRows row n 0 (drop 264 t)) (λ c. group c (viewGroup c t) ∷ viewRows row n (rowsOf row c - 1) (drop 264 t))) e
+
+  pub rows-first : (c : ℕ) → viewHolder t ≡ First c → viewRows row (suc n) 0 t ≡ group c (viewGroup c t) ∷ viewRows row n (rowsOf row c - 1) (drop 264 t)
+  unfolding viewRows
+  rows-first c e = ap (spanOf (free ∷ viewRows row n 0 (drop 264 t)) (λ c. group c (viewGroup c t) ∷ viewRows row n (rowsOf row c - 1) (drop 264 t))) e
+
+  pub rows-later : (k : ℕ) → viewHolder t ≡ Later k → viewRows row (suc n) 0 t ≡ free ∷ viewRows row n 0 (drop 264 t)
+  unfolding viewRows
+  rows-later k e = ap (spanOf (free ∷ viewRows row n 0 (drop 264 t)) (λ c. group c (viewGroup c t) ∷ viewRows row n (rowsOf row c - 1) (drop 264 t))) e
+
+  pub rows-skip : (k : ℕ) → viewRows row (suc n) (suc k) t ≡ viewRows row n k (drop 264 t)
+  unfolding viewRows
+  rows-skip k = refl
+
+pub holder-free : (rest : List ℕ) → viewHolder (rowRecord Free [] ++ rest) ≡ Free
+unfolding viewHolder rowRecord choose
+holder-free rest = refl
+
+pub holder-first : (c : ℕ) (ss : List Slot) (rest : List ℕ) → viewHolder (rowRecord (First c) ss ++ rest) ≡ First c
+unfolding viewHolder rowRecord choose
+holder-first c ss rest = refl
+
+pub holder-later : (k : ℕ) (rest : List ℕ) → viewHolder (rowRecord (Later k) [] ++ rest) ≡ Later k
+unfolding viewHolder rowRecord choose
+holder-later k rest = refl
+
+-- ---- the byte form of a state says that state, whatever stands behind it
+
+module _ (row : ℕ) where
+  pass-over : (k n j : ℕ) (rest : List ℕ) → viewRows row (k + n) k (laterRecords k j ++ rest) ≡ viewRows row n 0 rest
+  unfolding laterRecords
+  pass-over zero n j rest = ap (λ m. viewRows row m 0 rest) (zero-add n)
+  pass-over (suc k) n j rest =
+      rw (append-assoc (rowRecord (Later j) []) (laterRecords k (suc j)) rest)
+      (ap (λ m. viewRows row m (suc k) (rowRecord (Later j) [] ++ (laterRecords k (suc j) ++ rest))) (suc-add k n)
+      ∙ rows-skip row (k + n) (rowRecord (Later j) [] ++ (laterRecords k (suc j) ++ rest)) k
+      ∙ ap (viewRows row (k + n) k) (drop-at (rowRecord (Later j) []) (laterRecords k (suc j) ++ rest) 264 (row-length (Later j) [] (lit≤ tt)))
+      ∙ pass-over k n (suc j) rest)
+
+  module _ (pos : 0 < row) where
+    pub view-records : (P : Pool) (rest : List ℕ) → T (wellFormed P) → viewRows row (rows row P) 0 (join (spanRecords row) P ++ rest) ≡ P
+    unfolding viewRows spanRecords
+    view-records [] rest t = refl
+    view-records (free ∷ P) rest t =
+        let R : List ℕ = join (spanRecords row) P ++ rest in
+        let e : 1 + rows row P ≡ suc (rows row P) = omega arith in
+        rw (append-assoc (rowRecord Free []) (join (spanRecords row) P) rest)
+        (ap (λ m. viewRows row m 0 (rowRecord Free [] ++ R)) e
+        ∙ rows-free row (rows row P) (rowRecord Free [] ++ R) (holder-free R)
+        ∙ ap (λ l. free ∷ viewRows row (rows row P) 0 l) (drop-at (rowRecord Free []) R 264 (row-length Free [] (lit≤ tt)))
+        ∙ ap (λ Q. free ∷ Q) (view-records P rest (and-right (spanSound free) (wellFormed P) t)))
+    view-records (group c ss ∷ P) rest t =
+        let h : T (spanSound (group c ss)) = and-left (spanSound (group c ss)) (wellFormed P) t in
+        let R : List ℕ = laterRecords (rowsOf row c - 1) 1 ++ (join (spanRecords row) P ++ rest) in
+        let n : ℕ = (rowsOf row c - 1) + rows row P in
+        let e : rowsOf row c + rows row P ≡ suc n = omega (arith, rows-pos row c pos) in
+        rw (
+          append-assoc (rowRecord (First c) ss ++ laterRecords (rowsOf row c - 1) 1) (join (spanRecords row) P) rest,
+          append-assoc (rowRecord (First c) ss) (laterRecords (rowsOf row c - 1) 1) (join (spanRecords row) P ++ rest),
+        )
+        (ap (λ m. viewRows row m 0 (rowRecord (First c) ss ++ R)) e
+        ∙ rows-first row n (rowRecord (First c) ss ++ R) c (holder-first c ss R)
+        ∙ ap₂ {C = Pool} (λ ys l. group c ys ∷ viewRows row n (rowsOf row c - 1) l) (view-group c ss R h)
+        (drop-at (rowRecord (First c) ss) R 264 (row-length (First c) ss (group-few c ss h)))
+        ∙ ap (λ Q. group c ss ∷ Q) (pass-over (rowsOf row c - 1) (rows row P) 1 (join (spanRecords row) P ++ rest)
+        ∙ view-records P rest (and-right (spanSound (group c ss)) (wellFormed P) t)))
+
+    pub view-encode : (P : Pool) → T (wellFormed P) → view row (encode row P) ≡ P
+    unfolding view encode zeros
+    view-encode P t =
+        let J : List ℕ = join (spanRecords row) P in
+        let n : (length (encode row P) - 16) / 264 ≡ rows row P = omega (arith, spans-length row pos P t) in
+        ap (λ k. viewRows row k 0 J) n ∙ ap (viewRows row (rows row P) 0) (sym (append-nil J)) ∙ view-records P [] t
+
+    -- the byte form of a well-formed state is sound, under an arena of its length
+    pub encode-sound : (P : Pool) (n : ℕ) → T (wellFormed P) → T (arenaRight row n) → n ≡ row * rows row P → T (sound row n (encode row P))
+    unfolding sound
+    encode-sound P n w h e =
+        rw (view-encode P w)
+        (and-both (arenaRight row n && eqb n (row * rows row P) && same (encode row P) (encode row P)) (wellFormed P)
+        (and-both (arenaRight row n && eqb n (row * rows row P)) (same (encode row P) (encode row P))
+        (and-both (arenaRight row n) (eqb n (row * rows row P)) h (true-T (eqb n (row * rows row P)) (eq-eqb n (row * rows row P) e)))
+        (same-refl (encode row P)))
+        w)
+
+  -- what sound tables are: the one form of what they say, for an arena of the recorded length, and well formed
+  pub record Sound (n : ℕ) (t : List ℕ) : Type 0 where
+    pub lawful : T (arenaRight row n)
+    pub long : n ≡ row * rows row (view row t)
+    pub form : t ≡ encode row (view row t)
+    pub formed : T (wellFormed (view row t))
+
+  pub sound-facts : (n : ℕ) (t : List ℕ) → T (sound row n t) → Sound n t
+  unfolding sound
+  sound-facts n t h = record {
+    lawful = search (and-left, and-right);
+    long = eqb→eq n (row * rows row (view row t)) (search (and-left, and-right));
+    form = same→eq t (encode row (view row t)) (search (and-left, and-right));
+    formed = search (and-left, and-right);
+  }
+
+-- ---- every element of the byte form is a byte
+
+unfoldable pub Bytes : List ℕ → Type 0
+Bytes bs = T (every (λ b. ltb b 256) bs)
+
+bytes-append : (xs ys : List ℕ) → Bytes xs → Bytes ys → Bytes (xs ++ ys)
+unfolding Bytes
+bytes-append xs ys t u = every-append (λ b. ltb b 256) xs ys t u
+
+byte : (b : ℕ) (bs : List ℕ) → b < 256 → Bytes bs → Bytes (b ∷ bs)
+unfolding Bytes
+byte b bs h t = and-both (ltb b 256) (every (λ b. ltb b 256) bs) (lt→ltb b 256 h) t
+
+no-bytes : Bytes []
+unfolding Bytes
+no-bytes = tt
+
+low-small : (k x : ℕ) → Bytes (low k x)
+unfolding Bytes
+low-small k x = low-bytes k x
+
+zeros-bytes : (n : ℕ) → Bytes (zeros n)
+unfolding zeros
+zeros-bytes zero = no-bytes
+zeros-bytes (suc n) = byte 0 (zeros n) (lit≤ tt) (zeros-bytes n)
+
+slot-bytes : (c : ℕ) (x : Slot) → T (slotSound c x) → Bytes (slotRecord x)
+unfolding slotRecord slotSound
+slot-bytes c Fresh t = zeros-bytes 8
+slot-bytes c (Idle r k d) t =
+    byte 1 _ (lit≤ tt) (byte k _ (ltb→lt k 256 (and-left (ltb k 256) (leb (16 * d) (slotBytes c - 4)) t)) (bytes-append (low 2 d) (zeros 4) (low-small 2 d) (zeros-bytes 4)))
+slot-bytes c (Live k d n) t =
+    let h : T (ltb k 256) = search and-left in
+    byte 1 _ (lit≤ tt) (byte k _ (ltb→lt k 256 h)
+    (bytes-append (low 2 d) (low 3 n ++ (0 ∷ [])) (low-small 2 d) (bytes-append (low 3 n) (0 ∷ []) (low-small 3 n) (byte 0 [] (lit≤ tt) no-bytes))))
+
+slots-bytes : (c : ℕ) (ss : List Slot) → T (every (slotSound c) ss) → Bytes (join slotRecord ss)
+slots-bytes c [] t = no-bytes
+slots-bytes c (x ∷ ss) t =
+    bytes-append (slotRecord x) (join slotRecord ss) (slot-bytes c x (and-left (slotSound c x) (every (slotSound c) ss) t))
+    (slots-bytes c ss (and-right (slotSound c x) (every (slotSound c) ss) t))
+
+row-bytes : (h : Holder) (ss : List Slot) → Bytes (holderBytes h) → Bytes (join slotRecord ss) → Bytes (rowRecord h ss)
+unfolding rowRecord
+row-bytes h ss u t =
+    bytes-append (holderBytes h) _ u
+    (bytes-append (zeros 6) _ (zeros-bytes 6)
+    (bytes-append (low 4 (mask (map isReady ss))) _ (low-small 4 (mask (map isReady ss)))
+    (bytes-append (low 4 (mask (map isWaiting ss))) _ (low-small 4 (mask (map isWaiting ss)))
+    (bytes-append (join slotRecord ss) _ t (zeros-bytes (8 * (31 - length ss)))))))
+
+later-bytes : (m k : ℕ) → k + m ≤ 256 → Bytes (laterRecords m k)
+unfolding laterRecords
+later-bytes zero k h = no-bytes
+later-bytes (suc m) k h =
+    bytes-append (rowRecord (Later k) []) (laterRecords m (suc k))
+    (row-bytes (Later k) [] (byte 2 _ (lit≤ tt) (byte k [] (omega arith) no-bytes)) no-bytes) (later-bytes m (suc k) (omega arith))
+
+module _ (row : ℕ) (few : (c : ℕ) → c < 48 → rowsOf row c ≤ 256) where
+  spans-bytes : (P : Pool) → T (wellFormed P) → Bytes (join (spanRecords row) P)
+  unfolding spanRecords spanSound
+  spans-bytes [] t = no-bytes
+  spans-bytes (free ∷ P) t = bytes-append (rowRecord Free []) (join (spanRecords row) P) (row-bytes Free [] (byte 0 _ (lit≤ tt) (byte 0 [] (lit≤ tt) no-bytes)) no-bytes) (spans-bytes P t)
+  spans-bytes (group c ss ∷ P) t =
+      let h : T (spanSound (group c ss)) = and-left (spanSound (group c ss)) (wellFormed P) t in
+      let l : c < 48 = ltb→lt c 48 (search (and-left, and-right)) in
+      bytes-append (rowRecord (First c) ss ++ laterRecords (rowsOf row c - 1) 1) (join (spanRecords row) P)
+      (bytes-append (rowRecord (First c) ss) (laterRecords (rowsOf row c - 1) 1)
+      (row-bytes (First c) ss (byte 1 _ (lit≤ tt) (byte c [] (omega arith) no-bytes)) (slots-bytes c ss (search (and-left, and-right))))
+      (later-bytes (rowsOf row c - 1) 1 (omega (arith, few c l))))
+      (spans-bytes P (and-right (spanSound (group c ss)) (wellFormed P) t))
+
+  pub encode-bytes : (P : Pool) → T (wellFormed P) → Bytes (encode row P)
+  unfolding encode
+  encode-bytes P t =
+      bytes-append (low 4 (row * rows row P)) _ (low-small 4 (row * rows row P))
+      (bytes-append (zeros 12) _ (zeros-bytes 12) (spans-bytes P t))

@@ -1,0 +1,6 @@
+pub mod State
+pub mod Blocks
+pub mod Answers
+pub mod Plans
+pub mod Tables
+pub mod Calls

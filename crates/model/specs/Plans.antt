@@ -1,0 +1,284 @@
+-- The calls on the pool's state alone: what each answers, the state after it, and what it writes to the arena. No byte is read.
+use Prim.Native.Nat.{ℕ, zero, suc, _+_, _*_, _-_, _/_, _%_, min}
+use mathlib.Core.Bool.{Bool, true, false, _&&_, not}
+use mathlib.Core.Option.{Option, none, some}
+use mathlib.Core.List.{List, [], _∷_, _++_, map}
+use lib.Dec.{leb, eqb}
+use lib.ListN.{getD, take, drop, replicate}
+use Rattle.mem.specs.Lists.{choose, any, first, find, sum}
+use Rattle.mem.specs.Bytes.{zeros, part, put, bit}
+use Rattle.classes.specs.Classes.{slotBytes, classOf, slotsOf, rowsOf, tooLarge}
+use Rattle.model.specs.declared.Slot.{Slot}
+use Rattle.model.specs.declared.Slot.the-variants.{Fresh, Idle, Live}
+use Rattle.model.specs.declared.SetUp.{SetUp}
+use Rattle.model.specs.declared.Grant.{Grant}
+use Rattle.model.specs.declared.Release.{Release}
+use Rattle.model.specs.declared.Resize.{Resize}
+use Rattle.model.specs.declared.Measure.{Measure}
+use Rattle.model.specs.declared.Report.{Report}
+use Rattle.model.specs.declared.Totals.{Totals}
+use Rattle.model.specs.State.{Span, Pool, Place, free, group, isLive, isReady, isWaiting, count, disp, size}
+use Rattle.model.specs.State.{poolOf, become, slotNumber, places, rows, base, owned, start}
+use Rattle.model.specs.Blocks.{reserved, header, spare, frame}
+use Rattle.model.specs.Answers.{Answer, setUpAnswer, grantAnswer, releaseAnswer, resizeAnswer, measureAnswer, reportAnswer}
+
+-- bytes written from a place on, or some bytes copied from one place to another
+pub data Write : Type 0 where
+  writes : (at : ℕ) (bytes : List ℕ) → Write
+  copies : (from to length : ℕ) → Write
+
+-- what a call does: the live block whose header and guard must be those due, if it names one; then answer, state and writes
+pub record Plan (A : Type 0) : Type 0 where
+  pub checks : Option Place
+  pub answer : A
+  pub pool : Pool
+  pub changes : List Write
+
+-- "A refused call leaves the state as it was."
+abbrev pub refused : {A : Type 0} → A → Pool → Plan A
+refused r P = record { checks = none; answer = r; pool = P; changes = [] }
+
+-- GRANT
+
+-- a group of class c, the slots it has, and what lies before and after it
+pub record Site : Type 0 where
+  pub before : Pool
+  pub slots : List Slot
+  pub after : Pool
+
+abbrev pub slotsIn : Span → List Slot
+slotsIn free = []
+slotsIn (group c ss) = ss
+
+-- "the groups of n's class with a slot not live"
+unfoldable pub opens : ℕ → Span → Bool
+opens c free = false
+opens c (group k ss) = eqb k c && any (λ x. not (isLive x)) ss
+
+-- "take the one with the lowest first row", X being what was passed by
+abbrev pub openFrom : Pool → ℕ → Pool → Option Site
+openFrom X c [] = none
+openFrom X c (s ∷ Y) =
+    let here : Site = record { before = X; slots = slotsIn s; after = Y } in
+    let next : Option Site = openFrom (X ++ (s ∷ [])) c Y in
+    choose (opens c s) (some here) next
+
+-- whether a pool begins with k free rows
+abbrev pub run : ℕ → Pool → Bool
+run zero P = true
+run (suc k) [] = false
+run (suc k) (free ∷ P) = run k P
+run (suc k) (group c ss ∷ P) = false
+
+-- "If its ready set is empty, all waiting slots become ready first."
+abbrev pub turnReady : Slot → Slot
+turnReady Fresh = Fresh
+turnReady (Idle r k d) = Idle true k d
+turnReady (Live k d n) = Live k d n
+
+unfoldable pub refill : List Slot → List Slot
+refill ss = let m = map turnReady ss in choose (any isReady ss) ss m
+
+-- "Let t be the whole part of (s − 4 − n) / 16; d is the slot's count modulo (t + 1); then the count goes up by one, 255 becoming 0."
+unfoldable pub grantSlot : ℕ → ℕ → Slot → Slot
+grantSlot c n x = Live ((count x + 1) % 256) (count x % suc ((slotBytes c - 4 - n) / 16)) n
+
+-- "Take its lowest ready slot."
+unfoldable pub grantIn : ℕ → ℕ → Site → Place
+grantIn c n s =
+    let ss = refill (s .slots) in
+    let i = first isReady ss in
+    record { before = s .before; cls = c; lower = take i ss; state = grantSlot c n (getD ss i Fresh); upper = drop (suc i) ss; after = s .after }
+
+-- a call on the block at an offset: "no such block: the offset is neither a live start nor covered by 5", "already free: it is the
+-- last start of a granted, not live slot of a present group"
+abbrev pub onBlock : {A : Type 0} → A → A → Pool → (Place → Plan A) → Option Place → Plan A
+onBlock absent freed P f none = refused absent P
+onBlock absent freed P f (some p) = let l = f p in choose (isLive (p .state)) l (refused freed P)
+
+-- "In place if n is at most s − 4 − 16d and the block's class is at most one above n's class"
+unfoldable pub inPlace : Place → ℕ → Bool
+inPlace p n = leb n (slotBytes (p .cls) - 4 - 16 * disp (p .state)) && leb (p .cls) (suc (classOf n))
+
+-- sums over the slots and the free rows of a pool
+abbrev pub slotSum : (Slot → ℕ) → Span → ℕ
+slotSum f free = 0
+slotSum f (group c ss) = sum f ss
+
+abbrev pub freeRow : Span → ℕ
+freeRow free = 1
+freeRow (group c ss) = 0
+
+-- a pool with no groups
+abbrev pub freshPool : ℕ → Pool
+freshPool n = replicate n free
+
+module _ (row : ℕ) where
+  -- "If there is no such group, make one at the lowest run of R free rows, all slots ready"
+  abbrev pub runFrom : Pool → ℕ → Pool → Option Site
+  runFrom X c [] = none
+  runFrom X c (s ∷ Y) =
+      let here : Site = record { before = X; slots = replicate (slotsOf c) Fresh; after = drop (rowsOf row c) (s ∷ Y) } in
+      let next : Option Site = runFrom (X ++ (s ∷ [])) c Y in
+      choose (run (rowsOf row c) (s ∷ Y)) (some here) next
+
+  abbrev pub siteOr : Option Site → Option Site → Option Site
+  siteOr none t = t
+  siteOr (some s) t = some s
+
+  unfoldable pub site : Pool → ℕ → Option Site
+  site P c = let new = runFrom [] c P in siteOr (openFrom [] c P) new
+
+  -- the place that a grant of n bytes takes, in the pool that it makes
+  abbrev pub reserveIn : ℕ → ℕ → Option Site → Option Place
+  reserveIn c n none = none
+  reserveIn c n (some s) = some (grantIn c n s)
+
+  unfoldable pub reserve : Pool → ℕ → Option Place
+  unfolding site grantIn
+  reserve P n = reserveIn (classOf n) n (site P (classOf n))
+
+  -- "The slot's s owned bytes become zero, then header and guard are written; no other arena byte changes."
+  unfoldable pub enframe : Place → Write
+  enframe p = writes (owned row p) (frame (p .cls) (slotNumber p) (disp (p .state)) (size (p .state)))
+
+  -- "if there is no such run, answer 8"; "The value is the start."
+  abbrev pub grantAt : Pool → Option Place → Plan Grant
+  grantAt P none = refused Grant.NoRoom P
+  grantAt P (some p) = record { checks = none; answer = Grant.At (start row p); pool = poolOf p; changes = enframe p ∷ [] }
+
+  unfoldable pub grant : Pool → ℕ → Plan Grant
+  unfolding reserve enframe
+  grant P n = let g = grantAt P (reserve P n) in choose (leb tooLarge n) (refused Grant.TooLarge P) g
+
+  -- BLOCKS BY THEIR OFFSET
+
+  -- the granted slot whose last start the offset is
+  unfoldable pub lookup : Pool → ℕ → Option Place
+  unfolding places
+  lookup P o = find (λ p. eqb (start row p) o) (places P)
+
+  -- RELEASE
+
+  -- "The slot becomes waiting and its s owned bytes zero. If no slot of the group is live, the group goes, all its rows become
+  -- zero and free."
+  abbrev pub vacant : Place → Slot
+  vacant p = Idle false (count (p .state)) (disp (p .state))
+
+  unfoldable pub releaseAt : Place → Plan Release
+  releaseAt p =
+      let c = p .cls in
+      let stays : Plan Release = record {
+        checks = some p;
+        answer = Release.Done;
+        pool = poolOf (become p (vacant p));
+        changes = writes (owned row p) (zeros (slotBytes c)) ∷ [];
+      } in
+      let goes : Plan Release = record {
+        checks = some p;
+        answer = Release.Done;
+        pool = p .before ++ (freshPool (rowsOf row c) ++ p .after);
+        changes = writes (base row p) (zeros (row * rowsOf row c)) ∷ [];
+      } in
+      choose (any isLive (p .lower ++ p .upper)) stays goes
+
+  unfoldable pub release : Pool → ℕ → Plan Release
+  unfolding lookup releaseAt
+  release P o = onBlock Release.NoSuchBlock Release.AlreadyFree P releaseAt (lookup P o)
+
+  -- RESIZE
+
+  -- "the first bytes, as many as the lesser of old and new n, stay, all from there to the end become zero, header and guard are
+  -- written anew"; "Count and start change only by such a grant."
+  unfoldable pub resizeInPlace : Place → ℕ → Plan Resize
+  resizeInPlace p n =
+      let c = p .cls in
+      let d = disp (p .state) in
+      let kept = min (size (p .state)) n in
+      record {
+        checks = some p;
+        answer = Resize.At (start row p);
+        pool = poolOf (become p (Live (count (p .state)) d n));
+        changes =
+            writes (start row p - 4) (header c (slotNumber p) d n)
+            ∷ writes (start row p + kept) (zeros (n - kept) ++ spare (reserved c d n)) ∷ [];
+      }
+
+  -- "Otherwise a grant of n is made while the old block is live, that many bytes are copied, then the old is released."
+  abbrev pub moveTo : Pool → Place → ℕ → Option Place → Plan Resize
+  moveTo P p n none = record { checks = some p; answer = Resize.NoRoom; pool = P; changes = [] }
+  moveTo P p n (some q) =
+      let old = release (poolOf q) (start row p) in
+      record {
+        checks = some p;
+        answer = Resize.At (start row q);
+        pool = old .pool;
+        changes = enframe q ∷ copies (start row p) (start row q) (min (size (p .state)) n) ∷ old .changes;
+      }
+
+  unfoldable pub resizeMove : Pool → Place → ℕ → Plan Resize
+  unfolding reserve release enframe
+  resizeMove P p n = moveTo P p n (reserve P n)
+
+  unfoldable pub resizeAt : Pool → ℕ → Place → Plan Resize
+  unfolding resizeInPlace resizeMove
+  resizeAt P n p = let i = resizeInPlace p n in let m = resizeMove P p n in choose (inPlace p n) i m
+
+  unfoldable pub resize : Pool → ℕ → ℕ → Plan Resize
+  unfolding lookup resizeAt
+  resize P o n =
+      let r = onBlock Resize.NoSuchBlock Resize.AlreadyFree P (resizeAt P n) (lookup P o) in
+      choose (leb tooLarge n) (refused Resize.TooLarge P) r
+
+  -- MEASURE AND REPORT
+
+  abbrev pub measureAt : Pool → Place → Plan Measure
+  measureAt P p = record { checks = some p; answer = Measure.Size (size (p .state)); pool = P; changes = [] }
+
+  unfoldable pub measure : Pool → ℕ → Plan Measure
+  unfolding lookup
+  measure P o = onBlock Measure.NoSuchBlock Measure.AlreadyFree P (measureAt P) (lookup P o)
+
+  -- "live blocks, their requested bytes, rows held, rows free, ready slots, waiting slots (the last two over present groups)"
+  unfoldable pub totals : Pool → Totals
+  totals P = record {
+    blocks = sum (slotSum (λ x. bit (isLive x))) P;
+    bytes = sum (slotSum size) P;
+    held = rows row P - sum freeRow P;
+    free = sum freeRow P;
+    ready = sum (slotSum (λ x. bit (isReady x))) P;
+    waiting = sum (slotSum (λ x. bit (isWaiting x))) P;
+  }
+
+  unfoldable pub report : Pool → Plan Report
+  unfolding totals
+  report P = record { checks = none; answer = Report.Counted (totals P); pool = P; changes = [] }
+
+  -- "Set up writes zero over the whole arena and makes tables with no groups."
+  abbrev pub setUpAgain : Pool → Plan SetUp
+  setUpAgain P = record { checks = none; answer = SetUp.Done; pool = freshPool (rows row P); changes = writes 0 (zeros (row * rows row P)) ∷ [] }
+
+-- THE MODEL OF DEMAND 3
+
+pub data Call : Type 0 where
+  setsUp : Call
+  grants : (n : ℕ) → Call
+  releases : (offset : ℕ) → Call
+  resizes : (offset n : ℕ) → Call
+  measures : (offset : ℕ) → Call
+  reports : Call
+
+-- a plan with its answer as number and values
+abbrev pub numbered : {A : Type 0} → (A → Answer) → Plan A → Plan Answer
+numbered f p = record { checks = p .checks; answer = f (p .answer); pool = p .pool; changes = p .changes }
+
+module _ (row : ℕ) where
+  -- "Every call steps on that state and its arguments alone"
+  unfoldable pub plan : Pool → Call → Plan Answer
+  unfolding grant release resize measure report
+  plan P setsUp = numbered setUpAnswer (setUpAgain row P)
+  plan P (grants n) = numbered grantAnswer (grant row P n)
+  plan P (releases o) = numbered releaseAnswer (release row P o)
+  plan P (resizes o n) = numbered resizeAnswer (resize row P o n)
+  plan P (measures o) = numbered measureAnswer (measure row P o)
+  plan P reports = numbered reportAnswer (report row P)

@@ -1,0 +1,136 @@
+-- The pool's state: what the tables know, without bytes.
+use Prim.Native.Nat.{ℕ, zero, suc, _+_, _*_, _-_}
+use mathlib.Core.Bool.{Bool, true, false, _&&_, _||_, not}
+use mathlib.Core.List.{List, [], _∷_, _++_}
+use lib.Dec.{leb, ltb, eqb}
+use lib.ListN.{length}
+use Rattle.mem.specs.Lists.{choose, every, any, sum}
+use Rattle.classes.specs.Classes.{slotBytes, classOf, slotsOf, rowsOf, tooLarge}
+use Rattle.model.specs.declared.Slot.{Slot}
+use Rattle.model.specs.declared.Slot.the-variants.{Fresh, Idle, Live}
+
+-- "A row is free, the first row of a group of a named class, or a later row of that group." A pool is what follows one another
+-- in the arena, a free row or a whole group with its slots; so no two groups share a row.
+pub data Span : Type 0 where
+  free : Span
+  group : (cls : ℕ) (slots : List Slot) → Span
+
+abbrev pub Pool : Type 0
+Pool = List Span
+
+-- "of each slot whether it is ready, waiting or live"
+abbrev pub isReady : Slot → Bool
+isReady Fresh = true
+isReady (Idle r k d) = r
+isReady (Live k d n) = false
+
+abbrev pub isWaiting : Slot → Bool
+isWaiting Fresh = false
+isWaiting (Idle r k d) = not r
+isWaiting (Live k d n) = false
+
+abbrev pub isLive : Slot → Bool
+isLive Fresh = false
+isLive (Idle r k d) = false
+isLive (Live k d n) = true
+
+-- "For each slot also: whether it was ever granted in this group, its use count modulo 256 (grants in this group), and, once
+-- granted, the displacement d in units of its last start; for a live slot the requested n."
+abbrev pub granted : Slot → Bool
+granted Fresh = false
+granted (Idle r k d) = true
+granted (Live k d n) = true
+
+abbrev pub count : Slot → ℕ
+count Fresh = 0
+count (Idle r k d) = k
+count (Live k d n) = k
+
+abbrev pub disp : Slot → ℕ
+disp Fresh = 0
+disp (Idle r k d) = d
+disp (Live k d n) = d
+
+abbrev pub size : Slot → ℕ
+size Fresh = 0
+size (Idle r k d) = 0
+size (Live k d n) = n
+
+-- "a live slot was granted, has 16d + n at most s − 4, and its class is that of n or the next one up; a slot granted but not
+-- live has 16d at most s − 4; a live n is below 131,052; a slot never granted is ready with count 0."
+unfoldable pub slotSound : ℕ → Slot → Bool
+slotSound c Fresh = true
+slotSound c (Idle r k d) = ltb k 256 && leb (16 * d) (slotBytes c - 4)
+slotSound c (Live k d n) =
+    ltb k 256 && leb (16 * d + n) (slotBytes c - 4) && ltb n tooLarge && (eqb c (classOf n) || eqb c (suc (classOf n)))
+
+-- "each group has a live slot"
+unfoldable pub spanSound : Span → Bool
+spanSound free = true
+spanSound (group c ss) = ltb c 48 && eqb (length ss) (slotsOf c) && any isLive ss && every (slotSound c) ss
+
+abbrev pub wellFormed : Pool → Bool
+wellFormed P = every spanSound P
+
+-- A granted slot in its pool: what lies before its group, the group's class, the slots before it, its state, the slots after it,
+-- and what lies after the group.
+pub record Place : Type 0 where
+  pub before : Pool
+  pub cls : ℕ
+  pub lower : List Slot
+  pub state : Slot
+  pub upper : List Slot
+  pub after : Pool
+
+-- the pool that a place is in, and the place with another state
+abbrev pub poolOf : Place → Pool
+poolOf p = p .before ++ (group (p .cls) (p .lower ++ (p .state ∷ p .upper)) ∷ p .after)
+
+abbrev pub become : Place → Slot → Place
+become p x = record { before = p .before; cls = p .cls; lower = p .lower; state = x; upper = p .upper; after = p .after }
+
+-- i, the slot's number in its group
+abbrev pub slotNumber : Place → ℕ
+slotNumber p = length (p .lower)
+
+-- the granted slots of a group, us being the slots passed by
+abbrev pub slotPlaces : Pool → ℕ → List Slot → List Slot → Pool → List Place
+slotPlaces X c us [] Y = []
+slotPlaces X c us (x ∷ xs) Y =
+    let p : Place = record { before = X; cls = c; lower = us; state = x; upper = xs; after = Y } in
+    let r : List Place = slotPlaces X c (us ++ (x ∷ [])) xs Y in
+    choose (granted x) (p ∷ r) r
+
+-- the granted slots from a span on, X being what was passed by
+abbrev pub placesFrom : Pool → Pool → List Place
+placesFrom X [] = []
+placesFrom X (free ∷ Y) = placesFrom (X ++ (free ∷ [])) Y
+placesFrom X (group c ss ∷ Y) = slotPlaces X c [] ss Y ++ placesFrom (X ++ (group c ss ∷ [])) Y
+
+-- every granted slot of the pool, in the order of the arena
+unfoldable pub places : Pool → List Place
+places P = placesFrom [] P
+
+module _ (row : ℕ) where
+  abbrev pub rowsIn : Span → ℕ
+  rowsIn free = 1
+  rowsIn (group c ss) = rowsOf row c
+
+  abbrev pub rows : Pool → ℕ
+  rows P = sum rowsIn P
+
+  -- the group's first byte
+  abbrev pub base : Place → ℕ
+  base p = row * rows (p .before)
+
+  -- "Slot i of a group begins 16 + i·s bytes after the group's first byte."
+  abbrev pub beginning : Place → ℕ
+  beginning p = base p + 16 + slotNumber p * slotBytes (p .cls)
+
+  -- "It owns the s bytes that start 4 bytes earlier"
+  abbrev pub owned : Place → ℕ
+  owned p = base p + 12 + slotNumber p * slotBytes (p .cls)
+
+  -- "The start is the slot's beginning plus 16d."
+  abbrev pub start : Place → ℕ
+  start p = beginning p + 16 * disp (p .state)
