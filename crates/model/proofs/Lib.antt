@@ -2,3 +2,4 @@ pub mod Bench
 pub mod Tables
 pub mod Rooms
 pub mod Fresh
+pub mod Lookup

@@ -1,0 +1,275 @@
+-- A granted slot is found by its start, and by nothing else.
+use Prim.Native.Nat.{ℕ, zero, suc, _+_, _*_, _-_, _/_, _≤_, _<_}
+use mathlib.Core.Path.{_≡_, refl, sym, subst, ap, ap₂, _∙_}
+use mathlib.Core.Bool.{Bool, true, false, _&&_}
+use mathlib.Core.Option.{Option, none, some}
+use mathlib.Core.List.{List, [], _∷_, _++_, append-assoc, append-nil}
+use native.Mathlib.Nat.{mul-le-mul-left, mul-le-mul-right, mul-add, suc-mul, mul-comm, le-div-iff-mul-le, div-lt-iff-lt-mul, le-trans}
+use native.Mathlib.Omega.{arith}
+use lib.Dec.{T, leb, ltb, eqb, leb→le, ltb→lt, eqb→eq}
+use lib.ListN.{length, length-append}
+use borrow.Author.Tests.{eq-eqb}
+use Rattle.mem.specs.Lists.{choose, every, any, find, sum}
+use Rattle.mem.proofs.Tests.{and-left, and-right, every-left, every-right, choose-case, choose-true, T-true, true-T}
+use Rattle.classes.specs.Classes.{slotBytes, slotsOf, rowsOf}
+use Rattle.classes.proofs.Laws.{bytes-least, rows-hold, rows-pos}
+use Rattle.model.specs.declared.Slot.{Slot}
+use Rattle.model.specs.declared.Slot.the-variants.{Fresh, Idle, Live}
+use Rattle.model.specs.State.{Span, Pool, Place, free, group, isLive, granted, disp, size, slotSound, spanSound, wellFormed, poolOf, slotNumber}
+use Rattle.model.specs.State.{slotPlaces, placesFrom, places, rowsIn, rows, base, start}
+use Rattle.model.specs.Plans.{lookup}
+use Rattle.model.proofs.Tables.{group-slots}
+use Rattle.model.proofs.Rooms.{rows-append}
+
+-- ---- lists
+
+-- what holds of every element
+abbrev pub All : {A : Type 0} → (A → Type 0) → List A → Type 0
+All Q [] = Unit {0}
+All Q (x ∷ xs) = Q x × All Q xs
+
+module _ {A : Type 0} (Q : A → Type 0) where
+  pub all-append : (xs ys : List A) → All Q xs → All Q ys → All Q (xs ++ ys)
+  all-append [] ys s t = t
+  all-append (x ∷ xs) ys s t = (s .0, all-append xs ys (s .1) t)
+
+  pub all-left : (xs ys : List A) → All Q (xs ++ ys) → All Q xs
+  all-left [] ys t = tt
+  all-left (x ∷ xs) ys t = (t .0, all-left xs ys (t .1))
+
+  pub all-right : (xs ys : List A) → All Q (xs ++ ys) → All Q ys
+  all-right [] ys t = t
+  all-right (x ∷ xs) ys t = all-right xs ys (t .1)
+
+  -- what is found passes the test, and what holds of every element holds of it
+  pub find-some : (f : A → Bool) (xs : List A) (y : A) → find f xs ≡ some y → All Q xs → Q y × T (f y)
+  unfolding choose
+  find-some f [] y e t = let z : _≡_ {A = ℕ} 0 1 = cc in absurd (omega arith)
+  find-some f (x ∷ xs) y e t = go (f x) refl e (λ e. find-some f xs y e (t .1))
+    where
+      go : (b : Bool) → f x ≡ b → choose b (some x) (find f xs) ≡ some y → (find f xs ≡ some y → Q y × T (f y)) → Q y × T (f y)
+      go true h e r = let q : x ≡ y = cc in (subst Q q (t .0), subst (λ z. T (f z)) q (true-T (f x) h))
+      go false h e r = r e
+
+-- where nothing is found, no element passes the test
+pub find-none : {A : Type 0} (f : A → Bool) (xs : List A) → find f xs ≡ none → All (λ x. T (f x) → ⊥) xs
+unfolding choose
+find-none f [] e = tt
+find-none f (x ∷ xs) e = go (f x) refl e (λ e. find-none f xs e)
+  where
+    go : (b : Bool) → f x ≡ b → choose b (some x) (find f xs) ≡ none → (find f xs ≡ none → All (λ x. T (f x) → ⊥) xs)
+        → (T (f x) → ⊥) × All (λ x. T (f x) → ⊥) xs
+    go true h e r = let z : _≡_ {A = ℕ} 0 1 = cc in absurd (omega arith)
+    go false h e r = (λ t. subst T h t, r e)
+
+-- one list split in two ways at one place
+pub split-unique : {A : Type 0} (us vs us′ vs′ : List A) (x x′ : A) → us ++ (x ∷ vs) ≡ us′ ++ (x′ ∷ vs′) → length us ≡ length us′
+    → (us ≡ us′) × (x ≡ x′) × (vs ≡ vs′)
+split-unique [] vs [] vs′ x x′ e l = (refl, cc, cc)
+split-unique [] vs (y ∷ us′) vs′ x x′ e l = absurd (omega arith)
+split-unique (y ∷ us) vs [] vs′ x x′ e l = absurd (omega arith)
+split-unique (y ∷ us) vs (y′ ∷ us′) vs′ x x′ e l =
+    let h : y ≡ y′ = cc in
+    let t : us ++ (x ∷ vs) ≡ us′ ++ (x′ ∷ vs′) = cc in
+    let r : (us ≡ us′) × (x ≡ x′) × (vs ≡ vs′) = split-unique us vs us′ vs′ x x′ t (omega arith) in
+    (ap₂ (λ a b. a ∷ b) h (r .0), r .1, r .2)
+
+-- ---- the places of a pool
+
+-- the place of slot x, with the slots us before it and vs after it, in a group between X and Y
+abbrev pub placed : Pool → ℕ → List Slot → Slot → List Slot → Pool → Place
+placed X c us x vs Y = record { before = X; cls = c; lower = us; state = x; upper = vs; after = Y }
+
+pub same-placed : {X X′ : Pool} {c c′ : ℕ} {us us′ : List Slot} {x x′ : Slot} {vs vs′ : List Slot} {Y Y′ : Pool}
+    → X ≡ X′ → c ≡ c′ → us ≡ us′ → x ≡ x′ → vs ≡ vs′ → Y ≡ Y′ → placed X c us x vs Y ≡ placed X′ c′ us′ x′ vs′ Y′
+same-placed b c l s u a = cc
+
+-- a place of the pool P
+abbrev pub Of : Pool → Place → Type 0
+Of P p = (poolOf p ≡ P) × T (granted (p .state))
+
+slot-places-of : (X : Pool) (c : ℕ) (us xs : List Slot) (Y : Pool) → All (Of (X ++ (group c (us ++ xs) ∷ Y))) (slotPlaces X c us xs Y)
+slot-places-of X c us [] Y = tt
+slot-places-of X c us (x ∷ xs) Y =
+    let r : All (Of (X ++ (group c (us ++ (x ∷ xs)) ∷ Y))) (slotPlaces X c (us ++ (x ∷ [])) xs Y) =
+    subst (λ l. All (Of (X ++ (group c l ∷ Y))) (slotPlaces X c (us ++ (x ∷ [])) xs Y)) (append-assoc us (x ∷ []) xs) (slot-places-of X c (us ++ (x ∷ [])) xs Y) in
+    choose-case (All (Of (X ++ (group c (us ++ (x ∷ xs)) ∷ Y)))) (granted x) (placed X c us x xs Y ∷ slotPlaces X c (us ++ (x ∷ [])) xs Y) _
+    (λ e. ((refl, true-T (granted x) e), r)) (λ e. r)
+
+places-from-of : (X P : Pool) → All (Of (X ++ P)) (placesFrom X P)
+places-from-of X [] = tt
+places-from-of X (free ∷ P) = subst (λ Q. All (Of Q) (placesFrom (X ++ (free ∷ [])) P)) (append-assoc X (free ∷ []) P) (places-from-of (X ++ (free ∷ [])) P)
+places-from-of X (group c ss ∷ P) =
+    all-append (Of (X ++ (group c ss ∷ P))) (slotPlaces X c [] ss P) _ (slot-places-of X c [] ss P)
+    (subst (λ Q. All (Of Q) (placesFrom (X ++ (group c ss ∷ [])) P)) (append-assoc X (group c ss ∷ []) P) (places-from-of (X ++ (group c ss ∷ [])) P))
+
+pub places-of : (P : Pool) → All (Of P) (places P)
+unfolding places
+places-of P = places-from-of [] P
+
+-- what holds of all places of a pool holds of each granted slot's
+module _ (Q : Place → Type 0) where
+  slot-places-in : (X : Pool) (c : ℕ) (ws us : List Slot) (x : Slot) (vs : List Slot) (Y : Pool) → T (granted x)
+      → All Q (slotPlaces X c ws (us ++ (x ∷ vs)) Y) → Q (placed X c (ws ++ us) x vs Y)
+  slot-places-in X c ws [] x vs Y g t =
+      rw (append-nil ws) (subst (All Q) (choose-true (granted x) (placed X c ws x vs Y ∷ slotPlaces X c (ws ++ (x ∷ [])) vs Y) _ (T-true (granted x) g)) t .0)
+  slot-places-in X c ws (u ∷ us) x vs Y g t =
+      subst (λ l. Q (placed X c l x vs Y)) (append-assoc ws (u ∷ []) us)
+      (slot-places-in X c (ws ++ (u ∷ [])) us x vs Y g
+      (choose-case (λ l. All Q l → All Q (slotPlaces X c (ws ++ (u ∷ [])) (us ++ (x ∷ vs)) Y)) (granted u)
+      (placed X c ws u (us ++ (x ∷ vs)) Y ∷ slotPlaces X c (ws ++ (u ∷ [])) (us ++ (x ∷ vs)) Y) _ (λ e t. t .1) (λ e t. t) t))
+
+  places-from-in : (W X : Pool) (c : ℕ) (us : List Slot) (x : Slot) (vs : List Slot) (Y : Pool) → T (granted x)
+      → All Q (placesFrom W (X ++ (group c (us ++ (x ∷ vs)) ∷ Y))) → Q (placed (W ++ X) c us x vs Y)
+  places-from-in W [] c us x vs Y g t =
+      rw (append-nil W) (slot-places-in W c [] us x vs Y g (all-left Q (slotPlaces W c [] (us ++ (x ∷ vs)) Y) _ t))
+  places-from-in W (free ∷ X) c us x vs Y g t =
+      subst (λ Z. Q (placed Z c us x vs Y)) (append-assoc W (free ∷ []) X) (places-from-in (W ++ (free ∷ [])) X c us x vs Y g t)
+  places-from-in W (group k ss ∷ X) c us x vs Y g t =
+      subst (λ Z. Q (placed Z c us x vs Y)) (append-assoc W (group k ss ∷ []) X)
+      (places-from-in (W ++ (group k ss ∷ [])) X c us x vs Y g (all-right Q (slotPlaces W k [] ss _) _ t))
+
+  pub places-in : (p : Place) → T (granted (p .state)) → All Q (places (poolOf p)) → Q p
+  unfolding places
+  places-in p g t = places-from-in [] (p .before) (p .cls) (p .lower) (p .state) (p .upper) (p .after) g t
+
+-- ---- where the starts of a pool lie
+
+-- the rules of a place's group and slot
+pub record Fits (p : Place) : Type 0 where
+  pub class : p .cls < 48
+  pub slots : length (p .lower ++ (p .state ∷ p .upper)) ≡ slotsOf (p .cls)
+  pub number : slotNumber p < slotsOf (p .cls)
+  pub state : T (slotSound (p .cls) (p .state))
+  pub others : T (every (slotSound (p .cls)) (p .lower)) × T (every (slotSound (p .cls)) (p .upper))
+  pub before : T (wellFormed (p .before))
+  pub after : T (wellFormed (p .after))
+
+pub fits : (p : Place) → T (wellFormed (poolOf p)) → Fits p
+unfolding spanSound
+fits p w =
+    let ss : List Slot = p .lower ++ (p .state ∷ p .upper) in
+    let r : T (wellFormed (group (p .cls) ss ∷ p .after)) = every-right spanSound (p .before) (group (p .cls) ss ∷ p .after) w in
+    let g : T (spanSound (group (p .cls) ss)) = and-left (spanSound (group (p .cls) ss)) (wellFormed (p .after)) r in
+    let e : T (every (slotSound (p .cls)) ss) = search (and-left, and-right) in
+    let t : T (every (slotSound (p .cls)) (p .state ∷ p .upper)) = every-right (slotSound (p .cls)) (p .lower) (p .state ∷ p .upper) e in
+    let n : length ss ≡ slotsOf (p .cls) = group-slots (p .cls) ss g in
+    record {
+      class = ltb→lt (p .cls) 48 (search (and-left, and-right));
+      slots = n;
+      number = omega (arith, n, length-append (p .lower) (p .state ∷ p .upper));
+      state = and-left (slotSound (p .cls) (p .state)) (every (slotSound (p .cls)) (p .upper)) t;
+      others = (every-left (slotSound (p .cls)) (p .lower) (p .state ∷ p .upper) e, and-right (slotSound (p .cls) (p .state)) (every (slotSound (p .cls)) (p .upper)) t);
+      before = every-left spanSound (p .before) (group (p .cls) ss ∷ p .after) w;
+      after = and-right (spanSound (group (p .cls) ss)) (wellFormed (p .after)) r;
+    }
+
+-- a last start lies in its slot, and a live block too
+pub disp-inside : (c : ℕ) (x : Slot) → c < 48 → T (slotSound c x) → 16 * disp x + size x + 4 ≤ slotBytes c
+unfolding slotSound
+disp-inside c Fresh h t = omega (arith, bytes-least c h)
+disp-inside c (Idle r k d) h t =
+    let l : T (leb (16 * d) (slotBytes c - 4)) = search (and-left, and-right) in omega (arith, bytes-least c h, leb→le)
+disp-inside c (Live k d n) h t =
+    let l : T (leb (16 * d + n) (slotBytes c - 4)) = search (and-left, and-right) in omega (arith, bytes-least c h, leb→le)
+
+module _ (row : ℕ) (pos : 0 < row) where
+  -- the bytes of a slot lie in its group's rows
+  pub slot-inside : (p : Place) → T (wellFormed (poolOf p)) → 16 + suc (slotNumber p) * slotBytes (p .cls) ≤ row * rowsOf row (p .cls)
+  slot-inside p w =
+      let f : Fits p = fits p w in
+      omega (arith, rows-hold row (p .cls) pos, mul-le-mul-right (slotBytes (p .cls)) (f .number), mul-comm (slotBytes (p .cls)) (slotsOf (p .cls)))
+
+  -- the row of a start is one of its group's
+  pub record InRows (r : ℕ) (X : Pool) (s : Span) : Type 0 where
+    pub from : rows row X ≤ r
+    pub to : r < rows row X + rowsIn row s
+
+  pub start-row : (p : Place) → T (wellFormed (poolOf p)) → InRows (start row p / row) (p .before) (group (p .cls) (p .lower ++ (p .state ∷ p .upper)))
+  start-row p w =
+      let f : Fits p = fits p w in
+      let d : 16 * disp (p .state) + size (p .state) + 4 ≤ slotBytes (p .cls) = disp-inside (p .cls) (p .state) (f .class) (f .state) in
+      record {
+        from = le-div-iff-mul-le pos .1 (omega (arith, mul-comm row (rows row (p .before))));
+        to = div-lt-iff-lt-mul pos .1
+            (omega (
+              arith,
+              slot-inside p w,
+              suc-mul (slotNumber p) (slotBytes (p .cls)),
+              mul-comm (rows row (p .before) + rowsOf row (p .cls)) row,
+              mul-add row (rows row (p .before)) (rowsOf row (p .cls)),
+            ));
+      }
+
+  -- one pool, split in two ways round one row
+  pub span-unique : (r : ℕ) (X : Pool) (s : Span) (Y X′ : Pool) (s′ : Span) (Y′ : Pool) → X ++ (s ∷ Y) ≡ X′ ++ (s′ ∷ Y′)
+      → InRows r X s → InRows r X′ s′ → (X ≡ X′) × (s ≡ s′) × (Y ≡ Y′)
+  span-unique r [] s Y [] s′ Y′ e i j = (refl, cc, cc)
+  span-unique r [] s Y (x ∷ X′) s′ Y′ e i j =
+      let h : s ≡ x = cc in absurd (omega (arith, i .to, j .from, ap (rowsIn row) h))
+  span-unique r (x ∷ X) s Y [] s′ Y′ e i j =
+      let h : x ≡ s′ = cc in absurd (omega (arith, i .from, j .to, ap (rowsIn row) h))
+  span-unique r (x ∷ X) s Y (x′ ∷ X′) s′ Y′ e i j =
+      let h : x ≡ x′ = cc in
+      let t : X ++ (s ∷ Y) ≡ X′ ++ (s′ ∷ Y′) = cc in
+      let n : rowsIn row x ≡ rowsIn row x′ = ap (rowsIn row) h in
+      let u : (X ≡ X′) × (s ≡ s′) × (Y ≡ Y′) =
+      span-unique (r - rowsIn row x) X s Y X′ s′ Y′ t
+      (record { from = omega (arith, i .from, i .to); to = omega (arith, i .from, i .to) })
+      (record { from = omega (arith, j .from, j .to, n); to = omega (arith, j .from, j .to, n) }) in
+      (ap₂ (λ a b. a ∷ b) h (u .0), u .1, u .2)
+
+  -- two slots of one group whose starts are one are one slot
+  same-slot : (c i j d e : ℕ) → 16 * d + 4 ≤ slotBytes c → 16 * e + 4 ≤ slotBytes c → i * slotBytes c + 16 * d ≡ j * slotBytes c + 16 * e → i ≡ j
+  same-slot c i j d e h k q =
+      let a : i < j → ⊥ = λ l. omega (arith, mul-le-mul-right (slotBytes c) l, suc-mul i (slotBytes c)) in
+      let b : j < i → ⊥ = λ l. omega (arith, mul-le-mul-right (slotBytes c) l, suc-mul j (slotBytes c)) in
+      omega arith
+
+  -- two places of one pool with one start are one
+  pub place-unique : (p q : Place) → T (wellFormed (poolOf p)) → poolOf q ≡ poolOf p → start row q ≡ start row p → q ≡ p
+  place-unique p q w e s =
+      let w′ : T (wellFormed (poolOf q)) = subst (λ P. T (wellFormed P)) (sym e) w in
+      let sp : List Slot = p .lower ++ (p .state ∷ p .upper) in
+      let sq : List Slot = q .lower ++ (q .state ∷ q .upper) in
+      let f : Fits p = fits p w in
+      let g : Fits q = fits q w′ in
+      let u : (q .before ≡ p .before) × (group (q .cls) sq ≡ group (p .cls) sp) × (q .after ≡ p .after) =
+      span-unique (start row p / row) (q .before) (group (q .cls) sq) (q .after) (p .before) (group (p .cls) sp) (p .after) e
+      (subst (λ n. InRows (n / row) (q .before) (group (q .cls) sq)) s (start-row q w′)) (start-row p w) in
+      let b : q .before ≡ p .before = u .0 in
+      let k : group (q .cls) sq ≡ group (p .cls) sp = u .1 in
+      let a : q .after ≡ p .after = u .2 in
+      let c : q .cls ≡ p .cls = cc in
+      let l : sq ≡ sp = cc in
+      let m : slotBytes (q .cls) ≡ slotBytes (p .cls) = ap slotBytes c in
+      let n : slotNumber q ≡ slotNumber p =
+      same-slot (p .cls) (slotNumber q) (slotNumber p) (disp (q .state)) (disp (p .state))
+      (omega (arith, disp-inside (q .cls) (q .state) (g .class) (g .state), m))
+      (omega (arith, disp-inside (p .cls) (p .state) (f .class) (f .state)))
+      (omega (arith, s, ap (λ X. row * rows row X) b, ap (λ z. slotNumber q * z) m)) in
+      let v : (q .lower ≡ p .lower) × (q .state ≡ p .state) × (q .upper ≡ p .upper) =
+      split-unique (q .lower) (q .upper) (p .lower) (p .upper) (q .state) (p .state) l n in
+      same-placed b c (v .0) (v .1) (v .2) a
+
+  -- a granted slot is found by its start
+  pub lookup-start : (p : Place) → T (wellFormed (poolOf p)) → T (granted (p .state)) → lookup row (poolOf p) (start row p) ≡ some p
+  unfolding lookup
+  lookup-start p w g = go (lookup row (poolOf p) (start row p)) refl
+    where
+      hit : Place → Bool
+      hit q = eqb (start row q) (start row p)
+
+      go : (r : Option Place) → lookup row (poolOf p) (start row p) ≡ r → r ≡ some p
+      go none e =
+          absurd (places-in (λ q. T (hit q) → ⊥) p g (find-none hit (places (poolOf p)) e) (true-T (hit p) (eq-eqb (start row p) (start row p) refl)))
+      go (some q) e =
+          let f : Of (poolOf p) q × T (hit q) = find-some (Of (poolOf p)) hit (places (poolOf p)) q e (places-of (poolOf p)) in
+          ap some (place-unique p q w (f .0 .0) (eqb→eq (start row q) (start row p) (f .1)))
+
+  -- what is found is a granted slot of the pool with that start
+  pub lookup-found : (P : Pool) (o : ℕ) (p : Place) → lookup row P o ≡ some p → (poolOf p ≡ P) × T (granted (p .state)) × (start row p ≡ o)
+  unfolding lookup
+  lookup-found P o p e =
+      let f : Of P p × T (eqb (start row p) o) = find-some (Of P) (λ q. eqb (start row q) o) (places P) p e (places-of P) in
+      (f .0 .0, f .0 .1, eqb→eq (start row p) o (f .1))
