@@ -275,3 +275,23 @@ module _ {ℓ} {A : Type ℓ} where
       let u = join-length-of f n ok h xs (and-right (ok x) (every ok xs) t) in
       rw (length-append (f x) (join f xs), h x (and-left (ok x) (every ok xs) t), u, mul-suc)
       (add-comm n (n * length xs))
+
+-- ---- writes over and into what is there
+
+module _ {ℓ} {A : Type ℓ} where
+  -- a write over an earlier one of no more elements
+  pub put-over : (p : ℕ) (vs ws xs : List A) → length ws ≤ length vs → put p vs (put p ws xs) ≡ put p vs xs
+  put-over p vs ws [] h = refl
+  put-over zero vs [] (x ∷ xs) h = refl
+  put-over zero [] (w ∷ ws) (x ∷ xs) h = absurd (omega arith)
+  put-over zero (v ∷ vs) (w ∷ ws) (x ∷ xs) h = ap (λ (r : List A). v ∷ r) (put-over zero vs ws xs (omega arith))
+  put-over (suc p) vs ws (x ∷ xs) h = ap (λ (r : List A). x ∷ r) (put-over p vs ws xs h)
+
+  -- a write into the middle one of three lists
+  pub put-middle : (p q : ℕ) (vs front mid back : List A) → length front ≡ p → q + length vs ≤ length mid
+      → put (p + q) vs (front ++ (mid ++ back)) ≡ front ++ (put q vs mid ++ back)
+  put-middle p q vs front mid back e h = rw (← e, put-back q vs front (mid ++ back), put-front q vs mid back h)
+
+  -- a part of k elements with others in its place
+  pub put-part : (p k : ℕ) (vs xs : List A) → length vs ≡ k → p + k ≤ length xs → take p xs ++ (vs ++ drop k (drop p xs)) ≡ put p vs xs
+  put-part p k vs xs e h = rw (drop-drop, ← e) (sym (put-split p vs xs (omega arith)))

@@ -3,3 +3,4 @@ pub mod Tables
 pub mod Rooms
 pub mod Fresh
 pub mod Lookup
+pub mod Reserve

@@ -90,6 +90,20 @@ grantIn c n s =
     let i = first isReady ss in
     record { before = s .before; cls = c; lower = take i ss; state = grantSlot c n (getD ss i Fresh); upper = drop (suc i) ss; after = s .after }
 
+-- the first site, or else the second
+abbrev pub siteOr : Option Site → Option Site → Option Site
+siteOr none t = t
+siteOr (some s) t = some s
+
+-- the place that a grant takes at a site, in the pool that it makes
+abbrev pub reserveIn : ℕ → ℕ → Option Site → Option Place
+reserveIn c n none = none
+reserveIn c n (some s) = some (grantIn c n s)
+
+-- "The slot becomes waiting"
+abbrev pub vacant : Place → Slot
+vacant p = Idle false (count (p .state)) (disp (p .state))
+
 -- a call on the block at an offset: "no such block: the offset is neither a live start nor covered by 5", "already free: it is the
 -- last start of a granted, not live slot of a present group"
 abbrev pub onBlock : {A : Type 0} → A → A → Pool → (Place → Plan A) → Option Place → Plan A
@@ -122,18 +136,10 @@ module _ (row : ℕ) where
       let next : Option Site = runFrom (X ++ (s ∷ [])) c Y in
       choose (run (rowsOf row c) (s ∷ Y)) (some here) next
 
-  abbrev pub siteOr : Option Site → Option Site → Option Site
-  siteOr none t = t
-  siteOr (some s) t = some s
-
   unfoldable pub site : Pool → ℕ → Option Site
   site P c = let new = runFrom [] c P in siteOr (openFrom [] c P) new
 
-  -- the place that a grant of n bytes takes, in the pool that it makes
-  abbrev pub reserveIn : ℕ → ℕ → Option Site → Option Place
-  reserveIn c n none = none
-  reserveIn c n (some s) = some (grantIn c n s)
-
+  -- the place that a grant of n bytes takes
   unfoldable pub reserve : Pool → ℕ → Option Place
   unfolding site grantIn
   reserve P n = reserveIn (classOf n) n (site P (classOf n))
@@ -162,9 +168,6 @@ module _ (row : ℕ) where
 
   -- "The slot becomes waiting and its s owned bytes zero. If no slot of the group is live, the group goes, all its rows become
   -- zero and free."
-  abbrev pub vacant : Place → Slot
-  vacant p = Idle false (count (p .state)) (disp (p .state))
-
   unfoldable pub releaseAt : Place → Plan Release
   releaseAt p =
       let c = p .cls in

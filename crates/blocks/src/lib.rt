@@ -1,0 +1,149 @@
+// Header and guard of a block, on the part of the arena that its slot owns.
+//
+// The owned bytes of a slot of class c: 16d bytes before the header, 4 of header, n requested, and the reserved ones, which end in
+// the guard.
+ghost use mathlib.Core.Path.{_≡_};
+ghost use mathlib.Core.List.{_++_};
+ghost use Prim.Native.Nat.{_+_, _*_, _-_, _≤_, _<_, min};
+ghost use lib.ListN.{length};
+ghost use Rattle.mem.specs.Bytes.{zeros, put, part};
+ghost use Rattle.classes.specs.Classes.{slotBytes};
+ghost use Rattle.model.specs.Blocks.{reserved, header, guard, spare, frame, damageIn};
+ghost use Rattle.blocks.specs.Damage.{damageNumber};
+
+// What is found of a block.
+pub enum Damage {
+    Intact,
+    HeaderDamaged,
+    Overrun,
+}
+
+// The bytes between the requested bytes and the block's end.
+fn reserved(c: usize, d: usize, n: usize) -> usize
+    requires { ⌜ (c < 48) × (16 * d + n + 4 ≤ slotBytes c) ⌝ }
+    ensures { λ r. ⌜ r ≡ reserved c d n ⌝ }
+    ensures small { λ r. ⌜ r < 131072 ⌝ }
+{
+    16 * classes::units(c) - 4 - 16 * d - n
+}
+
+fn header(c: usize, i: usize, d: usize, n: usize) -> [u8; 4]
+    requires { ⌜ (c < 48) × (16 * d + n + 4 ≤ slotBytes c) ⌝ }
+    requires { ⌜ i < 32 ⌝ }
+    ensures { λ r. ⌜ r ≡ header c i d n ⌝ }
+{
+    let spare = reserved(c, d, n);
+    let five = if spare < 5 { spare } else { 5 };
+    let place = i * classes::units(c) + d;
+    [
+        0,
+        (i + 32 * five) as u8,
+        (place % 256) as u8,
+        (place / 256 % 256) as u8,
+    ]
+}
+
+// The guard of five reserved bytes or more.
+fn guard(r: usize) -> [u8; 5]
+    requires { ⌜ (5 ≤ r) × (r < 131072) ⌝ }
+    ensures { λ g. ⌜ g ≡ guard r ⌝ }
+{
+    [
+        0,
+        (r % 256) as u8,
+        (r / 256 % 256) as u8,
+        (r / 65536 % 256) as u8,
+        (r / 16777216 % 256) as u8,
+    ]
+}
+
+// Whether the header and the guard of a block are those due.
+fn inspect(slot: &[u8], c: usize, i: usize, d: usize, n: usize) -> Damage
+    requires { ⌜ (c < 48) × (16 * d + n + 4 ≤ slotBytes c) ⌝ }
+    requires { ⌜ (i < 32) × (length (now slot) ≡ slotBytes c) ⌝ }
+    ensures { λ r. ⌜ damageNumber r ≡ damageIn c i d n (now (slot .entry)) ⌝ }
+{
+    let at = 16 * d;
+    let h = header(c, i, d, n);
+    if !mem::same_bytes(&slot[at..at + 4], &h) {
+        return Damage::HeaderDamaged;
+    }
+    let r = reserved(c, d, n);
+    if r < 5 {
+        return Damage::Intact;
+    }
+    let g = guard(r);
+    let end = slot.len();
+    if !mem::same_bytes(&slot[end - 5..end], &g) {
+        return Damage::Overrun;
+    }
+    Damage::Intact
+}
+
+// Writes the reserved bytes, which stand last in the slot.
+fn write_spare(slot: &mut [u8], r: usize)
+    requires { ⌜ (r ≤ length (now slot)) × (r < 131072) ⌝ }
+    ensures { λ _. ⌜ now (slot .exit) ≡ put (length (now (slot .entry)) - r) (spare r) (now (slot .entry)) ⌝ }
+{
+    let end = slot.len();
+    mem::clear(slot, end - r, end);
+    if r < 5 {
+        return;
+    }
+    let g = guard(r);
+    mem::copy_in(slot, end - 5, &g);
+}
+
+// Lays a block out in its slot: zeros, then header and guard (mallocng's enframe).
+fn enframe(slot: &mut [u8], c: usize, i: usize, d: usize, n: usize)
+    requires { ⌜ (c < 48) × (16 * d + n + 4 ≤ slotBytes c) ⌝ }
+    requires { ⌜ (i < 32) × (length (now slot) ≡ slotBytes c) ⌝ }
+    ensures { λ _. ⌜ now (slot .exit) ≡ frame c i d n ⌝ }
+{
+    mem::fill_zero(slot);
+    let h = header(c, i, d, n);
+    mem::copy_in(slot, 16 * d, &h);
+    write_spare(slot, reserved(c, d, n));
+}
+
+// Lays a block of another size out at the same start: the first bytes stay, as many as the lesser of both sizes.
+fn reframe(slot: &mut [u8], c: usize, i: usize, d: usize, kept: usize, n: usize)
+    requires { ⌜ (c < 48) × (16 * d + n + 4 ≤ slotBytes c) ⌝ }
+    requires { ⌜ (i < 32) × (length (now slot) ≡ slotBytes c) ⌝ }
+    requires { ⌜ kept ≤ n ⌝ }
+    ensures { λ _. ⌜ now (slot .exit) ≡ put (16 * d + 4 + kept) (zeros (n - kept) ++ spare (reserved c d n)) (put (16 * d) (header c i d n) (now (slot .entry))) ⌝ }
+{
+    let h = header(c, i, d, n);
+    mem::copy_in(slot, 16 * d, &h);
+    mem::clear(slot, 16 * d + 4 + kept, 16 * d + 4 + n);
+    write_spare(slot, reserved(c, d, n));
+}
+
+// The same over the whole arena, with the place of the slot's first owned byte: the slot's part is handed on.
+pub fn inspect_at(arena: &[u8], at: usize, c: usize, i: usize, d: usize, n: usize) -> Damage
+    requires { ⌜ (c < 48) × (16 * d + n + 4 ≤ slotBytes c) ⌝ }
+    requires { ⌜ (i < 32) × (at + slotBytes c ≤ length (now arena)) ⌝ }
+    ensures { λ r. ⌜ damageNumber r ≡ damageIn c i d n (part at (slotBytes c) (now (arena .entry))) ⌝ }
+{
+    let end = at + 16 * classes::units(c);
+    inspect(&arena[at..end], c, i, d, n)
+}
+
+pub fn enframe_at(arena: &mut [u8], at: usize, c: usize, i: usize, d: usize, n: usize)
+    requires { ⌜ (c < 48) × (16 * d + n + 4 ≤ slotBytes c) ⌝ }
+    requires { ⌜ (i < 32) × (at + slotBytes c ≤ length (now arena)) ⌝ }
+    ensures { λ _. ⌜ now (arena .exit) ≡ put at (frame c i d n) (now (arena .entry)) ⌝ }
+{
+    let end = at + 16 * classes::units(c);
+    enframe(&mut arena[at..end], c, i, d, n);
+}
+
+pub fn reframe_at(arena: &mut [u8], at: usize, c: usize, i: usize, d: usize, kept: usize, n: usize)
+    requires { ⌜ (c < 48) × (16 * d + n + 4 ≤ slotBytes c) ⌝ }
+    requires { ⌜ (i < 32) × (at + slotBytes c ≤ length (now arena)) ⌝ }
+    requires { ⌜ kept ≤ n ⌝ }
+    ensures { λ _. ⌜ now (arena .exit) ≡ put (at + (16 * d + 4 + kept)) (zeros (n - kept) ++ spare (reserved c d n)) (put (at + 16 * d) (header c i d n) (now (arena .entry))) ⌝ }
+{
+    let end = at + 16 * classes::units(c);
+    reframe(&mut arena[at..end], c, i, d, kept, n);
+}
