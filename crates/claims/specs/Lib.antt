@@ -1,2 +1,6 @@
 pub mod Tables
 pub mod Bench
+pub mod Demand1
+pub mod Demand2
+pub mod Demand3
+pub mod History

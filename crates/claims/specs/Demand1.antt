@@ -1,0 +1,129 @@
+-- Demand 1: "Any arena bytes, table bytes, offset and size may be given. Every call ends with an answer of document 01's table. A
+-- refusal names its reason, in the fixed order, and changes no byte of arena or tables."
+use Prim.Native.Nat.{ℕ, _≤_}
+use mathlib.Core.Path.{_≡_}
+use mathlib.Core.Bool.{Bool, not}
+use mathlib.Core.Logic.{_⊎_}
+use mathlib.Core.List.{List, [], _∷_, _++_}
+use lib.Dec.{T}
+use lib.ListN.{length}
+use Rattle.mem.specs.Lists.{every}
+use Rattle.classes.specs.Classes as classes
+use Rattle.classes.specs.Classes.{classOf, rowsOf}
+use Rattle.model.specs.declared.Slot.{Slot}
+use Rattle.model.specs.State.{Pool, Place, group, isLive, granted, disp, size, poolOf, slotNumber, start}
+use Rattle.model.specs.Blocks.{headerRight, guardRight, ownedBytes}
+use Rattle.model.specs.Plans.{Call, setsUp, grants, releases, resizes, measures, reports, inPlace, freshPool}
+use Rattle.model.specs.Tables.{sound, view}
+use Rattle.model.specs.Calls.{call, setUpRight}
+
+-- the table of numbers but 0, done
+pub data Reason : Type 0 where
+  badArena unsound tooLarge noSuchBlock alreadyFree headerDamaged overrun noRoom : Reason
+
+abbrev pub numberOf : Reason → ℕ
+numberOf badArena = 1
+numberOf unsound = 2
+numberOf tooLarge = 3
+numberOf noSuchBlock = 4
+numberOf alreadyFree = 5
+numberOf headerDamaged = 6
+numberOf overrun = 7
+numberOf noRoom = 8
+
+-- "They are tested in this order, each where it applies: grant 2, 3, 8; release and measure 2, 4, 5, 6, 7; resize all of 2 to 8;
+-- report 2."
+abbrev pub order : Call → List Reason
+order setsUp = badArena ∷ []
+order (grants n) = unsound ∷ tooLarge ∷ noRoom ∷ []
+order (releases o) = unsound ∷ noSuchBlock ∷ alreadyFree ∷ headerDamaged ∷ overrun ∷ []
+order (resizes o n) = unsound ∷ tooLarge ∷ noSuchBlock ∷ alreadyFree ∷ headerDamaged ∷ overrun ∷ noRoom ∷ []
+order (measures o) = unsound ∷ noSuchBlock ∷ alreadyFree ∷ headerDamaged ∷ overrun ∷ []
+order reports = unsound ∷ []
+
+-- what a call names
+abbrev pub sizeIn : Call → ℕ
+sizeIn setsUp = 0
+sizeIn (grants n) = n
+sizeIn (releases o) = 0
+sizeIn (resizes o n) = n
+sizeIn (measures o) = 0
+sizeIn reports = 0
+
+abbrev pub offsetIn : Call → ℕ
+offsetIn setsUp = 0
+offsetIn (grants n) = 0
+offsetIn (releases o) = o
+offsetIn (resizes o n) = o
+offsetIn (measures o) = o
+offsetIn reports = 0
+
+-- k is the number of the first reason of a list that is due, or 0 if none is
+abbrev pub FirstDue : (Reason → Type 0) → List Reason → ℕ → Type 0
+FirstDue Due [] k = k ≡ 0
+FirstDue Due (r ∷ rs) k = ((k ≡ numberOf r) × Due r) ⊎ ((Due r → ⊥) × FirstDue Due rs k)
+
+-- "With a refusal the value is 0 (from report, six zeros)"
+abbrev pub refusedValues : Call → List ℕ
+refusedValues setsUp = 0 ∷ []
+refusedValues (grants n) = 0 ∷ []
+refusedValues (releases o) = 0 ∷ []
+refusedValues (resizes o n) = 0 ∷ []
+refusedValues (measures o) = 0 ∷ []
+refusedValues reports = 0 ∷ 0 ∷ 0 ∷ 0 ∷ 0 ∷ 0 ∷ []
+
+module _ (row : ℕ) where
+  -- a granted slot of a pool, and the one whose last start an offset is
+  pub record Slotted (P : Pool) (p : Place) : Type 0 where
+    pub pool : poolOf p ≡ P
+    pub granted-once : T (granted (p .state))
+
+  pub record StartsAt (P : Pool) (o : ℕ) (p : Place) : Type 0 where
+    pub slotted : Slotted P p
+    pub starts : start row p ≡ o
+
+  -- "a live start": a live slot of a group of the pool, and the start by the rule
+  pub record LiveAt (P : Pool) (o : ℕ) (p : Place) : Type 0 where
+    pub here : StartsAt P o p
+    pub live : T (isLive (p .state))
+
+  -- the 4 bytes before a block's start, and its guard, are those due
+  abbrev pub headerDue : List ℕ → Place → Bool
+  headerDue a p = headerRight (p .cls) (slotNumber p) (disp (p .state)) (size (p .state)) (ownedBytes row a p)
+
+  abbrev pub guardDue : List ℕ → Place → Bool
+  guardDue a p = guardRight (p .cls) (disp (p .state)) (size (p .state)) (ownedBytes row a p)
+
+  -- "neither a free slot of its class nor a long enough run of free rows exists"
+  pub record NoPlace (P : Pool) (n : ℕ) : Type 0 where
+    pub all-live : (X Y : Pool) (ss : List Slot) → P ≡ X ++ (group (classOf n) ss ∷ Y) → T (every isLive ss)
+    pub no-run : (X Y : Pool) → P ≡ X ++ (freshPool (rowsOf row (classOf n)) ++ Y) → ⊥
+
+  -- no room: for a resize, of a block that is not changed in place
+  abbrev pub NoRoomFor : Pool → Call → Type 0
+  NoRoomFor P setsUp = ⊥
+  NoRoomFor P (grants n) = NoPlace P n
+  NoRoomFor P (releases o) = ⊥
+  NoRoomFor P (resizes o n) = ((p : Place) → LiveAt P o p → T (not (inPlace p n))) × NoPlace P n
+  NoRoomFor P (measures o) = ⊥
+  NoRoomFor P reports = ⊥
+
+  -- "Given exactly when", each by itself
+  abbrev pub Due : List ℕ → List ℕ → Call → Reason → Type 0
+  Due a t c badArena = T (not (setUpRight row a t))
+  Due a t c unsound = T (not (sound row (length a) t))
+  Due a t c tooLarge = classes.tooLarge ≤ sizeIn c
+  Due a t c noSuchBlock = (p : Place) → StartsAt (view row t) (offsetIn c) p → ⊥
+  Due a t c alreadyFree = (p : Place) × StartsAt (view row t) (offsetIn c) p × T (not (isLive (p .state)))
+  Due a t c headerDamaged = (p : Place) × LiveAt (view row t) (offsetIn c) p × T (not (headerDue a p))
+  Due a t c overrun = (p : Place) × LiveAt (view row t) (offsetIn c) p × T (headerDue a p) × T (not (guardDue a p))
+  Due a t c noRoom = NoRoomFor (view row t) c
+
+  -- DEMAND 1, of any bytes and any call
+  pub record Answered (a t : List ℕ) (c : Call) : Type 0 where
+    pub number : FirstDue (Due a t c) (order c) (call row a t c .answer .number)
+    pub refused : (call row a t c .answer .number ≡ 0 → ⊥)
+        → (call row a t c .arena ≡ a) × (call row a t c .room ≡ t) × (call row a t c .answer .values ≡ refusedValues c)
+
+  abbrev pub Demand1 : Type 0
+  Demand1 = (a t : List ℕ) (c : Call) → Answered a t c

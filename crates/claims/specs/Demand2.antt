@@ -1,0 +1,101 @@
+-- Demand 2: "Every call does what document 01 says after mallocng: class, slot, start, header, guard. With sound tables, release
+-- accepts an offset exactly if it starts a live block whose header and guard are intact. A grant is refused exactly if the size is
+-- 131,052 or more, the tables are unsound, or neither a free slot of its class nor a long enough run of free rows exists. Live blocks
+-- never share a byte."
+use Prim.Native.Nat.{ℕ, suc, _+_, _*_, _≤_, _<_}
+use mathlib.Core.Path.{_≡_}
+use mathlib.Core.Bool.{Bool, not}
+use mathlib.Core.Logic.{_⊎_, _↔_}
+use mathlib.Core.List.{List, [], _∷_, _++_}
+use lib.Dec.{T}
+use lib.ListN.{length, replicate}
+use Rattle.mem.specs.Lists.{any, every}
+use Rattle.mem.specs.Bytes.{put}
+use Rattle.classes.specs.Classes.{slotBytes, classOf, slotsOf, rowsOf, tooLarge}
+use Rattle.model.specs.declared.Slot.{Slot}
+use Rattle.model.specs.declared.Slot.the-variants.{Fresh}
+use Rattle.model.specs.State.{Pool, Place, group, isLive, isReady, disp, size, wellFormed, poolOf, slotNumber, rows, owned, start}
+use Rattle.model.specs.Blocks.{frame}
+use Rattle.model.specs.Plans.{Call, grants, releases, measures, refill, grantSlot, freshPool}
+use Rattle.model.specs.Tables.{sound, view}
+use Rattle.model.specs.Calls.{call}
+use Rattle.claims.specs.Demand1.{LiveAt, headerDue, guardDue, NoPlace}
+
+-- every slot of the groups of class c in a pool is live
+abbrev pub AllLive : Pool → ℕ → Type 0
+AllLive P c = (X Y : Pool) (ss : List Slot) → P ≡ X ++ (group c ss ∷ Y) → T (every isLive ss)
+
+module _ (row : ℕ) where
+  -- a live block of a pool at an offset, whose 4 header bytes and guard bytes are those due
+  pub record Intact (a : List ℕ) (P : Pool) (o : ℕ) (p : Place) : Type 0 where
+    pub live : LiveAt row P o p
+    pub header : T (headerDue row a p)
+    pub guard : T (guardDue row a p)
+
+  -- "With sound tables, release accepts an offset exactly if it starts a live block whose header and guard are intact."
+  abbrev pub ReleasesExactly : Type 0
+  ReleasesExactly = (a t : List ℕ) (o : ℕ) → T (sound row (length a) t)
+      → (call row a t (releases o) .answer .number ≡ 0) ↔ ((p : Place) × Intact a (view row t) o p)
+
+  -- measure likewise, and "Measure gives n."
+  abbrev pub MeasuresExactly : Type 0
+  MeasuresExactly = (a t : List ℕ) (o : ℕ) → T (sound row (length a) t)
+      → ((call row a t (measures o) .answer .number ≡ 0) ↔ ((p : Place) × Intact a (view row t) o p))
+      × ((p : Place) → Intact a (view row t) o p → call row a t (measures o) .answer .values ≡ size (p .state) ∷ [])
+
+  -- "A grant is refused exactly if .."
+  abbrev pub GrantsExactly : Type 0
+  GrantsExactly = (a t : List ℕ) (n : ℕ)
+      → (call row a t (grants n) .answer .number ≡ 0 → ⊥) ↔ ((tooLarge ≤ n) ⊎ (T (not (sound row (length a) t)) ⊎ NoPlace row (view row t) n))
+
+  -- the group that serves: "Of the groups of n's class with a slot not live, take the one with the lowest first row", or, "If there is
+  -- no such group, make one at the lowest run of R free rows, all slots ready"; between X and Y, with slots ss
+  pub record Opened (P : Pool) (c : ℕ) (X : Pool) (ss : List Slot) (Y : Pool) : Type 0 where
+    pub there : P ≡ X ++ (group c ss ∷ Y)
+    pub not-live : T (any (λ x. not (isLive x)) ss)
+    pub lowest : AllLive X c
+
+  pub record Made (P : Pool) (c : ℕ) (X : Pool) (ss : List Slot) (Y : Pool) : Type 0 where
+    pub none : AllLive P c
+    pub there : P ≡ X ++ (freshPool (rowsOf row c) ++ Y)
+    pub fresh : ss ≡ replicate (slotsOf c) Fresh
+    pub lowest : (X′ Y′ : Pool) → P ≡ X′ ++ (freshPool (rowsOf row c) ++ Y′) → rows row X ≤ rows row X′
+
+  -- a granted block is where and what document 01 says
+  pub record Granted (a t : List ℕ) (n : ℕ) (p : Place) : Type 0 where
+    pub slots : List Slot
+    pub served : Opened (view row t) (classOf n) (p .before) slots (p .after) ⊎ Made (view row t) (classOf n) (p .before) slots (p .after)
+    pub old : Slot
+    -- "If its ready set is empty, all waiting slots become ready first. Take its lowest ready slot."
+    pub refilled : refill slots ≡ p .lower ++ (old ∷ p .upper)
+    pub ready : T (isReady old)
+    pub lowest : T (every (λ x. not (isReady x)) (p .lower))
+    -- displacement and count, class, requested size, start
+    pub state : p .state ≡ grantSlot (classOf n) n old
+    pub cls : p .cls ≡ classOf n
+    pub bytes : size (p .state) ≡ n
+    pub value : call row a t (grants n) .answer .values ≡ start row p ∷ []
+    -- the tables, and the slot's bytes with header and guard; "no other arena byte changes"
+    pub pool : view row (call row a t (grants n) .room) ≡ poolOf p
+    pub arena : call row a t (grants n) .arena ≡ put (owned row p) (frame (p .cls) (slotNumber p) (disp (p .state)) n) a
+
+  abbrev pub GrantsAsSaid : Type 0
+  GrantsAsSaid = (a t : List ℕ) (n : ℕ) → call row a t (grants n) .answer .number ≡ 0 → (p : Place) × Granted a t n p
+
+  -- "Live blocks never share a byte": byte i is in the header, the requested bytes or the reserved bytes of a block
+  pub record InBlock (p : Place) (i : ℕ) : Type 0 where
+    pub from : start row p ≤ i + 4
+    pub to : i < owned row p + slotBytes (p .cls)
+
+  pub record Apart (P : Pool) : Type 0 where
+    pub shared : (p q : Place) (i : ℕ) → poolOf p ≡ P → poolOf q ≡ P → T (isLive (p .state)) → T (isLive (q .state)) → InBlock p i → InBlock q i → p ≡ q
+    pub inside : (p : Place) (i : ℕ) → poolOf p ≡ P → T (isLive (p .state)) → InBlock p i → i < row * rows row P
+    -- a block has the bytes asked for
+    pub whole : (p : Place) (i : ℕ) → poolOf p ≡ P → T (isLive (p .state)) → start row p ≤ i → i < start row p + size (p .state) → InBlock p i
+
+  abbrev pub NeverShared : Type 0
+  NeverShared = (n : ℕ) (t : List ℕ) → T (sound row n t) → Apart (view row t)
+
+  -- "Every accepted call leaves sound tables." A set up makes them sound, whatever they were.
+  abbrev pub LeavesSound : Type 0
+  LeavesSound = (a t : List ℕ) (c : Call) → call row a t c .answer .number ≡ 0 → T (sound row (length (call row a t c .arena)) (call row a t c .room))

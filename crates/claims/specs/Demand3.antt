@@ -1,0 +1,118 @@
+-- Demand 3: "Packet contents steer nothing: one theorem over every list of calls, run twice with different engine stores into
+-- requested bytes of live blocks; both runs give the model's answers, tables and totals, the same bytes outside live requested
+-- bytes, and gained bytes are zero. Refused calls and every later call are in it."
+use Prim.Native.Nat.{ℕ, _+_, _/_, _≤_, _<_, min}
+use mathlib.Core.Path.{_≡_}
+use mathlib.Core.Bool.{Bool, _&&_, not}
+use mathlib.Core.Option.{Option, none, some}
+use mathlib.Core.List.{List, [], _∷_, map}
+use lib.Dec.{T, leb, ltb}
+use lib.ListN.{length, getD, set}
+use Rattle.mem.specs.Lists.{any}
+use Rattle.model.specs.State.{Pool, Place, isLive, size, places, start}
+use Rattle.model.specs.Answers.{Answer}
+use Rattle.model.specs.Plans.{Call, setsUp, grants, releases, resizes, measures, reports, plan, lookup, totals, freshPool}
+use Rattle.model.specs.Tables.{encode, view}
+use Rattle.model.specs.Calls.{call, setUp, setUpRight}
+
+-- THE MODEL: "Every call steps on that state and its arguments alone". It is fed a number of rows and calls.
+pub record Modelled : Type 0 where
+  pub answers : List Answer
+  pub pool : Pool
+
+-- A turn of a run: the arena as the engine leaves it, and then a call.
+pub record Turn : Type 0 where
+  pub arena : List ℕ
+  pub asks : Call
+
+-- What a run leaves.
+pub record Ended : Type 0 where
+  pub answers : List Answer
+  pub arena : List ℕ
+  pub room : List ℕ
+
+module _ (row : ℕ) where
+  unfoldable pub model : Pool → List Call → Modelled
+  model P [] = record { answers = []; pool = P }
+  model P (c ∷ cs) =
+      let p = plan row P c in
+      let m = model (p .pool) cs in
+      record { answers = p .answer ∷ m .answers; pool = m .pool }
+
+  -- "Its requested bytes lie from its start on, as many as the n last accepted for it."
+  abbrev pub covers : ℕ → Place → Bool
+  covers i p = isLive (p .state) && leb (start row p) i && ltb i (start row p + size (p .state))
+
+  -- byte i is a requested byte of a live block
+  unfoldable pub requested : Pool → ℕ → Bool
+  requested P i = any (covers i) (places P)
+
+  -- two arenas of one length, with the same bytes outside the requested bytes of live blocks
+  pub record SameOutside (P : Pool) (a b : List ℕ) : Type 0 where
+    pub long : length b ≡ length a
+    pub bytes : (i : ℕ) → T (not (requested P i)) → getD b i 0 ≡ getD a i 0
+
+  -- a run: each call is made over the arena as the engine left it and the room as the last call left it
+  unfoldable pub ran : List ℕ → List ℕ → List Turn → Ended
+  ran a t [] = record { answers = []; arena = a; room = t }
+  ran a t (u ∷ us) =
+      let r = call row (u .arena) t (u .asks) in
+      let e = ran (r .arena) (r .room) us in
+      record { answers = r .answer ∷ e .answers; arena = e .arena; room = e .room }
+
+  -- "Nothing but the calls and the engine's stores writes": before each call the engine stored into requested bytes of blocks
+  -- then live, and nowhere else
+  unfoldable pub EngineOnly : Pool → List ℕ → List ℕ → List Turn → Type 0
+  EngineOnly P a t [] = Unit {0}
+  EngineOnly P a t (u ∷ us) =
+      SameOutside P a (u .arena)
+      × EngineOnly (plan row P (u .asks) .pool) (call row (u .arena) t (u .asks) .arena) (call row (u .arena) t (u .asks) .room) us
+
+  -- the bytes that a block gains in an accepted call that gives the value v: a moved block gains those past its old size
+  abbrev pub sizeAt : Option Place → ℕ
+  sizeAt none = 0
+  sizeAt (some p) = size (p .state)
+
+  abbrev pub Gains : Pool → Call → ℕ → ℕ → Type 0
+  Gains P setsUp v i = ⊥
+  Gains P (grants n) v i = (v ≤ i) × (i < v + n)
+  Gains P (releases o) v i = ⊥
+  Gains P (resizes o n) v i = (v + min (sizeAt (lookup row P o)) n ≤ i) × (i < v + n)
+  Gains P (measures o) v i = ⊥
+  Gains P reports v i = ⊥
+
+  -- they are zero when the call ends
+  unfoldable pub Cleared : Pool → Call → Answer → List ℕ → Type 0
+  Cleared P c r a = r .number ≡ 0 → (i : ℕ) → Gains P c (getD (r .values) 0 0) i → getD a i 0 ≡ 0
+
+  unfoldable pub AllCleared : Pool → List ℕ → List ℕ → List Turn → Type 0
+  unfolding Cleared
+  AllCleared P a t [] = Unit {0}
+  AllCleared P a t (u ∷ us) =
+      Cleared P (u .asks) (call row (u .arena) t (u .asks) .answer) (call row (u .arena) t (u .asks) .arena)
+      × AllCleared (plan row P (u .asks) .pool) (call row (u .arena) t (u .asks) .arena) (call row (u .arena) t (u .asks) .room) us
+
+  -- what one run of the calls from a pool P shows
+  pub record AsModelled (P : Pool) (a t : List ℕ) (us : List Turn) : Type 0 where
+    pub answers : ran a t us .answers ≡ model P (map (λ u. u .asks) us) .answers
+    pub tables : ran a t us .room ≡ encode row (model P (map (λ u. u .asks) us) .pool)
+    pub counted : totals row (view row (ran a t us .room)) ≡ totals row (model P (map (λ u. u .asks) us) .pool)
+    pub cleared : AllCleared P a t us
+
+  -- DEMAND 3. "A fresh pool is what an accepted set up leaves": over any arena and room bytes of the right lengths, different in
+  -- each run. The same list of calls, and any stores of the engine, different in each.
+  abbrev pub SteersNothing : Type 0
+  SteersNothing = (a₁ t₁ a₂ t₂ : List ℕ) (us₁ us₂ : List Turn)
+      → T (setUpRight row a₁ t₁) → T (setUpRight row a₂ t₂) → length a₁ ≡ length a₂
+      → map (λ u. u .asks) us₁ ≡ map (λ u. u .asks) us₂
+      → EngineOnly (freshPool (length a₁ / row)) (setUp row a₁ t₁ .arena) (setUp row a₁ t₁ .room) us₁
+      → EngineOnly (freshPool (length a₂ / row)) (setUp row a₂ t₂ .arena) (setUp row a₂ t₂ .room) us₂
+      → AsModelled (freshPool (length a₁ / row)) (setUp row a₁ t₁ .arena) (setUp row a₁ t₁ .room) us₁
+      × AsModelled (freshPool (length a₂ / row)) (setUp row a₂ t₂ .arena) (setUp row a₂ t₂ .room) us₂
+      × SameOutside (model (freshPool (length a₁ / row)) (map (λ u. u .asks) us₁) .pool)
+      (ran (setUp row a₁ t₁ .arena) (setUp row a₁ t₁ .room) us₁ .arena)
+      (ran (setUp row a₂ t₂ .arena) (setUp row a₂ t₂ .room) us₂ .arena)
+
+  -- the premise admits every store into a requested byte of a live block
+  abbrev pub StoresAdmitted : Type 0
+  StoresAdmitted = (P : Pool) (a : List ℕ) (i v : ℕ) → T (requested P i) → SameOutside P a (set a i v)

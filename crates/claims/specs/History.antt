@@ -1,0 +1,72 @@
+-- The history of report: "Counted from the last set up that was done, with any calls since and the tables always lent as the last call
+-- left them, live blocks equals accepted grants less accepted releases; requested bytes is the sum of the latest sizes of blocks
+-- granted and not released; rows held plus rows free is the arena's rows."
+use Prim.Native.Nat.{ℕ, zero, suc, _+_, _/_}
+use mathlib.Core.Path.{_≡_}
+use mathlib.Core.Bool.{Bool, not}
+use mathlib.Core.List.{List, [], _∷_}
+use lib.Dec.{T, eqb}
+use lib.ListN.{length, getD}
+use Rattle.mem.specs.Lists.{choose, sum}
+use Rattle.model.specs.Answers.{Answer}
+use Rattle.model.specs.Plans.{Call, setsUp, grants, releases, resizes, measures, reports, totals}
+use Rattle.model.specs.Tables.{view}
+use Rattle.model.specs.Calls.{call, setUp, setUpRight}
+
+-- a call over whatever arena bytes
+pub record Asked : Type 0 where
+  pub arena : List ℕ
+  pub asks : Call
+
+-- a block granted and not released: its start and its latest size
+pub record Entry : Type 0 where
+  pub start : ℕ
+  pub size : ℕ
+
+-- what the calls since the last set up that was done have come to: accepted grants and releases, and the blocks
+pub record Ledger : Type 0 where
+  pub granted : ℕ
+  pub released : ℕ
+  pub blocks : List Entry
+
+abbrev pub opening : Ledger
+opening = record { granted = 0; released = 0; blocks = [] }
+
+-- the blocks without the one that starts at an offset
+abbrev pub without : ℕ → List Entry → List Entry
+without o [] = []
+without o (e ∷ es) = let rest : List Entry = e ∷ without o es in choose (eqb (e .start) o) es rest
+
+-- the ledger after an accepted call that gave the value v; a resize is no grant and no release
+abbrev pub entered : Ledger → Call → ℕ → Ledger
+entered l setsUp v = opening
+entered l (grants n) v = record { granted = suc (l .granted); released = l .released; blocks = record { start = v; size = n } ∷ l .blocks }
+entered l (releases o) v = record { granted = l .granted; released = suc (l .released); blocks = without o (l .blocks) }
+entered l (resizes o n) v = record { granted = l .granted; released = l .released; blocks = record { start = v; size = n } ∷ without o (l .blocks) }
+entered l (measures o) v = l
+entered l reports v = l
+
+-- "a refused call" counts nothing
+abbrev pub booked : Ledger → Call → Answer → Ledger
+booked l c r = let e = entered l c (getD (r .values) 0 0) in choose (eqb (r .number) 0) e l
+
+module _ (row : ℕ) where
+  -- the ledger and the tables after calls; the tables are always lent as the last call left them
+  pub record Books : Type 0 where
+    pub ledger : Ledger
+    pub room : List ℕ
+
+  unfoldable pub kept : Ledger → List ℕ → List Asked → Books
+  kept l t [] = record { ledger = l; room = t }
+  kept l t (c ∷ cs) = let r = call row (c .arena) t (c .asks) in kept (booked l (c .asks) (r .answer)) (r .room) cs
+
+  -- the rules, of the totals that the tables count to and the arena's rows
+  pub record Counts (l : Ledger) (t : List ℕ) (n : ℕ) : Type 0 where
+    pub blocks : totals row (view row t) .blocks + l .released ≡ l .granted
+    pub bytes : totals row (view row t) .bytes ≡ sum (λ e. e .size) (l .blocks)
+    pub rows : totals row (view row t) .held + totals row (view row t) .free ≡ n / row
+
+  -- HISTORY: from an accepted set up, for every list of calls over any arena at each
+  abbrev pub History : Type 0
+  History = (a t : List ℕ) (cs : List Asked) → T (setUpRight row a t)
+      → Counts (kept opening (setUp row a t .room) cs .ledger) (kept opening (setUp row a t .room) cs .room) (length a)
