@@ -242,12 +242,16 @@ module _ (row : ℕ) where
   unfolding lookup
   measure P o = onBlock Measure.NoSuchBlock Measure.AlreadyFree P (measureAt P) (lookup P o)
 
+  abbrev pub heldRows : Span → ℕ
+  heldRows free = 0
+  heldRows (group c ss) = rowsOf row c
+
   -- "live blocks, their requested bytes, rows held, rows free, ready slots, waiting slots (the last two over present groups)"
   unfoldable pub totals : Pool → Totals
   totals P = record {
     blocks = sum (slotSum (λ x. bit (isLive x))) P;
     bytes = sum (slotSum size) P;
-    held = rows row P - sum freeRow P;
+    held = sum heldRows P;
     free = sum freeRow P;
     ready = sum (slotSum (λ x. bit (isReady x))) P;
     waiting = sum (slotSum (λ x. bit (isWaiting x))) P;
