@@ -4,3 +4,4 @@ pub mod Rooms
 pub mod Fresh
 pub mod Lookup
 pub mod Reserve
+pub mod Calls

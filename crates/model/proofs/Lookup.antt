@@ -1,14 +1,15 @@
 -- A granted slot is found by its start, and by nothing else.
-use Prim.Native.Nat.{ℕ, zero, suc, _+_, _*_, _-_, _/_, _≤_, _<_}
+use Prim.Native.Nat.{ℕ, zero, suc, _+_, _*_, _-_, _/_, _≤_, _<_, max}
 use mathlib.Core.Path.{_≡_, refl, sym, subst, ap, ap₂, _∙_}
 use mathlib.Core.Bool.{Bool, true, false, _&&_}
+use mathlib.Core.Logic.{_⊎_, inl, inr}
 use mathlib.Core.Option.{Option, none, some}
 use mathlib.Core.List.{List, [], _∷_, _++_, append-assoc, append-nil}
 use native.Mathlib.Nat.{mul-le-mul-left, mul-le-mul-right, mul-add, suc-mul, mul-comm, le-div-iff-mul-le, div-lt-iff-lt-mul, le-trans}
 use native.Mathlib.Omega.{arith}
 use lib.Dec.{T, leb, ltb, eqb, leb→le, ltb→lt, eqb→eq}
 use lib.ListN.{length, length-append}
-use borrow.Author.Tests.{eq-eqb}
+use borrow.Author.Tests.{eq-eqb, leb-true, leb-false}
 use Rattle.mem.specs.Lists.{choose, every, any, find, sum}
 use Rattle.mem.proofs.Tests.{and-left, and-right, every-left, every-right, choose-case, choose-true, T-true, true-T}
 use Rattle.classes.specs.Classes.{slotBytes, slotsOf, rowsOf}
@@ -16,7 +17,7 @@ use Rattle.classes.proofs.Laws.{bytes-least, rows-hold, rows-pos}
 use Rattle.model.specs.declared.Slot.{Slot}
 use Rattle.model.specs.declared.Slot.the-variants.{Fresh, Idle, Live}
 use Rattle.model.specs.State.{Span, Pool, Place, free, group, isLive, granted, disp, size, slotSound, spanSound, wellFormed, poolOf, slotNumber}
-use Rattle.model.specs.State.{slotPlaces, placesFrom, places, rowsIn, rows, base, start}
+use Rattle.model.specs.State.{slotPlaces, placesFrom, places, rowsIn, rows, base, owned, start}
 use Rattle.model.specs.Plans.{lookup}
 use Rattle.model.proofs.Tables.{group-slots}
 use Rattle.model.proofs.Rooms.{rows-append}
@@ -273,3 +274,75 @@ module _ (row : ℕ) (pos : 0 < row) where
   lookup-found P o p e =
       let f : Of P p × T (eqb (start row p) o) = find-some (Of P) (λ q. eqb (start row q) o) (places P) p e (places-of P) in
       (f .0 .0, f .0 .1, eqb→eq (start row p) o (f .1))
+
+-- ---- slots never share a byte
+
+-- byte i is one that a slot owns
+pub record Owns (row : ℕ) (p : Place) (i : ℕ) : Type 0 where
+  pub from : owned row p ≤ i
+  pub to : i < owned row p + slotBytes (p .cls)
+
+one-slot : (s i j x : ℕ) → i * s ≤ x → x < suc i * s → j * s ≤ x → x < suc j * s → i ≡ j
+one-slot s i j x a b c d =
+    let l : i < j → ⊥ = λ h. omega (arith, mul-le-mul-right s h) in
+    let g : j < i → ⊥ = λ h. omega (arith, mul-le-mul-right s h) in
+    omega arith
+
+module _ (row : ℕ) (pos : 0 < row) where
+  -- the row of an owned byte is one of its group's
+  owned-row : (p : Place) (i : ℕ) → T (wellFormed (poolOf p)) → Owns row p i → InRows row pos (i / row) (p .before) (group (p .cls) (p .lower ++ (p .state ∷ p .upper)))
+  owned-row p i w o = record {
+    from = le-div-iff-mul-le pos .1 (omega (arith, o .from, mul-comm row (rows row (p .before))));
+    to = div-lt-iff-lt-mul pos .1
+        (omega (
+          arith,
+          o .to,
+          slot-inside row pos p w,
+          suc-mul (slotNumber p) (slotBytes (p .cls)),
+          mul-comm (rows row (p .before) + rowsOf row (p .cls)) row,
+          mul-add row (rows row (p .before)) (rowsOf row (p .cls)),
+        ));
+  }
+
+  pub owned-unique : (p q : Place) (i : ℕ) → T (wellFormed (poolOf p)) → poolOf q ≡ poolOf p → Owns row p i → Owns row q i → q ≡ p
+  owned-unique p q i w e o o′ =
+      let w′ : T (wellFormed (poolOf q)) = subst (λ P. T (wellFormed P)) (sym e) w in
+      let sp : List Slot = p .lower ++ (p .state ∷ p .upper) in
+      let sq : List Slot = q .lower ++ (q .state ∷ q .upper) in
+      let u : (q .before ≡ p .before) × (group (q .cls) sq ≡ group (p .cls) sp) × (q .after ≡ p .after) =
+      span-unique row pos (i / row) (q .before) (group (q .cls) sq) (q .after) (p .before) (group (p .cls) sp) (p .after) e
+      (owned-row q i w′ o′) (owned-row p i w o) in
+      let b : row * rows row (q .before) ≡ row * rows row (p .before) = ap (λ X. row * rows row X) (u .0) in
+      let k : group (q .cls) sq ≡ group (p .cls) sp = u .1 in
+      let c : q .cls ≡ p .cls = cc in
+      let l : sq ≡ sp = cc in
+      let s : ℕ = slotBytes (p .cls) in
+      let m : slotNumber q * slotBytes (q .cls) ≡ slotNumber q * s = ap (λ z. slotNumber q * slotBytes z) c in
+      let n : slotNumber q ≡ slotNumber p =
+      one-slot s (slotNumber q) (slotNumber p) (i - (row * rows row (p .before) + 12))
+      (omega (arith, o′ .from, b, m)) (omega (arith, o′ .to, b, m, ap slotBytes c, suc-mul (slotNumber q) s))
+      (omega (arith, o .from)) (omega (arith, o .to, suc-mul (slotNumber p) s)) in
+      let v : (q .lower ≡ p .lower) × (q .state ≡ p .state) × (q .upper ≡ p .upper) =
+      split-unique (q .lower) (q .upper) (p .lower) (p .upper) (q .state) (p .state) l n in
+      same-placed (u .0) c (v .0) (v .1) (v .2) (u .2)
+
+  -- the bytes of two slots of one pool are apart
+  pub owned-apart : (p q : Place) → T (wellFormed (poolOf p)) → poolOf q ≡ poolOf p → (q ≡ p → ⊥)
+      → (owned row p + slotBytes (p .cls) ≤ owned row q) ⊎ (owned row q + slotBytes (q .cls) ≤ owned row p)
+  owned-apart p q w e d = go (leb (owned row p + slotBytes (p .cls)) (owned row q)) refl
+    where
+      f : Fits p
+      f = fits p w
+
+      g : Fits q
+      g = fits q (subst (λ P. T (wellFormed P)) (sym e) w)
+
+      go : (b : Bool) → leb (owned row p + slotBytes (p .cls)) (owned row q) ≡ b
+          → (owned row p + slotBytes (p .cls) ≤ owned row q) ⊎ (owned row q + slotBytes (q .cls) ≤ owned row p)
+      go true h = inl (leb-true (owned row p + slotBytes (p .cls)) (owned row q) h)
+      go false h =
+          let l : owned row q < owned row p + slotBytes (p .cls) = leb-false (owned row p + slotBytes (p .cls)) (owned row q) h in
+          let below : owned row p < owned row q + slotBytes (q .cls) → ⊥ =
+          λ m. d (owned-unique p q (max (owned row p) (owned row q)) w e
+          (record { from = omega arith; to = omega (arith, bytes-least (p .cls) (f .class)) }) (record { from = omega arith; to = omega (arith, bytes-least (q .cls) (g .class)) })) in
+          inr (omega arith)

@@ -14,7 +14,7 @@ use borrow.Author.Tests.{eq-eqb}
 use Rattle.mem.specs.Lists.{choose, every, any, first, sum}
 use Rattle.mem.proofs.Tests.{and-left, and-right, and-both, every-left, every-right, every-append, choose-case, choose-true, choose-false, T-true, true-T}
 use Rattle.classes.specs.Classes.{slotBytes, classOf, slotsOf, rowsOf, tooLarge}
-use Rattle.classes.proofs.Laws.{ClassFacts, class-facts, slots-pos}
+use Rattle.classes.proofs.Laws.{ClassFacts, class-facts, slots-pos, rows-pos}
 use Rattle.model.specs.declared.Slot.{Slot}
 use Rattle.model.specs.declared.Slot.the-variants.{Fresh, Idle, Live}
 use Rattle.model.specs.State.{Span, Pool, Place, free, group, isLive, isReady, count, slotSound, spanSound, wellFormed, poolOf, slotNumber, rowsIn, rows}
@@ -22,7 +22,7 @@ use Rattle.model.specs.Plans.{Site, slotsIn, opens, openFrom, run, turnR
 use Rattle.model.proofs.Tables.{group-slots}
 use Rattle.model.proofs.Rooms.{rows-append}
 use Rattle.model.proofs.Fresh.{fresh-rows}
-use Rattle.model.proofs.Lookup.{placed}
+use Rattle.model.proofs.Lookup.{placed, InRows, span-unique, split-unique}
 
 -- ---- one list split round a part, and round an element
 
@@ -467,3 +467,54 @@ module _ (row : ℕ) (P : Pool) (n : ℕ) (q : Place) (w : T (wellFormed P)) (r 
           (λ y. ⊎-elim (λ (L, R, a, b, d). absurd (no-group (rowsOf row c) (p .cls) (p .lower ++ (p .state ∷ p .upper)) L R a))
           (λ x. onto (stays-behind row (s .before) M (g ∷ []) (s .after) l p x)) y)
           (splits (s .before) M (s .after) (p .before) (groupOf p) (p .after) (sym (m .split) ∙ sym e))
+
+module _ (row : ℕ) (pos : 0 < row) (P : Pool) (n : ℕ) (q : Place) (w : T (wellFormed P)) (r : reserve row P n ≡ some q) where
+  -- the slot that a grant takes is no live block's
+  pub reserve-other : (p : Place) → poolOf p ≡ P → T (isLive (p .state)) → Stays row p q → ⊥
+  unfolding grantIn
+  reserve-other p e t k = ⊎-elim opened made (site-found row P c s (v .found))
+    where
+      c : ℕ
+      c = classOf n
+
+      v : Served row P n q
+      v = served row P n q w r
+
+      s : Site
+      s = v .at
+
+      first-row : rows row (s .before) ≡ rows row (p .before)
+      first-row = sym (ap (rows row) (ap (λ p. p .before) (v .place))) ∙ k .first
+
+      here : InRows row pos (rows row (p .before)) (p .before) (groupOf p)
+      here = record { from = omega arith; to = omega (arith, rows-pos row (p .cls) pos) }
+
+      opened : Open P c s → ⊥
+      opened o =
+          let g : Span = group c (s .slots) in
+          let u : (p .before ≡ s .before) × (groupOf p ≡ g) × (p .after ≡ s .after) =
+          span-unique row pos (rows row (p .before)) (p .before) (groupOf p) (p .after) (s .before) g (s .after) (e ∙ o .split) here
+          (record { from = omega (arith, first-row); to = omega (arith, first-row, rows-pos row c pos) }) in
+          let i : groupOf p ≡ g = u .1 in
+          let l : p .lower ++ (p .state ∷ p .upper) ≡ s .slots = cc in
+          same-slot l (live-refilled (p .lower) (p .state) (p .upper) t)
+        where
+          same-slot : p .lower ++ (p .state ∷ p .upper) ≡ s .slots
+              → (us : List Slot) × (vs : List Slot) × (refill (p .lower ++ (p .state ∷ p .upper)) ≡ us ++ (p .state ∷ vs)) × (length us ≡ length (p .lower)) → ⊥
+          same-slot l (us, vs, f, m) =
+              let z : us ++ (p .state ∷ vs) ≡ q .lower ++ (v .taken .old ∷ q .upper) = sym f ∙ ap refill l ∙ v .taken .slots in
+              let x : p .state ≡ v .taken .old = split-unique us vs (q .lower) (q .upper) (p .state) (v .taken .old) z (m ∙ sym (k .number)) .1 in
+              not-both (p .state) (subst (λ y. T (isReady y)) (sym x) (v .taken .ready)) t
+
+      made : New row P c s → ⊥
+      made m = go (rowsOf row c) refl (m .split)
+        where
+          go : (k : ℕ) → rowsOf row c ≡ k → P ≡ s .before ++ (freshPool k ++ s .after) → ⊥
+          go zero h f = omega (arith, rows-pos row c pos)
+          go (suc k) h f =
+              let u : (p .before ≡ s .before) × (groupOf p ≡ free) × (p .after ≡ freshPool k ++ s .after) =
+              span-unique row pos (rows row (p .before)) (p .before) (groupOf p) (p .after) (s .before) free (freshPool k ++ s .after) (e ∙ f) here
+              (record { from = omega (arith, first-row); to = omega (arith, first-row) }) in
+              let i : groupOf p ≡ free = u .1 in
+              let z : _≡_ {A = ℕ} 0 1 = cc in
+              omega arith
