@@ -4,4 +4,5 @@ pub mod Rooms
 pub mod Fresh
 pub mod Lookup
 pub mod Reserve
+pub mod Formed
 pub mod Calls

@@ -1,0 +1,261 @@
+-- What a call leaves: a well-formed pool of as many rows; and where it refuses, the pool as it was, and nothing written.
+use Prim.Native.Nat.{ℕ, suc, _+_, _*_, _-_, _≤_, _<_}
+use mathlib.Core.Path.{_≡_, refl, sym, subst, ap, _∙_}
+use mathlib.Core.Bool.{Bool, true, false, _||_}
+use mathlib.Core.Option.{Option, none, some}
+use mathlib.Core.List.{List, [], _∷_, _++_}
+use native.Mathlib.Omega.{arith}
+use lib.Dec.{T, leb, ltb, eqb, leb→le, le→leb, lt→ltb}
+use lib.ListN.{length, length-append}
+use borrow.Author.Tests.{leb-false, eqb-false}
+use Rattle.mem.specs.Lists.{every, any}
+use Rattle.mem.proofs.Tests.{and-left, and-right, and-both, every-append, choose-case, true-T, eq→eqb}
+use Rattle.classes.specs.Classes.{slotBytes, classOf, slotsOf, rowsOf, tooLarge}
+use Rattle.classes.proofs.Laws.{bytes-least, class-least}
+use Rattle.model.specs.declared.Slot.{Slot}
+use Rattle.model.specs.declared.Slot.the-variants.{Fresh, Idle, Live}
+use Rattle.model.specs.declared.Grant.{Grant}
+use Rattle.model.specs.declared.Release.{Release}
+use Rattle.model.specs.declared.Resize.{Resize}
+use Rattle.model.specs.declared.Measure.{Measure}
+use Rattle.model.specs.State.{Pool, Place, group, isLive, count, disp, slotSound, spanSound, wellFormed, poolOf, become, rows, start}
+use Rattle.model.specs.Answers.{grantAnswer, releaseAnswer, resizeAnswer}
+use Rattle.model.specs.Plans.{Plan, refused, reserve, grantAt, grant, lookup, vacant, onBlock, releaseAt, release, inPlace, resizeInPlace, moveTo, resizeMove, resizeAt, resize}
+use Rattle.model.specs.Plans.{measure, measureAt, report, freshPool, Call, setsUp, grants, releases, resizes, measures, reports, plan}
+use Rattle.model.proofs.Rooms.{rows-append}
+use Rattle.model.proofs.Fresh.{fresh-formed, fresh-rows}
+use Rattle.model.proofs.Lookup.{Fits, fits, lookup-found}
+use Rattle.model.proofs.Reserve.{Granted, reserve-formed}
+
+-- an element in the middle of a list
+pub any-middle : {A : Type 0} (f : A → Bool) (xs : List A) (y : A) (ys : List A) → any f (xs ++ (y ∷ ys)) ≡ (f y || any f (xs ++ ys))
+any-middle f [] y ys = refl
+any-middle f (x ∷ xs) y ys = ap (λ b. f x || b) (any-middle f xs y ys) ∙ swap (f x) (f y) (any f (xs ++ ys))
+  where
+    swap : (a b c : Bool) → (a || (b || c)) ≡ (b || (a || c))
+    swap true true c = refl
+    swap true false c = refl
+    swap false b c = refl
+
+-- a number from m to the next one
+same-or-next : (c m : ℕ) → m ≤ c → c ≤ suc m → T (eqb c m || eqb c (suc m))
+same-or-next c m h l = go (eqb c m) refl
+  where
+    go : (b : Bool) → eqb c m ≡ b → T (b || eqb c (suc m))
+    go true e = tt
+    go false e = let n : c ≡ m → ⊥ = eqb-false c m e in eq→eqb c (suc m) (omega arith)
+
+-- ---- slots that change
+
+-- a live slot may become waiting
+pub vacant-sound : (c : ℕ) (x : Slot) → T (isLive x) → T (slotSound c x) → T (slotSound c (Idle false (count x) (disp x)))
+unfolding slotSound
+vacant-sound c Fresh l t = absurd l
+vacant-sound c (Idle r k d) l t = absurd l
+vacant-sound c (Live k d n) l t =
+    let u : T (leb (16 * d + n) (slotBytes c - 4)) = search (and-left, and-right) in
+    and-both (ltb k 256) (leb (16 * d) (slotBytes c - 4)) (search (and-left, and-right))
+    (le→leb (16 * d) (slotBytes c - 4) (omega (arith, leb→le (16 * d + n) (slotBytes c - 4) u)))
+
+-- a live slot may get another size in place
+pub resized-sound : (c : ℕ) (x : Slot) (n : ℕ) → c < 48 → T (isLive x) → T (slotSound c x) → n < tooLarge → n ≤ slotBytes c - 4 - 16 * disp x → c ≤ suc (classOf n)
+    → T (slotSound c (Live (count x) (disp x) n))
+unfolding slotSound
+resized-sound c Fresh n h l t s f k = absurd l
+resized-sound c (Idle r j d) n h l t s f k = absurd l
+resized-sound c (Live j d m) n h l t s f k =
+    let u : T (leb (16 * d + m) (slotBytes c - 4)) = search (and-left, and-right) in
+    let u₁ : T (ltb j 256) = search (and-left, and-right) in
+    let v : 16 * d + n ≤ slotBytes c - 4 = omega (arith, leb→le (16 * d + m) (slotBytes c - 4) u) in
+    let u₂ : T (leb (16 * d + n) (slotBytes c - 4)) = le→leb (16 * d + n) (slotBytes c - 4) v in
+    let u₃ : T (ltb n tooLarge) = lt→ltb n tooLarge s in
+    let u₄ : T (eqb c (classOf n) || eqb c (suc (classOf n))) = same-or-next c (classOf n) (class-least n c (omega (arith, bytes-least c h))) k in
+    search and-both
+
+-- the rules of a place hold with the slot in another sound state
+pub become-fits : (p : Place) (x : Slot) → Fits p → T (slotSound (p .cls) x) → Fits (become p x)
+become-fits p x f t = record {
+  class = f .class;
+  slots = length-append (p .lower) (x ∷ p .upper) ∙ sym (length-append (p .lower) (p .state ∷ p .upper)) ∙ f .slots;
+  number = f .number;
+  state = t;
+  others = f .others;
+  before = f .before;
+  after = f .after;
+}
+
+module _ (row : ℕ) where
+  -- a well-formed pool of as many rows as another
+  pub record Formed (P Q : Pool) : Type 0 where
+    pub formed : T (wellFormed Q)
+    pub long : rows row Q ≡ rows row P
+
+  -- a slot in another sound state, with a live slot in its group
+  pub become-formed : (p : Place) (x : Slot) → T (wellFormed (poolOf p)) → T (slotSound (p .cls) x) → T (any isLive (p .lower ++ (x ∷ p .upper)))
+      → Formed (poolOf p) (poolOf (become p x))
+  unfolding spanSound
+  become-formed p x w s l =
+      let f : Fits (become p x) = become-fits p x (fits p w) s in
+      let c : ℕ = p .cls in
+      let ss : List Slot = p .lower ++ (x ∷ p .upper) in
+      let t₁ : T (ltb c 48) = lt→ltb c 48 (f .class) in
+      let t₂ : T (eqb (length ss) (slotsOf c)) = eq→eqb (length ss) (slotsOf c) (f .slots) in
+      let t₃ : T (every (slotSound c) ss) =
+      every-append (slotSound c) (p .lower) (x ∷ p .upper) (f .others .0) (and-both (slotSound c x) (every (slotSound c) (p .upper)) s (f .others .1)) in
+      let g : T (spanSound (group c ss)) = search and-both in
+      record {
+        formed = every-append spanSound (p .before) (group c ss ∷ p .after) (f .before) (and-both (spanSound (group c ss)) (wellFormed (p .after)) g (f .after));
+        long = rows-append row (p .before) (group c ss ∷ p .after) ∙ sym (rows-append row (p .before) (group c (p .lower ++ (p .state ∷ p .upper)) ∷ p .after));
+      }
+
+  -- a group's rows become free
+  pub freed-formed : (p : Place) → T (wellFormed (poolOf p)) → Formed (poolOf p) (p .before ++ (freshPool (rowsOf row (p .cls)) ++ p .after))
+  freed-formed p w =
+      let f : Fits p = fits p w in
+      let F : Pool = freshPool (rowsOf row (p .cls)) in
+      record {
+        formed = every-append spanSound (p .before) (F ++ p .after) (f .before) (every-append spanSound F (p .after) (fresh-formed (rowsOf row (p .cls))) (f .after));
+        long = rows-append row (p .before) (F ++ p .after)
+            ∙ ap (λ k. rows row (p .before) + k) (rows-append row F (p .after) ∙ ap (λ k. k + rows row (p .after)) (fresh-rows row (rowsOf row (p .cls))))
+            ∙ sym (rows-append row (p .before) (group (p .cls) (p .lower ++ (p .state ∷ p .upper)) ∷ p .after));
+      }
+
+  -- ---- one block released, or resized in place
+
+  pub release-formed : (p : Place) → T (wellFormed (poolOf p)) → T (isLive (p .state)) → Formed (poolOf p) (releaseAt row p .pool)
+  unfolding releaseAt
+  release-formed p w l =
+      choose-case (λ (r : Plan Release). Formed (poolOf p) (r .pool)) (any isLive (p .lower ++ p .upper)) _ _
+      (λ e. become-formed p (vacant p) w (vacant-sound (p .cls) (p .state) l (fits p w .state)) (true-T _ (any-middle isLive (p .lower) (vacant p) (p .upper) ∙ e)))
+      (λ e. freed-formed p w)
+
+  pub resize-in-place-formed : (p : Place) (n : ℕ) → T (wellFormed (poolOf p)) → T (isLive (p .state)) → n < tooLarge → T (inPlace p n)
+      → Formed (poolOf p) (resizeInPlace row p n .pool)
+  unfolding resizeInPlace inPlace
+  resize-in-place-formed p n w l h t =
+      let f : Fits p = fits p w in
+      let x : Slot = Live (count (p .state)) (disp (p .state)) n in
+      become-formed p x w
+      (resized-sound (p .cls) (p .state) n (f .class) l (f .state) h (leb→le n (slotBytes (p .cls) - 4 - 16 * disp (p .state)) (search and-left))
+      (leb→le (p .cls) (suc (classOf n)) (search (and-left, and-right))))
+      (true-T _ (any-middle isLive (p .lower) x (p .upper)))
+
+  -- a pool that stays as it is
+  pub unchanged : (P : Pool) → T (wellFormed P) → Formed P P
+  unchanged P w = record { formed = w; long = refl }
+
+-- a plan that leaves the pool as it was and writes nothing
+abbrev pub Quiet : {A : Type 0} → Pool → Plan A → Type 0
+Quiet P r = (r .pool ≡ P) × (r .changes ≡ [])
+
+module _ (row : ℕ) (pos : 0 < row) where
+  -- what a call on a block does, by what is found at its offset
+  pub on-block : {A : Type 0} (M : Plan A → Type 0) (absent freed : A) (P : Pool) (o : ℕ) (f : Place → Plan A)
+      → M (refused absent P) → M (refused freed P)
+      → ((p : Place) → lookup row P o ≡ some p → poolOf p ≡ P → T (isLive (p .state)) → M (f p))
+      → M (onBlock absent freed P f (lookup row P o))
+  on-block {A} M absent freed P o f none-there idle-there live-there = go (lookup row P o) refl
+    where
+      go : (r : Option Place) → lookup row P o ≡ r → M (onBlock absent freed P f r)
+      go none e = none-there
+      go (some p) e =
+          choose-case M (isLive (p .state)) (f p) (refused freed P) (λ l. live-there p e (lookup-found row pos P o p e .0) (true-T (isLive (p .state)) l)) (λ l. idle-there)
+
+  -- ---- calls
+
+  pub grant-formed : (P : Pool) (n : ℕ) → T (wellFormed P) → Formed row P (grant row P n .pool)
+  unfolding grant
+  grant-formed P n w =
+      choose-case (λ (r : Plan Grant). Formed row P (r .pool)) (leb tooLarge n) _ _ (λ e. unchanged row P w) (λ e. go (leb-false tooLarge n e) (reserve row P n) refl)
+    where
+      go : n < tooLarge → (r : Option Place) → reserve row P n ≡ r → Formed row P (grantAt row P r .pool)
+      go h none e = unchanged row P w
+      go h (some q) e = let g : Granted row P n q = reserve-formed row P n q w h e in record { formed = g .formed; long = g .long }
+
+  pub release-plan-formed : (P : Pool) (o : ℕ) → T (wellFormed P) → Formed row P (release row P o .pool)
+  unfolding release
+  release-plan-formed P o w =
+      on-block (λ (r : Plan Release). Formed row P (r .pool)) _ _ P o (releaseAt row) (unchanged row P w) (unchanged row P w)
+      (λ p f e l. subst (λ Q. Formed row Q (releaseAt row p .pool)) e (release-formed row p (subst (λ Q. T (wellFormed Q)) (sym e) w) l))
+
+  pub resize-move-formed : (P : Pool) (p : Place) (n : ℕ) → T (wellFormed P) → n < tooLarge → Formed row P (resizeMove row P p n .pool)
+  unfolding resizeMove
+  resize-move-formed P p n w h = go (reserve row P n) refl
+    where
+      go : (r : Option Place) → reserve row P n ≡ r → Formed row P (moveTo row P p n r .pool)
+      go none e = unchanged row P w
+      go (some q) e =
+          let g : Granted row P n q = reserve-formed row P n q w h e in
+          let r : Formed row (poolOf q) (release row (poolOf q) (start row p) .pool) = release-plan-formed (poolOf q) (start row p) (g .formed) in
+          record { formed = r .formed; long = r .long ∙ g .long }
+
+  pub resize-formed : (P : Pool) (o n : ℕ) → T (wellFormed P) → Formed row P (resize row P o n .pool)
+  unfolding resize resizeAt
+  resize-formed P o n w =
+      let M : Plan Resize → Type 0 = λ r. Formed row P (r .pool) in
+      choose-case M (leb tooLarge n) _ _ (λ e. unchanged row P w)
+      (λ e. on-block M _ _ P o (resizeAt row P n) (unchanged row P w) (unchanged row P w)
+      (λ p f q l. choose-case M (inPlace p n) (resizeInPlace row p n) (resizeMove row P p n)
+      (λ t. subst (λ Q. Formed row Q (resizeInPlace row p n .pool)) q
+      (resize-in-place-formed row p n (subst (λ Q. T (wellFormed Q)) (sym q) w) l (leb-false tooLarge n e) (true-T (inPlace p n) t)))
+      (λ t. resize-move-formed P p n w (leb-false tooLarge n e))))
+
+  measure-formed : (P : Pool) (o : ℕ) → T (wellFormed P) → Formed row P (measure row P o .pool)
+  unfolding measure
+  measure-formed P o w = on-block (λ (r : Plan Measure). Formed row P (r .pool)) _ _ P o (measureAt row P) (unchanged row P w) (unchanged row P w) (λ p f e l. unchanged row P w)
+
+  -- every call leaves a well-formed pool of as many rows
+  pub plan-formed : (P : Pool) (c : Call) → T (wellFormed P) → Formed row P (plan row P c .pool)
+  unfolding plan report
+  plan-formed P setsUp w = record { formed = fresh-formed (rows row P); long = fresh-rows row (rows row P) }
+  plan-formed P (grants n) w = grant-formed P n w
+  plan-formed P (releases o) w = release-plan-formed P o w
+  plan-formed P (resizes o n) w = resize-formed P o n w
+  plan-formed P (measures o) w = measure-formed P o w
+  plan-formed P reports w = unchanged row P w
+
+  -- ---- refusals
+
+  grant-refused : (P : Pool) (n : ℕ) → (grantAnswer (grant row P n .answer) .number ≡ 0 → ⊥) → Quiet P (grant row P n)
+  unfolding grant
+  grant-refused P n =
+      choose-case (λ (r : Plan Grant). (grantAnswer (r .answer) .number ≡ 0 → ⊥) → Quiet P r) (leb tooLarge n) _ _ (λ e z. (refl, refl)) (λ e. go (reserve row P n))
+    where
+      go : (r : Option Place) → (grantAnswer (grantAt row P r .answer) .number ≡ 0 → ⊥) → Quiet P (grantAt row P r)
+      go none z = (refl, refl)
+      go (some q) z = absurd (z refl)
+
+  release-refused : (P : Pool) (o : ℕ) → (releaseAnswer (release row P o .answer) .number ≡ 0 → ⊥) → Quiet P (release row P o)
+  unfolding release releaseAt
+  release-refused P o =
+      let M : Plan Release → Type 0 = λ r. (releaseAnswer (r .answer) .number ≡ 0 → ⊥) → Quiet P r in
+      on-block M _ _ P o (releaseAt row) (λ z. (refl, refl)) (λ z. (refl, refl))
+      (λ p f e l. choose-case M (any isLive (p .lower ++ p .upper)) _ _ (λ e z. absurd (z refl)) (λ e z. absurd (z refl)))
+
+  resize-refused : (P : Pool) (o n : ℕ) → (resizeAnswer (resize row P o n .answer) .number ≡ 0 → ⊥) → Quiet P (resize row P o n)
+  unfolding resize resizeAt resizeInPlace resizeMove
+  resize-refused P o n =
+      choose-case M (leb tooLarge n) _ _ (λ e z. (refl, refl))
+      (λ e. on-block M _ _ P o (resizeAt row P n) (λ z. (refl, refl)) (λ z. (refl, refl))
+      (λ p f q l. choose-case M (inPlace p n) (resizeInPlace row p n) (resizeMove row P p n) (λ t z. absurd (z refl)) (λ t. go p (reserve row P n))))
+    where
+      M : Plan Resize → Type 0
+      M r = (resizeAnswer (r .answer) .number ≡ 0 → ⊥) → Quiet P r
+
+      go : (p : Place) (r : Option Place) → M (moveTo row P p n r)
+      go p none z = (refl, refl)
+      go p (some q) z = absurd (z refl)
+
+  measure-quiet : (P : Pool) (o : ℕ) → Quiet P (measure row P o)
+  unfolding measure
+  measure-quiet P o = on-block (Quiet P) _ _ P o (measureAt row P) (refl, refl) (refl, refl) (λ p f e l. (refl, refl))
+
+  -- a plan that refuses leaves the pool as it was and writes nothing
+  pub plan-refused : (P : Pool) (c : Call) → (plan row P c .answer .number ≡ 0 → ⊥) → Quiet P (plan row P c)
+  unfolding plan report
+  plan-refused P setsUp z = absurd (z refl)
+  plan-refused P (grants n) z = grant-refused P n z
+  plan-refused P (releases o) z = release-refused P o z
+  plan-refused P (resizes o n) z = resize-refused P o n z
+  plan-refused P (measures o) z = measure-quiet P o
+  plan-refused P reports z = absurd (z refl)
