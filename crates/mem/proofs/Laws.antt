@@ -295,3 +295,25 @@ module _ {ℓ} {A : Type ℓ} where
   -- a part of k elements with others in its place
   pub put-part : (p k : ℕ) (vs xs : List A) → length vs ≡ k → p + k ≤ length xs → take p xs ++ (vs ++ drop k (drop p xs)) ≡ put p vs xs
   put-part p k vs xs e h = rw (drop-drop, ← e) (sym (put-split p vs xs (omega arith)))
+
+-- ---- writes inside a write
+
+module _ {ℓ} {A : Type ℓ} where
+  inside : (q : ℕ) (ws vs xs : List A) → q + length ws ≤ length vs → put q ws (put 0 vs xs) ≡ put 0 (put q ws vs) xs
+  inside q ws vs [] h = refl
+  inside zero [] [] (x ∷ xs) h = refl
+  inside zero (w ∷ ws) [] (x ∷ xs) h = absurd (omega arith)
+  inside (suc q) ws [] (x ∷ xs) h = absurd (omega arith)
+  inside zero [] (v ∷ vs) (x ∷ xs) h = refl
+  inside zero (w ∷ ws) (v ∷ vs) (x ∷ xs) h = ap (λ (r : List A). w ∷ r) (inside zero ws vs xs (omega arith))
+  inside (suc q) ws (v ∷ vs) (x ∷ xs) h = ap (λ (r : List A). v ∷ r) (inside q ws vs xs (omega arith))
+
+  -- a write into what was just written is a write into the bytes before they are written
+  pub put-put : (p q : ℕ) (ws vs xs : List A) → q + length ws ≤ length vs → put (p + q) ws (put p vs xs) ≡ put p (put q ws vs) xs
+  put-put p q ws vs [] h = refl
+  put-put zero q ws vs (x ∷ xs) h = rw zero-add (inside q ws vs (x ∷ xs) h)
+  put-put (suc p) q ws vs (x ∷ xs) h = rw suc-add (ap (λ (r : List A). x ∷ r) (put-put p q ws vs xs h))
+
+-- a store is a write of one element
+pub put-one : {A : Type 0} (xs : List A) (p : ℕ) (v : A) → set xs p v ≡ put p (v ∷ []) xs
+put-one xs p v = sym (put-cons p v [] xs ∙ put-nil (suc p) (set xs p v))

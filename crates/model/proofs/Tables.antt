@@ -121,7 +121,7 @@ disp-fits : (c d : ℕ) → 16 * d ≤ slotBytes c - 4 → d < 256 ^ 2
 unfolding slotBytes
 disp-fits c d h = omega (arith, units-small c)
 
-view-slot : (c : ℕ) (x : Slot) → T (slotSound c x) → viewSlot (isReady x) (isWaiting x) (slotRecord x) ≡ x
+pub view-slot : (c : ℕ) (x : Slot) → T (slotSound c x) → viewSlot (isReady x) (isWaiting x) (slotRecord x) ≡ x
 unfolding viewSlot slotRecord slotSound zeros choose tooLarge
 view-slot c Fresh t = refl
 view-slot c (Idle true k d) t = ap (Idle true k) (number-low 2 d (disp-fits c d (leb→le (16 * d) (slotBytes c - 4) (search (and-left, and-right)))))
@@ -347,3 +347,8 @@ module _ (row : ℕ) (few : (c : ℕ) → c < 48 → rowsOf row c ≤ 256) where
   encode-bytes P t =
       bytes-append (low 4 (row * rows row P)) _ (low-small 4 (row * rows row P))
       (bytes-append (zeros 12) _ (zeros-bytes 12) (spans-bytes P t))
+
+-- ---- a mask of a group's slots, read back
+
+pub mask-read : (f : Slot → Bool) (ss : List Slot) → length ss ≤ 31 → number (low 4 (mask (map f ss))) ≡ mask (map f ss)
+mask-read f ss h = number-low 4 (mask (map f ss)) (mask-fits f ss h)
