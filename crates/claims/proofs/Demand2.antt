@@ -1,6 +1,6 @@
 -- Demand 2: release, measure and grant accept exactly what document 01 says, a granted block is where and what it says, and live blocks
 -- never share a byte.
-use Prim.Native.Nat.{ℕ, suc, _+_, _*_, _-_, _/_, _≤_, _<_}
+use Prim.Native.Nat.{ℕ, zero, suc, _+_, _*_, _-_, _/_, _≤_, _<_}
 use mathlib.Core.Path.{_≡_, refl, sym, subst, ap, ap₂, _∙_}
 use mathlib.Core.Bool.{Bool, true, false, not}
 use mathlib.Core.Logic.{_⊎_, _↔_, inl, inr, ⊎-elim}
@@ -12,24 +12,28 @@ use borrow.Author.Tests.{leb-false}
 use lib.Dec.{T, leb, T-not}
 use lib.ListN.{length}
 use Rattle.mem.specs.Lists.{choose, first}
-use Rattle.mem.specs.Bytes.{put}
-use Rattle.mem.proofs.Tests.{T-true, true-T}
+use Rattle.mem.specs.Bytes.{part, put}
+use Rattle.mem.proofs.Tests.{T-true, true-T, choose-false}
+use Rattle.mem.proofs.Laws.{put-length, zeros-length}
 use Rattle.classes.specs.Classes.{slotBytes, classOf, rowsOf, tooLarge}
 use Rattle.model.specs.declared.Slot.{Slot}
 use Rattle.model.specs.declared.Grant.{Grant}
 use Rattle.model.specs.State.{Pool, Place, group, isLive, isReady, disp, size, wellFormed, poolOf, slotNumber, rows, owned}
 use Rattle.model.specs.Blocks.{frame, damageIn}
 use Rattle.model.specs.Answers.{grantAnswer}
-use Rattle.model.specs.Plans.{Site, freshPool, Call, grants, releases, measures, numbered, refused, plan, reserve, enframe, grantAt, grantSlot, grantIn, lookup}
+use Rattle.model.specs.Plans.{Write, writes, copies, Site, freshPool, Call, setsUp, grants, releases, resizes, measures, reports, numbered, refused, plan, reserve, enframe, grantAt, grantSlot, grantIn, lookup}
 use Rattle.model.specs.Tables.{view, sound}
-use Rattle.model.specs.Calls.{Result, keeps, carried, checked, call}
+use Rattle.model.specs.Calls.{Result, keeps, written, damaged, carried, setUpRight, setUp, checked, call}
 use Rattle.model.specs.Calls as calls
-use Rattle.model.proofs.Tables.{Sound, sound-facts, view-encode}
+use Rattle.model.proofs.Tables.{Sound, sound-facts, view-encode, encode-sound}
 use Rattle.model.proofs.Rooms.{rows-append}
+use Rattle.model.proofs.Fresh.{set-up-done, set-up-sound}
+use Rattle.model.proofs.Formed.{Formed, plan-formed}
+use Rattle.model.proofs.Calls.{Asks, call-unsound, call-sound, carriedOut, carried-whole, carried-damaged}
 use Rattle.model.proofs.Lookup.{Fits, fits, disp-inside, slot-inside, InRows, span-unique, split-unique, same-placed}
 use Rattle.model.proofs.Reserve.{groupOf, Served, served, reserve-formed, site-lowest, first-lowest}
 use Rattle.claims.specs.Demand1.{Reason, unsound, noSuchBlock, alreadyFree, headerDamaged, overrun, order, offsetIn, FirstDue, StartsAt, LiveAt, headerDue, guardDue, NoPlace, Due}
-use Rattle.claims.specs.Demand2.{Intact, ReleasesExactly, MeasuresExactly, GrantsExactly, AllLive, Granted, GrantsAsSaid, InBlock, NeverShared}
+use Rattle.claims.specs.Demand2.{Intact, ReleasesExactly, MeasuresExactly, GrantsExactly, AllLive, Granted, GrantsAsSaid, InBlock, NeverShared, LeavesSound}
 use Rattle.claims.proofs.Demand1.{applied, blockFirst, starts-found, none-starts, starts-once, found-starts, demand1}
 
 -- what is not refuted passes the test
@@ -284,3 +288,85 @@ module _ (row : ℕ) (pos : 0 < row) where
           let v : (p .lower ≡ q .lower) × (p .state ≡ q .state) × (p .upper ≡ q .upper) =
           split-unique (p .lower) (p .upper) (q .lower) (q .upper) (p .state) (q .state) l j in
           same-placed (u .0) c (v .0) (v .1) (v .2) (u .2)
+
+-- ---- every accepted call leaves sound tables
+
+written-length : (a : List ℕ) (ws : List Write) → length (written a ws) ≡ length a
+written-length a [] = refl
+written-length a (writes p bs ∷ ws) = written-length (put p bs a) ws ∙ put-length p bs a
+written-length a (copies from to n ∷ ws) = written-length (put to (part from n a) a) ws ∙ put-length to (part from n a) a
+
+module _ (row : ℕ) (a t : List ℕ) where
+  -- an accepted call but set up: its plan is carried out on sound tables
+  pub record Accepted (c : Call) : Type 0 where
+    pub sound-tables : T (sound row (length a) t)
+    pub left : call row a t c ≡ carriedOut row a t (plan row (view row t) c)
+
+  pub accepted : (c : Call) → Asks c → call row a t c .answer .number ≡ 0 → Accepted c
+  accepted c k z = tables (sound row (length a) t) refl
+    where
+      number : (r : Result) → call row a t c ≡ r → r .answer .number ≡ 0
+      number r e = ap (λ r. r .answer .number) (sym e) ∙ z
+
+      refuses : (c : Call) → calls.unsound c .number ≡ 0 → ⊥
+      refuses setsUp e = omega arith
+      refuses (grants n) e = omega arith
+      refuses (releases o) e = omega arith
+      refuses (resizes o n) e = omega arith
+      refuses (measures o) e = omega arith
+      refuses reports e = omega arith
+
+      block : (d : ℕ) → damaged row a (plan row (view row t) c .checks) ≡ d → sound row (length a) t ≡ true → Accepted c
+      block zero e s = record {
+        sound-tables = true-T (sound row (length a) t) s;
+        left = call-sound row a t s c k ∙ carried-whole row a t (plan row (view row t) c) e;
+      }
+      block (suc d) e s =
+          let n : suc d ≡ 0 = number _ (call-sound row a t s c k ∙ carried-damaged row a t (plan row (view row t) c) d e) in
+          absurd (omega arith)
+
+      tables : (b : Bool) → sound row (length a) t ≡ b → Accepted c
+      tables true s = block (damaged row a (plan row (view row t) c .checks)) refl s
+      tables false s = absurd (refuses c (number _ (call-unsound row a t c k s)))
+
+  pub set-up-accepted : call row a t setsUp .answer .number ≡ 0 → T (setUpRight row a t)
+  unfolding call setUp
+  set-up-accepted z = go (setUpRight row a t) refl
+    where
+      go : (b : Bool) → setUpRight row a t ≡ b → T (setUpRight row a t)
+      go true e = true-T (setUpRight row a t) e
+      go false e =
+          let n : _≡_ {A = ℕ} 1 0 = ap (λ (r : Result). r .answer .number) (sym (choose-false (setUpRight row a t) _ _ e)) ∙ z in
+          absurd (omega arith)
+
+  -- its tables are sound for the arena that it was given, and it leaves one of the same length
+  pub record Leaves (r : Result) : Type 0 where
+    pub tables : T (sound row (length a) (r .room))
+    pub long : length (r .arena) ≡ length a
+
+  module _ (pos : 0 < row) where
+    pub accepted-leaves : (c : Call) → Accepted c → Leaves (call row a t c)
+    accepted-leaves c k =
+        let s : Sound row (length a) t = sound-facts row (length a) t (k .sound-tables) in
+        let f : Formed row (view row t) (plan row (view row t) c .pool) = plan-formed row pos (view row t) c (s .formed) in
+        subst Leaves (sym (k .left)) (record {
+          tables = encode-sound row pos _ (length a) (f .formed) (s .lawful) (s .long ∙ ap (λ m. row * m) (sym (f .long)));
+          long = written-length a (plan row (view row t) c .changes);
+        })
+
+    set-up-leaves : T (setUpRight row a t) → Leaves (call row a t setsUp)
+    unfolding call
+    set-up-leaves h = subst Leaves (sym (set-up-done row a t h)) (record { tables = set-up-sound row a t h pos; long = zeros-length (length a) })
+
+    leaves : (c : Call) → call row a t c .answer .number ≡ 0 → Leaves (call row a t c)
+    leaves setsUp z = set-up-leaves (set-up-accepted z)
+    leaves (grants n) z = accepted-leaves (grants n) (accepted (grants n) tt z)
+    leaves (releases o) z = accepted-leaves (releases o) (accepted (releases o) tt z)
+    leaves (resizes o n) z = accepted-leaves (resizes o n) (accepted (resizes o n) tt z)
+    leaves (measures o) z = accepted-leaves (measures o) (accepted (measures o) tt z)
+    leaves reports z = accepted-leaves reports (accepted reports tt z)
+
+pub leaves-sound : (row : ℕ) → 0 < row → LeavesSound row
+leaves-sound row pos a t c z =
+    let l : Leaves row a t (call row a t c) = leaves row a t pos c z in
+    subst (λ n. T (sound row n (call row a t c .room))) (sym (l .long)) (l .tables)

@@ -8,3 +8,4 @@ pub mod Steps
 pub mod Requested
 pub mod Cleared
 pub mod Demand3
+pub mod History
