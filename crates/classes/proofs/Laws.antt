@@ -10,7 +10,7 @@ use lib.Dec.{T, leb, ltb, eqb, leb→le, le→leb, ltb→lt, lt→ltb, eqb→eq,
 use lib.ListN.{length, getD}
 use Rattle.mem.specs.Lists.{first, choose}
 use Rattle.mem.proofs.Tests.{and-left, and-right, every-at, true-T, same-test, choose-case}
-use Rattle.classes.specs.Classes.{rowBytes, units, unitsOf, slotBytes, classOf, tooLarge, slotsOf, rowsOf}
+use Rattle.classes.specs.Classes.{rowBytes, units, unitsOf, slotBytes, classOf, tooLarge, slotsOf, rowsOf, below2}
 
 module _ {A : Type 0} (f : A → Bool) (d : A) where
   -- no element before the first one passes the test
@@ -169,10 +169,6 @@ pub rows-small : (c : ℕ) → rowsOf rowBytes c ≤ 256
 unfolding rowsOf rowBytes
 rows-small c = omega (arith, group-bytes c)
 
--- the bytes of the class two below c: what class c and the one below serve needs more
-abbrev pub below2 : ℕ → ℕ
-below2 c = choose (ltb c 2) 0 (slotBytes (c - 2))
-
 same-or-next : (k c : ℕ) → k ≤ c → (eqb c k || eqb c (suc k)) ≡ leb c (suc k)
 same-or-next k c l = cases (eqb c k) refl
   where
@@ -203,8 +199,8 @@ module _ (n c : ℕ) (h : c < 48) (f : n + 4 ≤ slotBytes c) where
       (λ e l. let no : suc (classOf n) < c → ⊥ = not-far l in omega arith)
 
   -- whether the class of n is c or the one below, with no look-up
-  pub low-test : (eqb c (classOf n) || eqb c (suc (classOf n))) ≡ ltb (below2 c) (n + 4)
-  low-test =
+  pub near-test : (eqb c (classOf n) || eqb c (suc (classOf n))) ≡ ltb (below2 c) (n + 4)
+  near-test =
       same-or-next (classOf n) c (class-least n c f)
       ∙ same-test (leb c (suc (classOf n))) (ltb (below2 c) (n + 4))
       (λ t. lt→ltb (below2 c) (n + 4) (near-below (leb→le c (suc (classOf n)) t)))

@@ -1,9 +1,9 @@
 -- Units, rows and the 48 size classes, with the slots and rows of a group of each.
 use Prim.Native.Nat.{ℕ, _+_, _*_, _-_, _/_, min, max}
 use mathlib.Core.List.{List, [], _∷_}
-use lib.Dec.{leb}
+use lib.Dec.{leb, ltb}
 use lib.ListN.{getD, length}
-use Rattle.mem.specs.Lists.{first}
+use Rattle.mem.specs.Lists.{choose, first}
 
 -- "A unit is 16 bytes, a row 512."
 unfoldable pub rowBytes : ℕ
@@ -41,3 +41,7 @@ slotsOf c = max 1 (min 31 (4080 / slotBytes c))
 -- "and takes R = (16 + sS) / 512 rows, rounded up", for rows of any size
 unfoldable pub rowsOf : ℕ → ℕ → ℕ
 rowsOf row c = (16 + slotBytes c * slotsOf c + (row - 1)) / row
+
+-- the bytes of the class two below c: a size of class c or of the one below needs more
+abbrev pub below2 : ℕ → ℕ
+below2 c = choose (ltb c 2) 0 (slotBytes (c - 2))

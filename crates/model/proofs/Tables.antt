@@ -149,7 +149,7 @@ view-slots c (x ∷ ss) rest t =
     (ap₂ {C = List Slot} (λ y ys. y ∷ ys) (view-slot c x (and-left (slotSound c x) (every (slotSound c) ss) t))
     (view-slots c ss rest (and-right (slotSound c x) (every (slotSound c) ss) t)))
 
-mask-fits : (f : Slot → Bool) (ss : List Slot) → length ss ≤ 31 → mask (map f ss) < 256 ^ 4
+pub mask-fits : (f : Slot → Bool) (ss : List Slot) → length ss ≤ 31 → mask (map f ss) < 256 ^ 4
 mask-fits f ss h =
     let l : length (map f ss) ≤ 31 = rw (length-map ss f) h in
     lt-of-lt-of-le (mask-below (map f ss)) (le-trans (pow-le-pow-right (lit≤ tt) l) (lit≤ {m = 2 ^ 31} tt))
@@ -209,32 +209,32 @@ module _ (row : ℕ) where
       ∙ pass-over k n (suc j) rest)
 
   module _ (pos : 0 < row) where
-    pub view-records : (P : Pool) (rest : List ℕ) → T (wellFormed P) → viewRows row (rows row P) 0 (join (spanRecords row) P ++ rest) ≡ P
-    unfolding viewRows spanRecords
-    view-records [] rest t = refl
-    view-records (free ∷ P) rest t =
-        let R : List ℕ = join (spanRecords row) P ++ rest in
-        let e : 1 + rows row P ≡ suc (rows row P) = omega arith in
-        rw (append-assoc (rowRecord Free []) (join (spanRecords row) P) rest)
-        (ap (λ m. viewRows row m 0 (rowRecord Free [] ++ R)) e
-        ∙ rows-free row (rows row P) (rowRecord Free [] ++ R) (holder-free R)
-        ∙ ap (λ l. free ∷ viewRows row (rows row P) 0 l) (drop-at (rowRecord Free []) R 264 (row-length Free [] (lit≤ tt)))
-        ∙ ap (λ Q. free ∷ Q) (view-records P rest (and-right (spanSound free) (wellFormed P) t)))
-    view-records (group c ss ∷ P) rest t =
-        let h : T (spanSound (group c ss)) = and-left (spanSound (group c ss)) (wellFormed P) t in
-        let R : List ℕ = laterRecords (rowsOf row c - 1) 1 ++ (join (spanRecords row) P ++ rest) in
-        let n : ℕ = (rowsOf row c - 1) + rows row P in
-        let e : rowsOf row c + rows row P ≡ suc n = omega (arith, rows-pos row c pos) in
-        rw (
-          append-assoc (rowRecord (First c) ss ++ laterRecords (rowsOf row c - 1) 1) (join (spanRecords row) P) rest,
-          append-assoc (rowRecord (First c) ss) (laterRecords (rowsOf row c - 1) 1) (join (spanRecords row) P ++ rest),
-        )
-        (ap (λ m. viewRows row m 0 (rowRecord (First c) ss ++ R)) e
+    -- one span of the view, whatever stands behind it
+    pub view-span : (s : Span) (m : ℕ) (rest : List ℕ) → T (spanSound s) → viewRows row (rowsIn row s + m) 0 (spanRecords row s ++ rest) ≡ s ∷ viewRows row m 0 rest
+    unfolding spanRecords
+    view-span free m rest h =
+        let e : 1 + m ≡ suc m = omega arith in
+        ap (λ k. viewRows row k 0 (rowRecord Free [] ++ rest)) e
+        ∙ rows-free row m (rowRecord Free [] ++ rest) (holder-free rest)
+        ∙ ap (λ l. free ∷ viewRows row m 0 l) (drop-at (rowRecord Free []) rest 264 (row-length Free [] (lit≤ tt)))
+    view-span (group c ss) m rest h =
+        let R : List ℕ = laterRecords (rowsOf row c - 1) 1 ++ rest in
+        let n : ℕ = (rowsOf row c - 1) + m in
+        let e : rowsOf row c + m ≡ suc n = omega (arith, rows-pos row c pos) in
+        rw (append-assoc (rowRecord (First c) ss) (laterRecords (rowsOf row c - 1) 1) rest)
+        (ap (λ k. viewRows row k 0 (rowRecord (First c) ss ++ R)) e
         ∙ rows-first row n (rowRecord (First c) ss ++ R) c (holder-first c ss R)
         ∙ ap₂ {C = Pool} (λ ys l. group c ys ∷ viewRows row n (rowsOf row c - 1) l) (view-group c ss R h)
         (drop-at (rowRecord (First c) ss) R 264 (row-length (First c) ss (group-few c ss h)))
-        ∙ ap (λ Q. group c ss ∷ Q) (pass-over (rowsOf row c - 1) (rows row P) 1 (join (spanRecords row) P ++ rest)
-        ∙ view-records P rest (and-right (spanSound (group c ss)) (wellFormed P) t)))
+        ∙ ap (λ Q. group c ss ∷ Q) (pass-over (rowsOf row c - 1) m 1 rest))
+
+    pub view-records : (P : Pool) (rest : List ℕ) → T (wellFormed P) → viewRows row (rows row P) 0 (join (spanRecords row) P ++ rest) ≡ P
+    unfolding viewRows
+    view-records [] rest t = refl
+    view-records (s ∷ P) rest t =
+        rw (append-assoc (spanRecords row s) (join (spanRecords row) P) rest)
+        (view-span s (rows row P) (join (spanRecords row) P ++ rest) (and-left (spanSound s) (wellFormed P) t)
+        ∙ ap (λ Q. s ∷ Q) (view-records P rest (and-right (spanSound s) (wellFormed P) t)))
 
     pub view-encode : (P : Pool) → T (wellFormed P) → view row (encode row P) ≡ P
     unfolding view encode zeros
