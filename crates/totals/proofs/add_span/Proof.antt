@@ -1,0 +1,66 @@
+-- `add_span` meets its contract.
+use mathlib.Core.Path.{_≡_, refl, sym, ap, _∙_}
+use mathlib.Core.List.{List, [], _∷_}
+use mathlib.Core.Logic.{⊎-elim}
+use Prim.Native.Nat.{ℕ}
+use native.Mathlib.Omega.{arith}
+use borrow.Author.Needs.{needs}
+use denote.Ref.{now}
+use denote.Enum.Declared.{tagOf}
+use types.Run.{OneOf}
+use lib.ListN.{drop}
+use Rattle.classes.specs.Classes.{rowBytes}
+use Rattle.model.specs.declared.Holder.{Holder}
+use Rattle.model.specs.declared.Holder.the-variants.{Free, First, Later}
+use Rattle.model.specs.declared.Totals.{Totals}
+use Rattle.model.proofs.Holder.{the-type}
+use Rattle.model.specs.Tables.{viewHolder}
+use Rattle.records.specs.Records.{rowAt}
+use Rattle.totals.specs.Sums.{addFree, addHeld, addSpan}
+use Rattle.totals.proofs.add_span.Statement.{statement}
+use Rattle.totals.proofs.add_span.Tie as tie
+
+-- what the code knows of the row is what the room says
+told : (s : Totals) (t : List ℕ) (h : Holder) → h ≡ viewHolder t → addHeld rowBytes s t h ≡ addSpan rowBytes s t
+unfolding addSpan
+told s t h e = ap (addHeld rowBytes s t) e
+
+-- no first row
+other : (s : Totals) (t : List ℕ) (h : Holder) → OneOf (0 ∷ 2 ∷ []) (tagOf the-type h) → addFree s ≡ addHeld rowBytes s t h
+other s t Free o = refl
+other s t (First k) o = absurd (⊎-elim (λ e. omega arith) (λ e. omega arith) o)
+other s t (Later k) o = refl
+
+returns : tie.Need-returns
+returns c =
+    let a = c .before .before .before .before .args in
+    let t = drop (rowAt (a .i)) (now (a .room)) in
+    let h = c .before .before .holder-at in
+    other (a .s) t (h .result) (c .before .match .keys2) ∙ told (a .s) t (h .result) (h .ensures)
+
+add-group-requires : tie.Need-add-group-requires
+add-group-requires c κs =
+    let b = c .before .before .before .before in
+    let s = b .before .before in
+    let x = c .before .before .h .given in
+    (s .pre .0, (rw (c .wide .ensures .0) (s .pre .1 .0 (x .0 .0) (sym (b .holder-at .ensures) ∙ x .1)), s .pre .1 .1))
+
+returns-2 : tie.Need-returns-2
+returns-2 c =
+    let b = c .before .before .before .before .before in
+    let a = b .before .before .args in
+    let t = drop (rowAt (a .i)) (now (a .room)) in
+    let x = c .before .before .before .h .given in
+    c .add-group .ensures ∙ rw (c .before .wide .ensures .0) (told (a .s) t (First (x .0 .0)) (sym (x .1) ∙ b .holder-at .ensures))
+
+pub add-span-spec : {M : Type 1} → statement M
+add-span-spec =
+    tie.close
+    (tie.spec
+    (λ c κs. search needs)
+    (λ c. search needs)
+    (λ c. search needs)
+    returns
+    (λ c κs. search needs)
+    add-group-requires
+    returns-2)

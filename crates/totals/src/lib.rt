@@ -1,0 +1,91 @@
+// The six totals of report, counted from sound tables.
+ghost use mathlib.Core.Path.{_≡_};
+ghost use mathlib.Core.Bool.{true};
+ghost use Prim.Native.Nat.{ℕ, _+_, _*_, _≤_, _<_};
+ghost use lib.ListN.{length, drop};
+ghost use Rattle.classes.specs.Classes.{rowBytes};
+ghost use Rattle.model.specs.declared.Holder.the-variants.{First};
+ghost use Rattle.model.specs.Tables.{sound, view, viewHolder};
+ghost use Rattle.model.specs.Plans.{totals};
+ghost use Rattle.records.specs.Records.{rowAt};
+ghost use Rattle.totals.specs.Sums.{sizesIn, Countable, Small, addGroup, addSpan};
+use model::Holder;
+use model::Totals;
+
+// The sum of the requested sizes in n slot records: one that is not live holds 0.
+fn sizes(room: &[u8], at: usize, n: usize) -> usize
+    requires { ⌜ (n ≤ 31) × (at + 8 * n ≤ length (now room)) ⌝ }
+    ensures { λ r. ⌜ r ≡ sizesIn n (drop at (now (room .entry))) ⌝ }
+    ensures small { λ r. ⌜ r ≤ 16777216 * n ⌝ }
+{
+    let mut sum = 0;
+    let mut j = 0;
+    while j < n {
+        sum += mem::get3(room, at + 8 * j + 4);
+        j += 1;
+    }
+    sum
+}
+
+// Totals with one group more, of class c, whose first row is row i.
+fn add_group(s: Totals, room: &[u8], i: usize, c: usize) -> Totals
+    requires { ⌜ (i < 512) × (rowAt i + 264 ≤ length (now room)) ⌝ }
+    requires { ⌜ Countable (drop (rowAt i) (now room)) c ⌝ }
+    requires { ⌜ Small s ⌝ }
+    ensures { λ r. ⌜ r ≡ addGroup rowBytes s (drop (rowAt i) (now (room .entry))) c ⌝ }
+{
+    let n = classes::slots(c);
+    let m = records::masks_at(room, i);
+    let live = m.live(n as u32) as usize;
+    let ready = u32::count_ones(m.ready) as usize;
+    let waiting = u32::count_ones(m.waiting) as usize;
+    Totals {
+        blocks: s.blocks + live,
+        bytes: s.bytes + sizes(room, records::row_at(i) + 16, n),
+        held: s.held + classes::rows(c),
+        free: s.free,
+        ready: s.ready + ready,
+        waiting: s.waiting + waiting,
+    }
+}
+
+// Totals with one span more, whose first row is row i.
+fn add_span(s: Totals, room: &[u8], i: usize) -> Totals
+    requires { ⌜ (i < 512) × (rowAt i + 264 ≤ length (now room)) ⌝ }
+    requires { ⌜ ((c : ℕ) → viewHolder (drop (rowAt i) (now room)) ≡ First c → Countable (drop (rowAt i) (now room)) c) ⌝ }
+    requires { ⌜ Small s ⌝ }
+    ensures { λ r. ⌜ r ≡ addSpan rowBytes s (drop (rowAt i) (now (room .entry))) ⌝ }
+{
+    let h = records::holder_at(room, i);
+    let Holder::First(c) = h else {
+        return Totals {
+            blocks: s.blocks,
+            bytes: s.bytes,
+            held: s.held,
+            free: s.free + 1,
+            ready: s.ready,
+            waiting: s.waiting,
+        };
+    };
+    add_group(s, room, i, mem::wide(c))
+}
+
+// The totals that sound tables say. What is held and what is free are the rows passed.
+pub fn count(len: usize, room: &[u8]) -> Totals
+    requires { ⌜ sound rowBytes len (now room) ≡ true ⌝ }
+    ensures { λ r. ⌜ r ≡ totals rowBytes (view rowBytes (now (room .entry))) ⌝ }
+{
+    let n = len / classes::ROW;
+    let mut s = Totals {
+        blocks: 0,
+        bytes: 0,
+        held: 0,
+        free: 0,
+        ready: 0,
+        waiting: 0,
+    };
+    while s.held + s.free < n {
+        s = add_span(s, room, s.held + s.free);
+    }
+    s
+}
