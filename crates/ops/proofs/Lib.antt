@@ -1,0 +1,5 @@
+pub mod Places
+pub mod Calls
+pub mod Moves
+pub mod Reserving
+pub mod Discarding
