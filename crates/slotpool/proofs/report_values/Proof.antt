@@ -1,0 +1,12 @@
+use mathlib.Core.Path.{ap, sym}
+use borrow.Author.Needs.{needs}
+use Rattle.model.specs.declared.Report.{Report}
+use Rattle.model.specs.Answers.{reportAnswer}
+use Rattle.slotpool.proofs.report_values.Statement.{statement}
+use Rattle.slotpool.proofs.report_values.Tie as tie
+
+returns : tie.Need-returns
+returns c = ap (λ (r : Report). reportAnswer r .values) (sym (c .before .r .given .1))
+
+pub report-values-spec : {M : Type 1} → statement M
+report-values-spec = tie.close (tie.spec (λ c. search needs) (λ c. search needs) returns (λ c. search needs))
