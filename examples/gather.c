@@ -1,0 +1,76 @@
+/* Grants a gather list for a packet, shows what the pool refuses, and prints a map of the arena's rows. */
+#include <stdio.h>
+#include <stdlib.h>
+#include <string.h>
+
+#include "slotpool.h"
+
+enum { ARENA = 8192, ROW = 512 };
+
+static uint8_t arena[ARENA];
+static uint8_t *room;
+static size_t room_len;
+
+static const char *name(uint32_t answer)
+{
+    static const char *const names[] = {"done", "bad arena", "unsound", "too large", "no such block",
+                                        "already free", "header damaged", "overrun", "no room"};
+    return names[answer];
+}
+
+/* One character a row: '.' free, a digit or letter for the class of the group that begins there, '-' for its later rows. */
+static void map(void)
+{
+    printf("rows  ");
+    for (size_t row = 0; row < ARENA / ROW; row++) {
+        const uint8_t *record = room + 16 + 264 * row; /* docs/TABLES.md */
+        putchar(record[0] == 0 ? '.' : record[0] == 1 ? "0123456789ABCDEFGHIJKLMNOPQRSTUVWXYZabcdefghijkl"[record[1]] : '-');
+    }
+    size_t t[6];
+    slotpool_report(arena, ARENA, room, room_len, t);
+    printf("  %zu blocks, %zu bytes, %zu rows held, %zu free, %zu slots ready, %zu waiting\n", t[0], t[1], t[2], t[3], t[4], t[5]);
+}
+
+int main(void)
+{
+    room_len = slotpool_room_len(ARENA);
+    room = malloc(room_len);
+    if (room == NULL || slotpool_set_up(arena, ARENA, room, room_len) != SLOTPOOL_DONE)
+        return 1;
+    printf("an arena of %d bytes, a table room of %zu\n", ARENA, room_len);
+    map();
+
+    /* a packet of 400 bytes in entries of at most 160 */
+    size_t list[3], sizes[3] = {160, 160, 80};
+    for (int i = 0; i < 3; i++) {
+        uint32_t answer = slotpool_grant(arena, ARENA, room, room_len, sizes[i], &list[i]);
+        printf("grant %zu: %s, %zu\n", sizes[i], name(answer), list[i]);
+        memset(arena + list[i], 'a' + i, sizes[i]);
+    }
+    map();
+
+    /* the driver writes one byte too many, into the guard of the second entry */
+    size_t value, end = list[1] + 188;
+    uint8_t kept = arena[end - 5];
+    arena[end - 5] = 1;
+    printf("release %zu after an overrun: %s\n", list[1], name(slotpool_release(arena, ARENA, room, room_len, list[1])));
+    arena[end - 5] = kept;
+
+    printf("resize %zu to 188: %s", list[0], name(slotpool_resize(arena, ARENA, room, room_len, list[0], 188, &value)));
+    printf(", %zu\n", value);
+    printf("release %zu: %s\n", list[1], name(slotpool_release(arena, ARENA, room, room_len, list[1])));
+    printf("release %zu again: %s\n", list[1], name(slotpool_release(arena, ARENA, room, room_len, list[1])));
+    printf("release %zu: %s\n", list[1] + 1, name(slotpool_release(arena, ARENA, room, room_len, list[1] + 1)));
+    printf("grant 131052: %s\n", name(slotpool_grant(arena, ARENA, room, room_len, 131052, &value)));
+    printf("grant 5000: %s\n", name(slotpool_grant(arena, ARENA, room, room_len, 5000, &value)));
+    map();
+
+    /* a flipped bit in the tables */
+    room[16 + 8] ^= 4;
+    printf("measure %zu with a flipped table bit: %s\n", list[0], name(slotpool_measure(arena, ARENA, room, room_len, list[0], &value)));
+    room[16 + 8] ^= 4;
+    printf("measure %zu: %s", list[0], name(slotpool_measure(arena, ARENA, room, room_len, list[0], &value)));
+    printf(", %zu\n", value);
+    free(room);
+    return 0;
+}

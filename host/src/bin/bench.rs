@@ -1,0 +1,140 @@
+//! Nanoseconds per call, of the library and of the second implementation with its own full check of the tables, over arenas of four
+//! sizes, empty, half full and nearly full. Each figure is the median of several runs, with the least and the most.
+
+use slotpool::reference::{Reference, Tables};
+use slotpool::{room_len, Pool};
+use std::hint::black_box;
+use std::time::Instant;
+
+const RUNS: usize = 15;
+
+struct Time {
+    median: f64,
+    least: f64,
+    most: f64,
+}
+
+/// Nanoseconds per turn: median, least and most of the runs.
+fn time(turns: usize, mut turn: impl FnMut()) -> Time {
+    let mut runs: Vec<f64> = (0..RUNS)
+        .map(|_| {
+            let begun = Instant::now();
+            for _ in 0..turns {
+                turn();
+            }
+            begun.elapsed().as_nanos() as f64 / turns as f64
+        })
+        .collect();
+    runs.sort_by(f64::total_cmp);
+    Time { median: runs[RUNS / 2], least: runs[0], most: runs[RUNS - 1] }
+}
+
+fn show(t: &Time) -> String {
+    format!("{:>9.0} ({:.0} to {:.0})", t.median, t.least, t.most)
+}
+
+/// Grants blocks of 160 bytes until a share of the rows is held.
+fn fill(pool: &mut Pool, second: &mut Reference, share: f64) -> Vec<usize> {
+    let mut blocks = Vec::new();
+    loop {
+        let t = pool.report().unwrap();
+        if t.rows_held as f64 >= share * (t.rows_held + t.rows_free) as f64 && t.ready_slots < 3 {
+            return blocks;
+        }
+        match pool.grant(160) {
+            Ok(o) => {
+                assert_eq!(second.grant(160), Ok(o));
+                blocks.push(o);
+            }
+            Err(_) => return blocks,
+        }
+    }
+}
+
+fn main() {
+    println!("nanoseconds per call: median of {RUNS} runs (least to most)");
+    println!("{:<22} {:>26} {:>26} {:>26} {:>26}", "arena", "grant and release", "second, with full check", "measure", "second, with full check");
+    for kib in [4, 16, 64, 256] {
+        let len = 1024 * kib;
+        for (name, share) in [("empty", 0.0), ("half full", 0.5), ("nearly full", 0.97)] {
+            let (mut arena, mut room) = (vec![0; len], vec![0; room_len(len)]);
+            let mut pool = Pool::set_up(&mut arena, &mut room).unwrap();
+            let mut second = Reference::set_up(len);
+            let mut blocks = if share > 0.0 { fill(&mut pool, &mut second, share) } else { Vec::new() };
+            // one block more than is measured, and room for the one that is granted and released
+            let turns = 40_000 / kib + 200;
+            while share > 0.9 && pool.grant(160).is_err() {
+                let o = blocks.pop().unwrap();
+                pool.release(o).unwrap();
+                second.release(o).unwrap();
+            }
+            if share > 0.9 {
+                let o = second.grant(160).unwrap();
+                pool.release(o).unwrap();
+                second.release(o).unwrap();
+            }
+            let first = time(turns, || {
+                let o = pool.grant(black_box(160)).unwrap();
+                pool.release(black_box(o)).unwrap();
+            });
+            let room_now = second.tables().write();
+            let other = time(turns / 10 + 1, || {
+                black_box(Tables::read(len, black_box(&room_now)).is_some());
+                let o = second.grant(black_box(160)).unwrap();
+                black_box(Tables::read(len, black_box(&room_now)).is_some());
+                second.release(black_box(o)).unwrap();
+            });
+            let block = match blocks.last() {
+                Some(&o) => o,
+                None => {
+                    let o = pool.grant(160).unwrap();
+                    assert_eq!(second.grant(160), Ok(o));
+                    o
+                }
+            };
+            let measured = time(turns, || {
+                black_box(pool.measure(black_box(block)).unwrap());
+            });
+            let measured_other = time(turns / 10 + 1, || {
+                black_box(Tables::read(len, black_box(&room_now)).is_some());
+                black_box(second.measure(black_box(block)).unwrap());
+            });
+            println!(
+                "{:<22} {:>26} {:>26} {:>26} {:>26}",
+                format!("{kib} KiB, {name}"),
+                show(&first),
+                show(&other),
+                show(&measured),
+                show(&measured_other)
+            );
+        }
+    }
+
+    println!("\nthe soundness check alone (a measure of offset 1, answer 4) beside a plain read of the room");
+    println!("{:<30} {:>26} {:>26} {:>8}", "arena", "check", "plain read", "ratio");
+    for kib in [4, 16, 64, 256] {
+        let len = 1024 * kib;
+        for (name, size) in [("all rows free", None), ("full of 160-byte blocks", Some(160)), ("full of 12-byte blocks", Some(12))] {
+            let (mut arena, mut room) = (vec![0; len], vec![0; room_len(len)]);
+            let mut pool = Pool::set_up(&mut arena, &mut room).unwrap();
+            if let Some(n) = size {
+                while pool.grant(n).is_ok() {}
+            }
+            let turns = 60_000 / kib + 100;
+            let check = time(turns, || {
+                black_box(pool.measure(black_box(1)).is_err());
+            });
+            let bytes = pool.room().to_vec();
+            let read = time(turns, || {
+                black_box(black_box(&bytes).iter().fold(0u8, |seen, &b| seen | b));
+            });
+            println!(
+                "{:<30} {:>26} {:>26} {:>8.1}",
+                format!("{kib} KiB, {name}"),
+                show(&check),
+                show(&read),
+                check.median / read.median
+            );
+        }
+    }
+}

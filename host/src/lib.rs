@@ -1,0 +1,210 @@
+//! A safe interface of the slot pool: blocks of a lent arena of bytes, with the tables in a lent room of their own.
+//!
+//! ```
+//! let mut arena = vec![0; 4096];
+//! let mut room = vec![0; slotpool::room_len(4096)];
+//! let mut pool = slotpool::Pool::set_up(&mut arena, &mut room).unwrap();
+//!
+//! let block = pool.grant(160).unwrap();
+//! pool.arena_mut()[block..block + 160].fill(7);
+//! assert_eq!(pool.measure(block), Ok(160));
+//! pool.release(block).unwrap();
+//! assert_eq!(pool.release(block), Err(slotpool::Refusal::NoSuchBlock));
+//! ```
+
+pub mod reference;
+
+use std::fmt;
+
+/// Why a call was refused. A refused call changes no byte.
+#[derive(Clone, Copy, Debug, PartialEq, Eq, Hash)]
+pub enum Refusal {
+    BadArena = 1,
+    Unsound = 2,
+    TooLarge = 3,
+    NoSuchBlock = 4,
+    AlreadyFree = 5,
+    HeaderDamaged = 6,
+    Overrun = 7,
+    NoRoom = 8,
+}
+
+impl Refusal {
+    fn of(number: u32) -> Refusal {
+        match number {
+            1 => Refusal::BadArena,
+            2 => Refusal::Unsound,
+            3 => Refusal::TooLarge,
+            4 => Refusal::NoSuchBlock,
+            5 => Refusal::AlreadyFree,
+            6 => Refusal::HeaderDamaged,
+            7 => Refusal::Overrun,
+            8 => Refusal::NoRoom,
+            _ => unreachable!("the library answers 0 to 8"),
+        }
+    }
+}
+
+impl fmt::Display for Refusal {
+    fn fmt(&self, f: &mut fmt::Formatter<'_>) -> fmt::Result {
+        f.write_str(match self {
+            Refusal::BadArena => "bad arena",
+            Refusal::Unsound => "unsound",
+            Refusal::TooLarge => "too large",
+            Refusal::NoSuchBlock => "no such block",
+            Refusal::AlreadyFree => "already free",
+            Refusal::HeaderDamaged => "header damaged",
+            Refusal::Overrun => "overrun",
+            Refusal::NoRoom => "no room",
+        })
+    }
+}
+
+impl std::error::Error for Refusal {}
+
+/// The six totals of [`Pool::report`].
+#[derive(Clone, Copy, Debug, Default, PartialEq, Eq)]
+pub struct Totals {
+    pub live_blocks: usize,
+    pub requested_bytes: usize,
+    pub rows_held: usize,
+    pub rows_free: usize,
+    pub ready_slots: usize,
+    pub waiting_slots: usize,
+}
+
+mod sys {
+    extern "C" {
+        pub fn slotpool_room_len(arena_len: usize) -> usize;
+        pub fn slotpool_set_up(arena: *mut u8, arena_len: usize, room: *mut u8, room_len: usize) -> u32;
+        pub fn slotpool_grant(arena: *mut u8, arena_len: usize, room: *mut u8, room_len: usize, n: usize, value: *mut usize) -> u32;
+        pub fn slotpool_release(arena: *mut u8, arena_len: usize, room: *mut u8, room_len: usize, offset: usize) -> u32;
+        pub fn slotpool_resize(
+            arena: *mut u8,
+            arena_len: usize,
+            room: *mut u8,
+            room_len: usize,
+            offset: usize,
+            n: usize,
+            value: *mut usize,
+        ) -> u32;
+        pub fn slotpool_measure(
+            arena: *const u8,
+            arena_len: usize,
+            room: *const u8,
+            room_len: usize,
+            offset: usize,
+            value: *mut usize,
+        ) -> u32;
+        pub fn slotpool_report(arena: *const u8, arena_len: usize, room: *const u8, room_len: usize, totals: *mut usize) -> u32;
+    }
+}
+
+/// The exact size of the table room for an arena, or 0 where the arena's length is outside the rule.
+pub fn room_len(arena_len: usize) -> usize {
+    unsafe { sys::slotpool_room_len(arena_len) }
+}
+
+fn answer<T>(number: u32, value: T) -> Result<T, Refusal> {
+    if number == 0 {
+        Ok(value)
+    } else {
+        Err(Refusal::of(number))
+    }
+}
+
+/// A pool over a lent arena and a lent table room.
+pub struct Pool<'a> {
+    arena: &'a mut [u8],
+    room: &'a mut [u8],
+}
+
+impl<'a> Pool<'a> {
+    /// Makes a pool with no blocks. The room must have [`room_len`] bytes.
+    pub fn set_up(arena: &'a mut [u8], room: &'a mut [u8]) -> Result<Pool<'a>, Refusal> {
+        let number = unsafe { sys::slotpool_set_up(arena.as_mut_ptr(), arena.len(), room.as_mut_ptr(), room.len()) };
+        answer(number, Pool { arena, room })
+    }
+
+    /// A pool over buffers that hold one already, or hold anything: every call checks them.
+    pub fn over(arena: &'a mut [u8], room: &'a mut [u8]) -> Pool<'a> {
+        Pool { arena, room }
+    }
+
+    /// Grants a block of `n` zero bytes and gives its offset in the arena.
+    pub fn grant(&mut self, n: usize) -> Result<usize, Refusal> {
+        let mut value = 0;
+        let number = unsafe {
+            sys::slotpool_grant(self.arena.as_mut_ptr(), self.arena.len(), self.room.as_mut_ptr(), self.room.len(), n, &mut value)
+        };
+        answer(number, value)
+    }
+
+    /// Takes the block at an offset back.
+    pub fn release(&mut self, offset: usize) -> Result<(), Refusal> {
+        let number = unsafe {
+            sys::slotpool_release(self.arena.as_mut_ptr(), self.arena.len(), self.room.as_mut_ptr(), self.room.len(), offset)
+        };
+        answer(number, ())
+    }
+
+    /// Gives the block at an offset another size, and gives its offset from then on.
+    pub fn resize(&mut self, offset: usize, n: usize) -> Result<usize, Refusal> {
+        let mut value = 0;
+        let number = unsafe {
+            sys::slotpool_resize(
+                self.arena.as_mut_ptr(),
+                self.arena.len(),
+                self.room.as_mut_ptr(),
+                self.room.len(),
+                offset,
+                n,
+                &mut value,
+            )
+        };
+        answer(number, value)
+    }
+
+    /// The size of the block at an offset.
+    pub fn measure(&self, offset: usize) -> Result<usize, Refusal> {
+        let mut value = 0;
+        let number = unsafe {
+            sys::slotpool_measure(self.arena.as_ptr(), self.arena.len(), self.room.as_ptr(), self.room.len(), offset, &mut value)
+        };
+        answer(number, value)
+    }
+
+    /// The totals of the pool.
+    pub fn report(&self) -> Result<Totals, Refusal> {
+        let mut t = [0; 6];
+        let number = unsafe {
+            sys::slotpool_report(self.arena.as_ptr(), self.arena.len(), self.room.as_ptr(), self.room.len(), t.as_mut_ptr())
+        };
+        answer(
+            number,
+            Totals {
+                live_blocks: t[0],
+                requested_bytes: t[1],
+                rows_held: t[2],
+                rows_free: t[3],
+                ready_slots: t[4],
+                waiting_slots: t[5],
+            },
+        )
+    }
+
+    /// The arena, for reading.
+    pub fn arena(&self) -> &[u8] {
+        self.arena
+    }
+
+    /// The arena, for writing packets into granted blocks.
+    pub fn arena_mut(&mut self) -> &mut [u8] {
+        self.arena
+    }
+
+    /// The tables, for keeping or looking at them.
+    pub fn room(&self) -> &[u8] {
+        self.room
+    }
+}

@@ -1,0 +1,403 @@
+//! A second implementation of the pool, written from the papers alone, with a plain state of its own: a list of groups, each a list
+//! of slots. It is for comparison; it is not what the library runs.
+
+use crate::{Refusal, Totals};
+
+const UNITS: [usize; 48] = [
+    1, 2, 3, 4, 5, 6, 7, 8, 9, 10, 12, 15, 18, 20, 25, 31, 36, 42, 50, 63, 72, 84, 102, 127, 146, 170, 204, 255, 292, 340, 409, 511, 584, 682,
+    818, 1023, 1169, 1364, 1637, 2047, 2340, 2730, 3276, 4095, 4680, 5460, 6552, 8191,
+];
+
+const ROW: usize = 512;
+pub const TOO_LARGE: usize = 131_052;
+
+/// Bytes of a slot of a class.
+pub fn slot_bytes(class: usize) -> usize {
+    16 * UNITS[class]
+}
+
+/// The least class whose slot has `n + 4` bytes.
+pub fn class_of(n: usize) -> usize {
+    (0..48).find(|&c| slot_bytes(c) >= n + 4).expect("a size below 131,052 has a class")
+}
+
+/// Slots of a group.
+pub fn slots_of(class: usize) -> usize {
+    (4080 / slot_bytes(class)).clamp(1, 31)
+}
+
+/// Rows of a group.
+pub fn rows_of(class: usize) -> usize {
+    (16 + slot_bytes(class) * slots_of(class)).div_ceil(ROW)
+}
+
+#[derive(Clone, Copy, Debug, PartialEq, Eq)]
+pub enum State {
+    Ready,
+    Waiting,
+    Live,
+}
+
+#[derive(Clone, Copy, Debug, PartialEq, Eq)]
+pub struct Slot {
+    pub state: State,
+    /// The displacement of its last start, once it was granted in this group.
+    pub last: Option<usize>,
+    pub count: u8,
+    pub size: usize,
+}
+
+#[derive(Clone, Debug, PartialEq, Eq)]
+pub struct Group {
+    pub class: usize,
+    pub first_row: usize,
+    pub slots: Vec<Slot>,
+}
+
+impl Group {
+    fn beginning(&self, i: usize) -> usize {
+        ROW * self.first_row + 16 + i * slot_bytes(self.class)
+    }
+
+    fn has_room(&self) -> bool {
+        self.slots.iter().any(|s| s.state != State::Live)
+    }
+}
+
+/// What a sound table room says: the arena's rows and its groups, by their first rows.
+#[derive(Clone, Debug, PartialEq, Eq)]
+pub struct Tables {
+    pub rows: usize,
+    pub groups: Vec<Group>,
+}
+
+fn number(bytes: &[u8]) -> usize {
+    bytes.iter().rev().fold(0, |n, &b| 256 * n + b as usize)
+}
+
+impl Tables {
+    /// The byte form of docs/TABLES.md.
+    pub fn write(&self) -> Vec<u8> {
+        let mut room = vec![0; 16 + 264 * self.rows];
+        room[..4].copy_from_slice(&((ROW * self.rows) as u32).to_le_bytes());
+        for g in &self.groups {
+            let at = 16 + 264 * g.first_row;
+            room[at] = 1;
+            room[at + 1] = g.class as u8;
+            for k in 1..rows_of(g.class) {
+                room[at + 264 * k] = 2;
+                room[at + 264 * k + 1] = k as u8;
+            }
+            for (i, s) in g.slots.iter().enumerate() {
+                match s.state {
+                    State::Ready => room[at + 8 + i / 8] |= 1 << (i % 8),
+                    State::Waiting => room[at + 12 + i / 8] |= 1 << (i % 8),
+                    State::Live => {}
+                }
+                if let Some(d) = s.last {
+                    let r = at + 16 + 8 * i;
+                    room[r] = 1;
+                    room[r + 1] = s.count;
+                    room[r + 2..r + 4].copy_from_slice(&(d as u16).to_le_bytes());
+                    room[r + 4..r + 7].copy_from_slice(&(s.size as u32).to_le_bytes()[..3]);
+                }
+            }
+        }
+        room
+    }
+
+    /// The tables that a room says, if they are sound under an arena of some length: read the fields, test the rules one by one,
+    /// and compare with the form of what was read.
+    pub fn read(arena_len: usize, room: &[u8]) -> Option<Tables> {
+        if !(ROW..=512 * ROW).contains(&arena_len) || arena_len % ROW != 0 {
+            return None;
+        }
+        let rows = arena_len / ROW;
+        if room.len() != 16 + 264 * rows || number(&room[..4]) != arena_len {
+            return None;
+        }
+        let mut tables = Tables { rows, groups: Vec::new() };
+        let mut row = 0;
+        while row < rows {
+            let record = &room[16 + 264 * row..][..264];
+            if record[0] != 1 {
+                row += 1;
+                continue;
+            }
+            let class = record[1] as usize;
+            if class >= 48 || row + rows_of(class) > rows {
+                return None;
+            }
+            let group = Group { class, first_row: row, slots: (0..slots_of(class)).map(|i| read_slot(record, i)).collect::<Option<_>>()? };
+            if !group.slots.iter().any(|s| s.state == State::Live) || !group.slots.iter().all(|s| slot_rule(class, s)) {
+                return None;
+            }
+            row += rows_of(class);
+            tables.groups.push(group);
+        }
+        if tables.write() != room {
+            return None;
+        }
+        Some(tables)
+    }
+}
+
+fn read_slot(record: &[u8], i: usize) -> Option<Slot> {
+    let bit = |at: usize| record[at + i / 8] >> (i % 8) & 1 == 1;
+    let state = match (bit(8), bit(12)) {
+        (true, true) => return None,
+        (true, false) => State::Ready,
+        (false, true) => State::Waiting,
+        (false, false) => State::Live,
+    };
+    let r = &record[16 + 8 * i..][..8];
+    let last = match r[0] {
+        0 => None,
+        1 => Some(number(&r[2..4])),
+        _ => return None,
+    };
+    Some(Slot { state, last, count: r[1], size: if state == State::Live { number(&r[4..7]) } else { 0 } })
+}
+
+fn slot_rule(class: usize, s: &Slot) -> bool {
+    let most = slot_bytes(class) - 4;
+    match (s.state, s.last) {
+        (State::Live, Some(d)) => {
+            16 * d + s.size <= most && s.size < TOO_LARGE && (class == class_of(s.size) || class == class_of(s.size) + 1)
+        }
+        (State::Live, None) => false,
+        (State::Ready | State::Waiting, Some(d)) => 16 * d <= most,
+        (State::Ready, None) => s.count == 0,
+        (State::Waiting, None) => false,
+    }
+}
+
+/// A pool with its arena.
+#[derive(Clone, Debug, PartialEq, Eq)]
+pub struct Reference {
+    pub arena: Vec<u8>,
+    pub groups: Vec<Group>,
+}
+
+/// Where a slot is: the group's place in the list, and the slot's number.
+#[derive(Clone, Copy)]
+struct At {
+    group: usize,
+    slot: usize,
+}
+
+impl Reference {
+    pub fn set_up(arena_len: usize) -> Reference {
+        Reference { arena: vec![0; arena_len], groups: Vec::new() }
+    }
+
+    /// A pool over an arena whose room is sound and says these tables.
+    pub fn over(arena: Vec<u8>, tables: Tables) -> Reference {
+        Reference { arena, groups: tables.groups }
+    }
+
+    pub fn tables(&self) -> Tables {
+        Tables { rows: self.arena.len() / ROW, groups: self.groups.clone() }
+    }
+
+    fn held(&self) -> Vec<bool> {
+        let mut held = vec![false; self.arena.len() / ROW];
+        for g in &self.groups {
+            held[g.first_row..g.first_row + rows_of(g.class)].fill(true);
+        }
+        held
+    }
+
+    pub fn grant(&mut self, n: usize) -> Result<usize, Refusal> {
+        if n >= TOO_LARGE {
+            return Err(Refusal::TooLarge);
+        }
+        let class = class_of(n);
+        let group = match self.groups.iter().position(|g| g.class == class && g.has_room()) {
+            Some(k) => k,
+            None => self.make_group(class)?,
+        };
+        let g = &mut self.groups[group];
+        if g.slots.iter().all(|s| s.state != State::Ready) {
+            for s in g.slots.iter_mut().filter(|s| s.state == State::Waiting) {
+                s.state = State::Ready;
+            }
+        }
+        let i = g.slots.iter().position(|s| s.state == State::Ready).expect("a slot that is not live is ready now");
+        let s = slot_bytes(class);
+        let t = (s - 4 - n) / 16;
+        let d = g.slots[i].count as usize % (t + 1);
+        g.slots[i] = Slot { state: State::Live, last: Some(d), count: g.slots[i].count.wrapping_add(1), size: n };
+        let begin = g.beginning(i);
+        self.arena[begin - 4..begin - 4 + s].fill(0);
+        self.mark(At { group, slot: i });
+        Ok(begin + 16 * d)
+    }
+
+    fn make_group(&mut self, class: usize) -> Result<usize, Refusal> {
+        let held = self.held();
+        let need = rows_of(class);
+        let first_row = (0..held.len())
+            .find(|&r| r + need <= held.len() && held[r..r + need].iter().all(|h| !h))
+            .ok_or(Refusal::NoRoom)?;
+        let fresh = Slot { state: State::Ready, last: None, count: 0, size: 0 };
+        let k = self.groups.iter().position(|g| g.first_row > first_row).unwrap_or(self.groups.len());
+        self.groups.insert(k, Group { class, first_row, slots: vec![fresh; slots_of(class)] });
+        Ok(k)
+    }
+
+    /// Writes the header and the guard of a live block.
+    fn mark(&mut self, at: At) {
+        let header = self.header(at);
+        let guard = self.guard(at);
+        let start = self.start(at);
+        self.arena[start - 4..start].copy_from_slice(&header);
+        let end = self.end(at);
+        self.arena[end - guard.len()..end].copy_from_slice(&guard);
+    }
+
+    fn start(&self, at: At) -> usize {
+        let g = &self.groups[at.group];
+        g.beginning(at.slot) + 16 * g.slots[at.slot].last.expect("a granted slot")
+    }
+
+    fn end(&self, at: At) -> usize {
+        let g = &self.groups[at.group];
+        g.beginning(at.slot) + slot_bytes(g.class) - 4
+    }
+
+    fn reserved(&self, at: At) -> usize {
+        self.end(at) - self.start(at) - self.groups[at.group].slots[at.slot].size
+    }
+
+    fn header(&self, at: At) -> [u8; 4] {
+        let g = &self.groups[at.group];
+        let place = (at.slot * UNITS[g.class] + g.slots[at.slot].last.expect("a granted slot")) as u16;
+        let [low, high] = place.to_le_bytes();
+        [0, (at.slot + 32 * self.reserved(at).min(5)) as u8, low, high]
+    }
+
+    fn guard(&self, at: At) -> Vec<u8> {
+        let r = self.reserved(at);
+        if r < 5 {
+            return Vec::new();
+        }
+        let mut g = vec![0];
+        g.extend_from_slice(&(r as u32).to_le_bytes());
+        g
+    }
+
+    /// The live, undamaged block at an offset.
+    fn block(&self, offset: usize) -> Result<At, Refusal> {
+        let mut found = None;
+        for (group, g) in self.groups.iter().enumerate() {
+            for (slot, s) in g.slots.iter().enumerate() {
+                if s.last.is_some_and(|d| g.beginning(slot) + 16 * d == offset) {
+                    found = Some((At { group, slot }, s.state));
+                }
+            }
+        }
+        let (at, state) = found.ok_or(Refusal::NoSuchBlock)?;
+        if state != State::Live {
+            return Err(Refusal::AlreadyFree);
+        }
+        if self.arena[offset - 4..offset] != self.header(at) {
+            return Err(Refusal::HeaderDamaged);
+        }
+        let guard = self.guard(at);
+        let end = self.end(at);
+        if self.arena[end - guard.len()..end] != guard[..] {
+            return Err(Refusal::Overrun);
+        }
+        Ok(at)
+    }
+
+    fn give_back(&mut self, at: At) {
+        let g = &mut self.groups[at.group];
+        let (begin, s) = (g.beginning(at.slot), slot_bytes(g.class));
+        g.slots[at.slot].state = State::Waiting;
+        g.slots[at.slot].size = 0;
+        self.arena[begin - 4..begin - 4 + s].fill(0);
+        if g.slots.iter().all(|s| s.state != State::Live) {
+            let from = ROW * g.first_row;
+            let to = from + ROW * rows_of(g.class);
+            self.arena[from..to].fill(0);
+            self.groups.remove(at.group);
+        }
+    }
+
+    pub fn release(&mut self, offset: usize) -> Result<(), Refusal> {
+        let at = self.block(offset)?;
+        self.give_back(at);
+        Ok(())
+    }
+
+    pub fn resize(&mut self, offset: usize, n: usize) -> Result<usize, Refusal> {
+        if n >= TOO_LARGE {
+            return Err(Refusal::TooLarge);
+        }
+        let at = self.block(offset)?;
+        let g = &self.groups[at.group];
+        let kept = g.slots[at.slot].size.min(n);
+        let end = self.end(at);
+        if offset + n <= end && g.class <= class_of(n) + 1 {
+            self.groups[at.group].slots[at.slot].size = n;
+            self.arena[offset + kept..end].fill(0);
+            self.mark(at);
+            return Ok(offset);
+        }
+        let start = self.grant(n)?;
+        self.arena.copy_within(offset..offset + kept, start);
+        let old = self.block(offset).expect("the old block is live and undamaged");
+        self.give_back(old);
+        Ok(start)
+    }
+
+    pub fn measure(&self, offset: usize) -> Result<usize, Refusal> {
+        let at = self.block(offset)?;
+        Ok(self.groups[at.group].slots[at.slot].size)
+    }
+
+    pub fn report(&self) -> Totals {
+        let mut t = Totals::default();
+        for s in self.groups.iter().flat_map(|g| &g.slots) {
+            match s.state {
+                State::Live => {
+                    t.live_blocks += 1;
+                    t.requested_bytes += s.size;
+                }
+                State::Ready => t.ready_slots += 1,
+                State::Waiting => t.waiting_slots += 1,
+            }
+        }
+        t.rows_held = self.groups.iter().map(|g| rows_of(g.class)).sum();
+        t.rows_free = self.arena.len() / ROW - t.rows_held;
+        t
+    }
+
+    /// Every live block: start and size.
+    pub fn live(&self) -> Vec<(usize, usize)> {
+        let mut blocks = Vec::new();
+        for g in &self.groups {
+            for (i, s) in g.slots.iter().enumerate() {
+                if let (State::Live, Some(d)) = (s.state, s.last) {
+                    blocks.push((g.beginning(i) + 16 * d, s.size));
+                }
+            }
+        }
+        blocks
+    }
+
+    /// Every last start of a slot that is not live.
+    pub fn freed(&self) -> Vec<usize> {
+        let mut starts = Vec::new();
+        for g in &self.groups {
+            for (i, s) in g.slots.iter().enumerate() {
+                if let (State::Ready | State::Waiting, Some(d)) = (s.state, s.last) {
+                    starts.push(g.beginning(i) + 16 * d);
+                }
+            }
+        }
+        starts
+    }
+}
