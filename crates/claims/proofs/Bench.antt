@@ -13,7 +13,7 @@ use Rattle.model.specs.Answers.{refusal}
 use Rattle.model.specs.Plans.{grants, freshPool, plan, grant}
 use Rattle.model.specs.Tables.{encode, sound}
 use Rattle.model.specs.Calls.{call, checked, carried, keeps}
-use Rattle.model.proofs.Tables.{Sound, sound-facts}
+use Rattle.model.proofs.Tables.{sound-facts}
 use Rattle.model.proofs.Fresh.{set-up-done, set-up-sound}
 use Rattle.claims.specs.Bench.{TooLargeAnywhere}
 

@@ -24,7 +24,7 @@ use Rattle.model.specs.Calls.{write, written}
 use Rattle.model.proofs.Formed.{on-block}
 use Rattle.claims.specs.Demand3.{sizeAt, Gains, Cleared}
 use Rattle.claims.proofs.Cells.{header-length}
-use Rattle.claims.proofs.Steps.{reserve-size}
+use Rattle.model.proofs.Reserve.{reserve-size}
 
 -- ---- what is read after a write
 
@@ -103,7 +103,7 @@ module _ (row : ℕ) where
 
           go : n < tooLarge → (r : Option Place) → reserve row P n ≡ r → M (grantAt row P r)
           go h none e z i g = absurd (omega arith)
-          go h (some q) e z i g = framed q a i (g .0) (omega (arith, g .1, reserve-size row pos P n q w h e))
+          go h (some q) e z i g = framed q a i (g .0) (omega (arith, g .1, reserve-size row P n q w e))
 
       move-cleared : (p : Place) (n : ℕ) → n < tooLarge → resizeAnswer (resizeMove row P p n .answer) .number ≡ 0
           → (j : ℕ) → getD (resizeAnswer (resizeMove row P p n .answer) .values) 0 0 + min (size (p .state)) n ≤ j
@@ -125,7 +125,7 @@ module _ (row : ℕ) where
               let bs : List ℕ = part (start row p) k b in
               let s : start row q + length bs ≤ j = omega (arith, length-take k (drop (start row p) b)) in
               release-zero (poolOf q) (start row p) (put (start row q) bs b) j
-              (past-put (start row q) bs b j s ∙ framed q a j (omega arith) (omega (arith, reserve-size row pos P n q w h e)))
+              (past-put (start row q) bs b j s ∙ framed q a j (omega arith) (omega (arith, reserve-size row P n q w e)))
 
       resize-cleared : (o n : ℕ) → Cleared row P (resizes o n) (resizeAnswer (resize row P o n .answer)) (written a (resize row P o n .changes))
       unfolding Cleared resize resizeAt

@@ -1,12 +1,12 @@
 -- Demand 2: release, measure and grant accept exactly what document 01 says, a granted block is where and what it says, and live blocks
 -- never share a byte.
-use Prim.Native.Nat.{ℕ, zero, suc, _+_, _*_, _-_, _/_, _≤_, _<_}
+use Prim.Native.Nat.{ℕ, zero, suc, _+_, _*_, _-_, _≤_, _<_}
 use mathlib.Core.Path.{_≡_, refl, sym, subst, ap, ap₂, _∙_}
 use mathlib.Core.Bool.{Bool, true, false, not}
 use mathlib.Core.Logic.{_⊎_, _↔_, inl, inr, ⊎-elim}
 use mathlib.Core.Option.{Option, none, some}
 use mathlib.Core.List.{List, [], _∷_, _++_}
-use native.Mathlib.Nat.{mul-le-mul-right, mul-add, suc-mul, mul-comm, le-div-iff-mul-le, div-lt-iff-lt-mul}
+use native.Mathlib.Nat.{mul-add, suc-mul}
 use native.Mathlib.Omega.{arith}
 use borrow.Author.Tests.{leb-false}
 use lib.Dec.{T, leb, T-not}
@@ -30,7 +30,7 @@ use Rattle.model.proofs.Rooms.{rows-append}
 use Rattle.model.proofs.Fresh.{set-up-done, set-up-sound}
 use Rattle.model.proofs.Formed.{Formed, plan-formed}
 use Rattle.model.proofs.Calls.{Asks, call-unsound, call-sound, carriedOut, carried-whole, carried-damaged}
-use Rattle.model.proofs.Lookup.{Fits, fits, disp-inside, slot-inside, InRows, span-unique, split-unique, same-placed}
+use Rattle.model.proofs.Lookup.{Fits, fits, disp-inside, slot-inside, Owns, owned-unique}
 use Rattle.model.proofs.Reserve.{groupOf, Served, served, reserve-formed, site-lowest, first-lowest}
 use Rattle.claims.specs.Demand1.{Reason, unsound, noSuchBlock, alreadyFree, headerDamaged, overrun, order, offsetIn, FirstDue, StartsAt, LiveAt, headerDue, guardDue, NoPlace, Due}
 use Rattle.claims.specs.Demand2.{Intact, ReleasesExactly, MeasuresExactly, GrantsExactly, AllLive, Granted, GrantsAsSaid, InBlock, NeverShared, LeavesSound}
@@ -217,48 +217,22 @@ grants-as-said row pos a t n z = let (q, k) = took row a t n z in (q, said q k)
 
 -- ---- live blocks never share a byte
 
--- the slots of a group do not overlap: a byte x lies in one
-one-slot : (S i j x : ℕ) → i * S ≤ x → x < suc i * S → j * S ≤ x → x < suc j * S → i ≡ j
-one-slot S i j x a b c d =
-    let f : i < j → ⊥ = λ l. omega (arith, mul-le-mul-right S l) in
-    let g : j < i → ⊥ = λ l. omega (arith, mul-le-mul-right S l) in
-    omega arith
-
 module _ (row : ℕ) (pos : 0 < row) where
-  -- a byte of a block lies in its slot, and its row is one of its group's
-  record InSlot (p : Place) (i : ℕ) : Type 0 where
-    from : row * rows row (p .before) + 12 + slotNumber p * slotBytes (p .cls) ≤ i
-    to : i < row * rows row (p .before) + 12 + suc (slotNumber p) * slotBytes (p .cls)
-    group-rows : InRows row pos (i / row) (p .before) (groupOf p)
-
-  in-slot : (p : Place) (i : ℕ) → T (wellFormed (poolOf p)) → InBlock row p i → InSlot p i
-  in-slot p i w b = record {
-    from = omega (arith, b .from);
-    to = omega (arith, b .to, suc-mul (slotNumber p) (slotBytes (p .cls)));
-    group-rows = record {
-      from = le-div-iff-mul-le pos .1 (omega (arith, b .from, mul-comm row (rows row (p .before))));
-      to = div-lt-iff-lt-mul pos .1
-          (omega (
-            arith,
-            b .to,
-            slot-inside row pos p w,
-            suc-mul (slotNumber p) (slotBytes (p .cls)),
-            mul-comm (rows row (p .before) + rowsOf row (p .cls)) row,
-            mul-add row (rows row (p .before)) (rowsOf row (p .cls)),
-          ));
-    };
-  }
+  -- a byte of a block is one that its slot owns
+  in-slot : (p : Place) (i : ℕ) → InBlock row p i → Owns row p i
+  in-slot p i b = record { from = omega (arith, b .from); to = b .to }
 
   pub never-shared : NeverShared row
   never-shared n t h = record {
-    shared = λ p q i e f _ _ b d. one p q i (in-slot p i (of p e) b) (in-slot q i (of q f) d) (e ∙ sym f);
+    shared = λ p q i e f _ _ b d. owned-unique row pos q p i (of q f) (e ∙ sym f) (in-slot q i d) (in-slot p i b);
     inside = λ p i e _ b.
         let g : rows row (view row t) ≡ rows row (p .before) + (rowsOf row (p .cls) + rows row (p .after)) =
         ap (rows row) (sym e) ∙ rows-append row (p .before) (groupOf p ∷ p .after) in
         omega (
           arith,
-          in-slot p i (of p e) b .to,
+          b .to,
           slot-inside row pos p (of p e),
+          suc-mul (slotNumber p) (slotBytes (p .cls)),
           ap (λ k. row * k) g,
           mul-add row (rows row (p .before)) (rowsOf row (p .cls) + rows row (p .after)),
           mul-add row (rowsOf row (p .cls)) (rows row (p .after)),
@@ -271,23 +245,6 @@ module _ (row : ℕ) (pos : 0 < row) where
     where
       of : (p : Place) → poolOf p ≡ view row t → T (wellFormed (poolOf p))
       of p e = subst (λ P. T (wellFormed P)) (sym e) (sound-facts row n t h .formed)
-
-      one : (p q : Place) (i : ℕ) → InSlot p i → InSlot q i → poolOf p ≡ poolOf q → p ≡ q
-      one p q i b d e =
-          let u : (p .before ≡ q .before) × (groupOf p ≡ groupOf q) × (p .after ≡ q .after) =
-          span-unique row pos (i / row) (p .before) (groupOf p) (p .after) (q .before) (groupOf q) (q .after) e (b .group-rows) (d .group-rows) in
-          let k : groupOf p ≡ groupOf q = u .1 in
-          let c : p .cls ≡ q .cls = cc in
-          let l : p .lower ++ (p .state ∷ p .upper) ≡ q .lower ++ (q .state ∷ q .upper) = cc in
-          let m : slotBytes (p .cls) ≡ slotBytes (q .cls) = ap slotBytes c in
-          let r : row * rows row (p .before) ≡ row * rows row (q .before) = ap (λ X. row * rows row X) (u .0) in
-          let j : slotNumber p ≡ slotNumber q =
-          one-slot (slotBytes (q .cls)) (slotNumber p) (slotNumber q) (i - (row * rows row (q .before) + 12))
-          (omega (arith, b .from, ap (λ z. slotNumber p * z) m)) (omega (arith, b .from, b .to, ap (λ z. suc (slotNumber p) * z) m))
-          (omega (arith, d .from)) (omega (arith, d .from, d .to)) in
-          let v : (p .lower ≡ q .lower) × (p .state ≡ q .state) × (p .upper ≡ q .upper) =
-          split-unique (p .lower) (p .upper) (q .lower) (q .upper) (p .state) (q .state) l j in
-          same-placed (u .0) c (v .0) (v .1) (v .2) (u .2)
 
 -- ---- every accepted call leaves sound tables
 

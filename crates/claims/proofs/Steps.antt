@@ -20,11 +20,11 @@ use Rattle.model.specs.declared.Slot.the-variants.{Fresh, Idle, Live}
 use Rattle.model.specs.declared.Release.{Release}
 use Rattle.model.specs.State.{Span, Pool, Place, group, isLive, disp, size, slotSound, wellFormed, poolOf, become, slotNumber, rows, base, start}
 use Rattle.model.specs.Blocks.{frame}
-use Rattle.model.specs.Plans.{Plan, Site, turnReady, refill, grantSlot, grantIn, site, reserve, enframe, grantAt, grant, vacant, releaseAt, release}
+use Rattle.model.specs.Plans.{Plan, Site, turnReady, refill, grantIn, site, reserve, enframe, grantAt, grant, vacant, releaseAt, release}
 use Rattle.model.specs.Plans.{inPlace, resizeInPlace, moveTo, resizeMove, resizeAt, resize, measureAt, measure, report, freshPool, Call, setsUp, grants, releases, resizes, measures, reports, plan}
 use Rattle.model.specs.Calls.{write, written, damaged}
 use Rattle.model.proofs.Lookup.{Fits, fits, disp-inside}
-use Rattle.model.proofs.Reserve.{Open, New, site-found, Served, served, reserve-formed, refill-sound, grant-live}
+use Rattle.model.proofs.Reserve.{Open, New, site-found, Served, served, reserve-formed, refill-sound, grant-live, reserve-size}
 use Rattle.model.proofs.Formed.{become-fits, vacant-sound, on-block}
 use Rattle.claims.proofs.Cells.{due, slotCells, slotsCells, live-cells, pad, spanCells, cells, cells-append, cells-length, group-length, fresh-pool-cells, zeros-due, due-zeros}
 use Rattle.claims.proofs.Cells.{Agrees, agrees-length, agrees-due, agrees-put}
@@ -81,10 +81,6 @@ module _ (row : ℕ) (pos : 0 < row) where
     reserve-fits =
         let v : Served row P n q = served row P n q w r in
         (fits q (reserve-formed row P n q w h r .formed), subst (λ x. T (isLive x)) (sym (v .taken .state)) (grant-live (classOf n) n (v .taken .old)))
-
-    pub reserve-size : size (q .state) ≡ n
-    unfolding grantSlot
-    reserve-size = let v : Served row P n q = served row P n q w r in ap size (v .taken .state)
 
     -- framed in an arena that agrees, it leaves one that agrees
     pub reserve-agrees : (a : List ℕ) → Agrees (cells row P) a → Agrees (cells row (poolOf q)) (write a (enframe row q))
@@ -202,7 +198,7 @@ module _ (row : ℕ) (pos : 0 < row) where
         go (some q) r =
             let b : List ℕ = write a (enframe row q) in
             let bs : List ℕ = part (start row p) (min (size (p .state)) n) b in
-            let z : size (q .state) ≡ n = reserve-size P n q w h r in
+            let z : size (q .state) ≡ n = reserve-size row P n q w r in
             let j : length bs ≤ size (q .state) = omega (arith, length-take (min (size (p .state)) n) (drop (start row p) b)) in
             let k : Agrees (cells row (poolOf q)) (put (start row q) bs b) =
             copied row pos q (reserve-fits P n q w h r .0) (reserve-fits P n q w h r .1) b bs j (reserve-agrees P n q w h r a g) in

@@ -1,22 +1,20 @@
 -- The tables' claims hold for rows of 512 bytes.
-use Prim.Native.Nat.{ℕ, zero, suc, _+_, _*_, _-_, _/_, _%_, _^_, _≤_, _<_}
+use Prim.Native.Nat.{ℕ, _+_, _*_, _-_, _/_, _%_, _^_, _≤_, _<_}
 use mathlib.Core.Path.{_≡_, refl, sym, ap, _∙_}
-use mathlib.Core.Bool.{Bool, true, false, _&&_}
-use mathlib.Core.List.{List, [], _∷_, _++_}
+use mathlib.Core.Bool.{Bool, true, false}
+use mathlib.Core.List.{List}
 use native.Mathlib.Nat.{mul-div-cancel-left}
 use native.Mathlib.Omega.{arith}
-use lib.Dec.{T, leb, eqb, leb→le, eqb→eq, lit≤, lit<}
+use lib.Dec.{T, leb→le, lit≤}
 use lib.ListN.{length, getD}
-use Rattle.mem.specs.Lists.{choose}
-use Rattle.mem.specs.Bytes.{zeros, low, number}
-use Rattle.mem.proofs.Tests.{and-left, and-right, same-test, T-true, choose-true, choose-case}
-use Rattle.mem.proofs.Laws.{zeros-length, zeros-at, number-low}
-use Rattle.classes.specs.Classes.{rowBytes, rowsOf}
+use Rattle.mem.specs.Bytes.{zeros}
+use Rattle.mem.proofs.Tests.{and-left, and-right, T-true, choose-true, choose-case}
+use Rattle.mem.proofs.Laws.{zeros-at, number-low}
+use Rattle.classes.specs.Classes.{rowBytes}
 use Rattle.classes.proofs.Laws.{rows-small}
-use Rattle.model.specs.State.{Pool, wellFormed, rows}
+use Rattle.model.specs.State.{rows}
 use Rattle.model.specs.Tables.{encode, view, sound, arenaRight, roomBytes, roomFor}
 use Rattle.model.proofs.Tables.{Sound, sound-facts, view-encode, encode-sound, encode-length, encode-bytes, Bytes}
-use Rattle.model.proofs.Fresh.{whole-rows}
 use Rattle.claims.specs.Tables.{TableForm}
 
 -- what a test refutes is false

@@ -2,9 +2,9 @@
 -- accepts an offset exactly if it starts a live block whose header and guard are intact. A grant is refused exactly if the size is
 -- 131,052 or more, the tables are unsound, or neither a free slot of its class nor a long enough run of free rows exists. Live blocks
 -- never share a byte."
-use Prim.Native.Nat.{ℕ, suc, _+_, _*_, _≤_, _<_}
+use Prim.Native.Nat.{ℕ, _+_, _*_, _≤_, _<_}
 use mathlib.Core.Path.{_≡_}
-use mathlib.Core.Bool.{Bool, not}
+use mathlib.Core.Bool.{not}
 use mathlib.Core.Logic.{_⊎_, _↔_}
 use mathlib.Core.List.{List, [], _∷_, _++_}
 use lib.Dec.{T}
@@ -14,7 +14,7 @@ use Rattle.mem.specs.Bytes.{put}
 use Rattle.classes.specs.Classes.{slotBytes, classOf, slotsOf, rowsOf, tooLarge}
 use Rattle.model.specs.declared.Slot.{Slot}
 use Rattle.model.specs.declared.Slot.the-variants.{Fresh}
-use Rattle.model.specs.State.{Pool, Place, group, isLive, isReady, disp, size, wellFormed, poolOf, slotNumber, rows, owned, start}
+use Rattle.model.specs.State.{Pool, Place, group, isLive, isReady, disp, size, poolOf, slotNumber, rows, owned, start}
 use Rattle.model.specs.Blocks.{frame}
 use Rattle.model.specs.Plans.{Call, grants, releases, measures, refill, grantSlot, freshPool}
 use Rattle.model.specs.Tables.{sound, view}

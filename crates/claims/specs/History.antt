@@ -1,9 +1,9 @@
 -- The history of report: "Counted from the last set up that was done, with any calls since and the tables always lent as the last call
 -- left them, live blocks equals accepted grants less accepted releases; requested bytes is the sum of the latest sizes of blocks
 -- granted and not released; rows held plus rows free is the arena's rows."
-use Prim.Native.Nat.{ℕ, zero, suc, _+_, _/_}
+use Prim.Native.Nat.{ℕ, suc, _+_, _/_}
 use mathlib.Core.Path.{_≡_}
-use mathlib.Core.Bool.{Bool, not}
+use mathlib.Core.Bool.{not}
 use mathlib.Core.List.{List, [], _∷_}
 use lib.Dec.{T, eqb}
 use lib.ListN.{length, getD}

@@ -1,24 +1,18 @@
 -- What a call is, case by case: unsound tables, a refusal, a grant, a block that is named.
-use Prim.Native.Nat.{ℕ, zero, suc, _+_, _*_, _-_, _≤_, _<_}
-use mathlib.Core.Path.{_≡_, refl, sym, ap, ap₂, _∙_}
-use mathlib.Core.Bool.{Bool, true, false, _&&_}
-use mathlib.Core.Option.{Option, none, some}
-use mathlib.Core.List.{List, [], _∷_, _++_}
+use Prim.Native.Nat.{ℕ, suc, _-_}
+use mathlib.Core.Path.{_≡_, refl, sym, ap, _∙_}
+use mathlib.Core.Bool.{true, false}
+use mathlib.Core.Option.{some}
+use mathlib.Core.List.{List}
 use lib.Dec.{T, eqb, eqb·suc-zero}
 use lib.ListN.{length}
-use borrow.Author.Tests.{le-leb, lt-leb}
-use Rattle.mem.specs.Lists.{choose}
 use Rattle.mem.proofs.Tests.{choose-true, choose-false, true-T, T-true}
-use Rattle.classes.specs.Classes.{tooLarge}
-use Rattle.model.specs.declared.Grant.{Grant}
-use Rattle.model.specs.declared.Resize.{Resize}
-use Rattle.model.specs.State.{Pool, Place, isLive, poolOf, start}
-use Rattle.model.specs.Blocks.{damage}
-use Rattle.model.specs.Answers.{Answer, refusal, grantAnswer, resizeAnswer}
-use Rattle.model.specs.Plans.{Plan, Call, setsUp, grants, releases, resizes, measures, reports, refused, numbered, plan, grant, grantAt, reserve, enframe, lookup, onBlock, release, resize}
+use Rattle.model.specs.State.{Pool, Place, isLive}
+use Rattle.model.specs.Answers.{Answer, refusal}
+use Rattle.model.specs.Plans.{Plan, Call, setsUp, grants, releases, resizes, measures, reports, refused, plan, grant, onBlock}
 use Rattle.model.specs.Tables.{encode, view, sound}
 use Rattle.model.specs.Calls.{Result, call, checked, carried, damaged, keeps, unsound, written}
-use Rattle.model.proofs.Tables.{Sound, sound-facts}
+use Rattle.model.proofs.Tables.{sound-facts}
 
 -- the calls but set up
 abbrev pub Asks : Call → Type 0

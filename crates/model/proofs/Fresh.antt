@@ -1,21 +1,19 @@
 -- A pool with no groups, and what an accepted set up leaves.
-use Prim.Native.Nat.{ℕ, zero, suc, _+_, _*_, _-_, _/_, _%_, _≤_, _<_}
+use Prim.Native.Nat.{ℕ, zero, suc, _*_, _-_, _/_, _%_, _<_}
 use mathlib.Core.Path.{_≡_, refl, sym, ap, _∙_}
-use mathlib.Core.Bool.{Bool, true, false, _&&_}
-use mathlib.Core.List.{List, [], _∷_, _++_}
+use mathlib.Core.List.{List}
 use native.Mathlib.Nat.{div-add-mod}
 use native.Mathlib.Omega.{arith}
-use lib.Dec.{T, leb, eqb, leb→le, eqb→eq}
-use lib.ListN.{length, length-replicate}
+use lib.Dec.{T, eqb→eq}
+use lib.ListN.{length}
 use Rattle.mem.specs.Bytes.{zeros}
 use Rattle.mem.proofs.Tests.{and-left, and-right, T-true, choose-true}
-use Rattle.mem.proofs.Laws.{zeros-length}
 use Rattle.model.specs.declared.SetUp.{SetUp}
-use Rattle.model.specs.State.{Pool, wellFormed, spanSound, rows}
+use Rattle.model.specs.State.{wellFormed, spanSound, rows}
 use Rattle.model.specs.Answers.{setUpAnswer}
 use Rattle.model.specs.Plans.{freshPool}
-use Rattle.model.specs.Tables.{encode, arenaRight, sound, roomBytes}
-use Rattle.model.specs.Calls.{Result, setUp, setUpRight}
+use Rattle.model.specs.Tables.{encode, arenaRight, sound}
+use Rattle.model.specs.Calls.{setUp, setUpRight}
 use Rattle.model.proofs.Tables.{encode-sound}
 
 pub fresh-formed : (n : ℕ) → T (wellFormed (freshPool n))

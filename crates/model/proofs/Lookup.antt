@@ -1,26 +1,25 @@
 -- A granted slot is found by its start, and by nothing else.
-use Prim.Native.Nat.{ℕ, zero, suc, _+_, _*_, _-_, _/_, _≤_, _<_, max}
-use mathlib.Core.Path.{_≡_, refl, sym, subst, ap, ap₂, _∙_}
-use mathlib.Core.Bool.{Bool, true, false, _&&_}
+use Prim.Native.Nat.{ℕ, suc, _+_, _*_, _-_, _/_, _≤_, _<_, max}
+use mathlib.Core.Path.{_≡_, refl, sym, subst, ap, ap₂}
+use mathlib.Core.Bool.{Bool, true, false}
 use mathlib.Core.Logic.{_⊎_, inl, inr}
 use mathlib.Core.Option.{Option, none, some}
 use mathlib.Core.List.{List, [], _∷_, _++_, append-assoc, append-nil}
-use native.Mathlib.Nat.{mul-le-mul-left, mul-le-mul-right, mul-add, suc-mul, mul-comm, le-div-iff-mul-le, div-lt-iff-lt-mul, le-trans}
+use native.Mathlib.Nat.{mul-le-mul-right, mul-add, suc-mul, mul-comm, le-div-iff-mul-le, div-lt-iff-lt-mul}
 use native.Mathlib.Omega.{arith}
-use lib.Dec.{T, leb, ltb, eqb, leb→le, ltb→lt, eqb→eq}
+use lib.Dec.{T, leb, eqb, leb→le, ltb→lt, eqb→eq}
 use lib.ListN.{length, length-append}
 use borrow.Author.Tests.{eq-eqb, leb-true, leb-false}
-use Rattle.mem.specs.Lists.{choose, every, any, find, sum}
+use Rattle.mem.specs.Lists.{choose, every, find}
 use Rattle.mem.proofs.Tests.{and-left, and-right, every-left, every-right, choose-case, choose-true, T-true, true-T}
 use Rattle.classes.specs.Classes.{slotBytes, slotsOf, rowsOf}
-use Rattle.classes.proofs.Laws.{bytes-least, rows-hold, rows-pos}
+use Rattle.classes.proofs.Laws.{bytes-least, rows-hold}
 use Rattle.model.specs.declared.Slot.{Slot}
 use Rattle.model.specs.declared.Slot.the-variants.{Fresh, Idle, Live}
-use Rattle.model.specs.State.{Span, Pool, Place, free, group, isLive, granted, disp, size, slotSound, spanSound, wellFormed, poolOf, slotNumber}
-use Rattle.model.specs.State.{slotPlaces, placesFrom, places, rowsIn, rows, base, owned, start}
+use Rattle.model.specs.State.{Span, Pool, Place, free, group, granted, disp, size, slotSound, spanSound, wellFormed, poolOf, slotNumber}
+use Rattle.model.specs.State.{slotPlaces, placesFrom, places, rowsIn, rows, owned, start}
 use Rattle.model.specs.Plans.{lookup}
 use Rattle.model.proofs.Tables.{group-slots}
-use Rattle.model.proofs.Rooms.{rows-append}
 
 -- ---- lists
 

@@ -8,16 +8,16 @@ use mathlib.Core.List.{List, [], _∷_, _++_, map, append-assoc, append-nil}
 use native.Mathlib.Nat.{mod-lt, add-zero}
 use native.Mathlib.Omega.{arith}
 use lib.Dec.{T, leb, ltb, eqb, eqb→eq, eqb-refl, le→leb, lt→ltb}
-use lib.ListN.{length, getD, take, drop, replicate, length-append, length-map, length-replicate}
+use lib.ListN.{length, getD, drop, replicate, length-append, length-map, length-replicate}
 use lib.Seq.{split-at, length-take-le}
 use borrow.Author.Tests.{eq-eqb}
-use Rattle.mem.specs.Lists.{choose, every, any, first, sum}
-use Rattle.mem.proofs.Tests.{and-left, and-right, and-both, every-left, every-right, every-append, choose-case, choose-true, choose-false, T-true, true-T}
+use Rattle.mem.specs.Lists.{choose, every, any, first}
+use Rattle.mem.proofs.Tests.{and-left, and-right, and-both, every-left, every-right, every-append, choose-case, T-true, true-T}
 use Rattle.classes.specs.Classes.{slotBytes, classOf, slotsOf, rowsOf, tooLarge}
 use Rattle.classes.proofs.Laws.{ClassFacts, class-facts, slots-pos, rows-pos}
 use Rattle.model.specs.declared.Slot.{Slot}
 use Rattle.model.specs.declared.Slot.the-variants.{Fresh, Idle, Live}
-use Rattle.model.specs.State.{Span, Pool, Place, free, group, isLive, isReady, count, slotSound, spanSound, wellFormed, poolOf, slotNumber, rowsIn, rows}
+use Rattle.model.specs.State.{Span, Pool, Place, free, group, isLive, isReady, count, slotSound, spanSound, wellFormed, poolOf, slotNumber, rowsIn, rows, size}
 use Rattle.model.specs.Plans.{Site, slotsIn, opens, openFrom, run, turnReady, refill, grantSlot, grantIn, runFrom, siteOr, site, reserveIn, reserve, freshPool}
 use Rattle.model.proofs.Tables.{group-slots}
 use Rattle.model.proofs.Rooms.{rows-append}
@@ -282,6 +282,11 @@ module _ (row : ℕ) (P : Pool) (n : ℕ) where
           let p : grantIn (classOf n) n s ≡ q = cc in
           let g : Ground row P (classOf n) s = ground row P (classOf n) s w h in
           record { at = s; found = h; place = sym p; taken = subst (Taken (classOf n) n s) p (grant-taken (classOf n) n s (g .room)); ground = g }
+
+  -- a reserved slot has the size asked for
+  pub reserve-size : (q : Place) → T (wellFormed P) → reserve row P n ≡ some q → size (q .state) ≡ n
+  unfolding grantSlot
+  reserve-size q w r = ap size (served q w r .taken .state)
 
   -- the pool that a grant makes
   pub record Granted (q : Place) : Type 0 where

@@ -1,16 +1,16 @@
 -- Where the records of a pool's spans stand in its room.
-use Prim.Native.Nat.{ℕ, zero, suc, _+_, _*_, _<_}
-use mathlib.Core.Path.{_≡_, refl, sym, ap, _∙_}
+use Prim.Native.Nat.{ℕ, _+_, _*_, _<_}
+use mathlib.Core.Path.{_≡_, sym, ap, _∙_}
 use mathlib.Core.List.{List, [], _∷_, _++_, append-assoc}
 use native.Mathlib.Nat.{zero-add, add-assoc}
 use native.Mathlib.Omega.{arith}
 use lib.Dec.{T}
 use lib.ListN.{length, drop, length-append}
 use lib.Seq.{drop-at}
-use Rattle.mem.specs.Lists.{every, sum, join}
+use Rattle.mem.specs.Lists.{join}
 use Rattle.mem.specs.Bytes.{zeros, low}
 use Rattle.mem.proofs.Laws.{zeros-length, join-append}
-use Rattle.model.specs.State.{Span, Pool, wellFormed, rows, rowsIn}
+use Rattle.model.specs.State.{Pool, wellFormed, rows, rowsIn}
 use Rattle.model.specs.Tables.{spanRecords, encode}
 use Rattle.model.proofs.Tables.{spans-length}
 

@@ -1,26 +1,26 @@
 -- Laws of the tables: their exact size, and that one state has one byte form, which says that state.
-use Prim.Native.Nat.{ℕ, zero, suc, _+_, _*_, _-_, _/_, _%_, _^_, _≤_, _<_}
+use Prim.Native.Nat.{ℕ, zero, suc, _+_, _*_, _-_, _/_, _^_, _≤_, _<_}
 use mathlib.Core.Path.{_≡_, refl, sym, ap, ap₂, _∙_}
-use mathlib.Core.Bool.{Bool, true, false, _&&_, _||_, not}
+use mathlib.Core.Bool.{Bool, true, false, _&&_}
 use mathlib.Core.List.{List, [], _∷_, _++_, map, append-assoc, append-nil}
 use native.Mathlib.Nat.{le-trans, lt-of-lt-of-le, pow-le-pow-right, zero-add, suc-add}
 use native.Mathlib.Omega.{arith}
 use lib.Dec.{T, leb, ltb, eqb, leb→le, ltb→lt, eqb→eq, lt→ltb, lit≤}
-use lib.ListN.{length, getD, take, drop, length-append, length-map}
+use lib.ListN.{length, drop, length-append, length-map}
 use lib.Seq.{take-at, drop-at}
 use borrow.Author.Tests.{eq-eqb}
-use Rattle.mem.specs.Lists.{choose, every, any, sum, join}
-use Rattle.mem.specs.Bytes.{zeros, low, number, mask, same, part}
+use Rattle.mem.specs.Lists.{choose, every, join}
+use Rattle.mem.specs.Bytes.{zeros, low, number, mask, same}
 use Rattle.mem.proofs.Tests.{and-left, and-right, and-both, true-T, every-append}
 use Rattle.mem.proofs.Masks.{mask-below, low-test, rest-bits}
-use Rattle.mem.proofs.Laws.{zeros-length, low-length, number-low, low-bytes, same-refl, same→eq}
-use Rattle.classes.specs.Classes.{unitsOf, slotBytes, slotsOf, rowsOf, classOf, tooLarge}
+use Rattle.mem.proofs.Laws.{zeros-length, number-low, low-bytes, same-refl, same→eq}
+use Rattle.classes.specs.Classes.{slotBytes, slotsOf, rowsOf, tooLarge}
 use Rattle.classes.proofs.Laws.{units-small, slots-small, rows-pos}
 use Rattle.model.specs.declared.Slot.{Slot}
 use Rattle.model.specs.declared.Slot.the-variants.{Fresh, Idle, Live}
 use Rattle.model.specs.declared.Holder.{Holder}
 use Rattle.model.specs.declared.Holder.the-variants.{Free, First, Later}
-use Rattle.model.specs.State.{Span, Pool, free, group, isReady, isWaiting, isLive, slotSound, spanSound, wellFormed, rows, rowsIn}
+use Rattle.model.specs.State.{Span, Pool, free, group, isReady, isWaiting, slotSound, spanSound, wellFormed, rows, rowsIn}
 use Rattle.model.specs.Tables.{slotRecord, holderBytes, rowRecord, laterRecords, roomBytes, viewSlot, viewSlots, viewGroup, viewHolder, spanOf}
 use Rattle.model.specs.Tables.{spanRecords, encode, viewRows, view, arenaRight, sound}
 

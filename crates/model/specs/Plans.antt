@@ -6,7 +6,7 @@ use mathlib.Core.List.{List, [], _∷_, _++_, map}
 use lib.Dec.{leb, eqb}
 use lib.ListN.{getD, take, drop, replicate}
 use Rattle.mem.specs.Lists.{choose, any, first, find, sum}
-use Rattle.mem.specs.Bytes.{zeros, part, put, bit}
+use Rattle.mem.specs.Bytes.{zeros, part, bit}
 use Rattle.classes.specs.Classes.{slotBytes, classOf, slotsOf, rowsOf, tooLarge}
 use Rattle.model.specs.declared.Slot.{Slot}
 use Rattle.model.specs.declared.Slot.the-variants.{Fresh, Idle, Live}

@@ -1,12 +1,11 @@
 -- The calls by what the code finds: a grant by what is reserved, and the calls on a block by what is located.
-use Prim.Native.Nat.{ℕ, zero, suc, _+_, _*_, _-_, _≤_, _<_}
-use mathlib.Core.Path.{_≡_, refl, sym, subst, ap, ap₂, _∙_}
-use mathlib.Core.Bool.{Bool, true, false, _&&_}
+use Prim.Native.Nat.{ℕ, _+_, _-_, _≤_, _<_}
+use mathlib.Core.Path.{_≡_, refl, sym, ap, _∙_}
+use mathlib.Core.Bool.{Bool, true, false}
 use mathlib.Core.Logic.{_⊎_, inl, inr, ⊎-elim}
 use mathlib.Core.Option.{Option, none, some}
-use mathlib.Core.List.{List, [], _∷_, _++_}
-use native.Mathlib.Omega.{arith}
-use lib.Dec.{T, leb, eqb}
+use mathlib.Core.List.{List, _++_}
+use lib.Dec.{T, leb}
 use lib.ListN.{length}
 use borrow.Author.Tests.{le-leb, lt-leb}
 use Rattle.mem.specs.Lists.{choose, any}
@@ -21,11 +20,11 @@ use Rattle.model.specs.declared.Report.{Report}
 use Rattle.model.specs.State.{Pool, Place, isLive, disp, size, poolOf, slotNumber, owned, start}
 use Rattle.model.specs.Blocks.{damage, damageIn, headerRight, guardRight, ownedBytes, frame}
 use Rattle.model.specs.Answers.{Answer, refusal, grantAnswer, releaseAnswer, resizeAnswer, measureAnswer, reportAnswer}
-use Rattle.model.specs.Plans.{Plan, Call, grants, releases, resizes, measures, reports, refused, numbered, plan, grant, grantAt, reserve, enframe, lookup, onBlock, release, releaseAt, resize, resizeAt, resizeInPlace, resizeMove, moveTo, inPlace, measure, measureAt, report, totals}
+use Rattle.model.specs.Plans.{Plan, grants, releases, resizes, measures, reports, refused, numbered, plan, grant, grantAt, reserve, enframe, lookup, onBlock, release, releaseAt, resize, resizeAt, resizeInPlace, resizeMove, moveTo, inPlace, measure, measureAt, report, totals}
 use Rattle.model.specs.Tables.{encode, view, sound}
-use Rattle.model.specs.Calls.{Result, call, carried, damaged, keeps, unsound, written}
+use Rattle.model.specs.Calls.{Result, call, carried, damaged, keeps, written}
 use Rattle.model.proofs.Lookup.{lookup-found}
-use Rattle.model.proofs.Calls.{call-unsound, call-sound, same-room, carriedOut, carried-whole, carried-damaged, on-live, on-freed}
+use Rattle.model.proofs.Calls.{call-sound, same-room, carriedOut, carried-whole, carried-damaged, on-live}
 use Rattle.search.specs.declared.Block.{Block}
 use Rattle.search.specs.Found.{blockOf, startAt}
 use Rattle.ops.specs.declared.Located.{Located}

@@ -1,14 +1,13 @@
 -- A block that moves: in the tables that the grant leaves it still lives, and the new block is apart from it.
-use Prim.Native.Nat.{ℕ, zero, suc, _+_, _*_, _-_, _≤_, _<_, min}
-use mathlib.Core.Path.{_≡_, refl, sym, subst, ap, ap₂, _∙_}
-use mathlib.Core.Bool.{Bool, true, false, _&&_}
+use Prim.Native.Nat.{ℕ, _+_, _*_, _-_, _≤_, _<_, min}
+use mathlib.Core.Path.{_≡_, refl, sym, subst, ap, _∙_}
+use mathlib.Core.Bool.{true}
 use mathlib.Core.Logic.{_⊎_, inl, inr, ⊎-elim}
 use mathlib.Core.Option.{Option, none, some}
-use mathlib.Core.List.{List, [], _∷_, _++_}
+use mathlib.Core.List.{List}
 use native.Mathlib.Omega.{arith}
 use lib.Dec.{T}
 use lib.ListN.{length}
-use Rattle.mem.specs.Lists.{choose}
 use Rattle.mem.specs.Bytes.{put, part}
 use Rattle.mem.proofs.Tests.{choose-true, true-T, T-true}
 use Rattle.classes.specs.Classes.{slotBytes, tooLarge}
@@ -19,12 +18,12 @@ use Rattle.model.specs.declared.Slot.the-variants.{Fresh, Idle, Live}
 use Rattle.model.specs.State.{Pool, Place, isLive, granted, disp, size, wellFormed, poolOf, slotNumber, rows, owned, start}
 use Rattle.model.specs.Blocks.{frame}
 use Rattle.model.specs.Answers.{grantAnswer}
-use Rattle.model.specs.Plans.{Plan, grants, lookup, reserve, release, resizeMove, moveTo, enframe, grantSlot}
-use Rattle.model.specs.Tables.{view, encode, sound, arenaRight}
+use Rattle.model.specs.Plans.{Plan, grants, lookup, reserve, release, resizeMove, moveTo, enframe}
+use Rattle.model.specs.Tables.{view, encode, sound}
 use Rattle.model.specs.Calls.{Result, call, keeps, written}
 use Rattle.model.proofs.Tables.{Sound, sound-facts, view-encode, encode-sound}
 use Rattle.model.proofs.Lookup.{Fits, fits, disp-inside, lookup-start, owned-apart}
-use Rattle.model.proofs.Reserve.{Taken, Served, served, Granted, reserve-formed, Stays, reserve-keeps, reserve-other}
+use Rattle.model.proofs.Reserve.{reserve-size, Granted, reserve-formed, Stays, reserve-keeps, reserve-other}
 use Rattle.search.specs.declared.Block.{Block}
 use Rattle.search.specs.declared.Looked.{Looked}
 use Rattle.search.specs.declared.Looked.the-variants.{Present}
@@ -41,11 +40,6 @@ live-granted p l = go (p .state) l
     go Fresh l = l
     go (Idle r k d) l = tt
     go (Live k d n) l = tt
-
--- a reserved slot has the size asked for
-pub reserve-size : (row : ℕ) (P : Pool) (n : ℕ) (q : Place) → T (wellFormed P) → reserve row P n ≡ some q → size (q .state) ≡ n
-unfolding grantSlot
-reserve-size row P n q w r = ap size (served row P n q w r .taken .state)
 
 -- one slot of two pools is one block
 stays-block : (row : ℕ) (p q : Place) → Stays row p q → blockOf row q ≡ blockOf row p

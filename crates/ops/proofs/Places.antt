@@ -1,19 +1,18 @@
 -- Places of a pool as the calls handle them.
-use Prim.Native.Nat.{ℕ, zero, suc, _+_, _*_, _-_, _≤_, _<_}
-use mathlib.Core.Path.{_≡_, refl, sym, subst, ap, ap₂, _∙_}
-use mathlib.Core.Bool.{Bool, true, false, _&&_}
+use Prim.Native.Nat.{ℕ, _+_, _*_, _-_, _≤_, _<_}
+use mathlib.Core.Path.{_≡_, refl, sym, subst, ap, _∙_}
+use mathlib.Core.Bool.{Bool, true, false}
 use mathlib.Core.Option.{Option, none, some}
-use mathlib.Core.List.{List, [], _∷_, _++_}
+use mathlib.Core.List.{List, _∷_, _++_}
 use native.Mathlib.Nat.{mul-le-mul-left, mul-le-mul-right, mul-add, suc-mul, le-of-mul-le-mul-left, mul-comm}
 use native.Mathlib.Omega.{arith}
-use lib.Dec.{T, leb, eqb, leb→le}
-use lib.ListN.{length}
+use lib.Dec.{T, eqb, leb→le}
 use Rattle.mem.specs.Lists.{choose}
 use Rattle.mem.specs.Bytes.{part}
-use Rattle.mem.proofs.Tests.{and-left, and-right, choose-true, choose-false, true-T, T-true}
-use Rattle.classes.specs.Classes.{slotBytes, slotsOf, rowsOf}
+use Rattle.mem.proofs.Tests.{and-left, and-right, true-T}
+use Rattle.classes.specs.Classes.{slotBytes, rowsOf}
 use Rattle.classes.proofs.Laws.{slots-small}
-use Rattle.model.specs.State.{Pool, Place, group, isLive, granted, disp, size, wellFormed, poolOf, slotNumber, rows, owned, start}
+use Rattle.model.specs.State.{Place, group, isLive, disp, size, wellFormed, poolOf, slotNumber, rows, owned}
 use Rattle.model.specs.Blocks.{damage, damageIn}
 use Rattle.model.specs.Plans.{lookup}
 use Rattle.model.specs.Tables.{view, sound, arenaRight}

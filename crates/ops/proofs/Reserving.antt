@@ -1,32 +1,30 @@
 -- A slot reserved in the tables, step by step as the code goes: a group that can serve, or a new one at a run of free rows.
-use Prim.Native.Nat.{ℕ, zero, suc, _+_, _*_, _-_, _≤_, _<_}
+use Prim.Native.Nat.{ℕ, _+_, _*_, _-_, _≤_, _<_}
 use mathlib.Core.Path.{_≡_, refl, sym, subst, ap, ap₂, _∙_}
-use mathlib.Core.Bool.{Bool, true, false, _&&_}
+use mathlib.Core.Bool.{true}
 use mathlib.Core.Option.{Option, none, some}
 use mathlib.Core.List.{List, [], _∷_, _++_}
 use native.Mathlib.Omega.{arith}
-use lib.Dec.{T}
-use lib.ListN.{length, drop, replicate, length-replicate}
+use lib.ListN.{length, drop, replicate}
 use Rattle.mem.specs.Lists.{join}
 use Rattle.mem.specs.Bytes.{put}
 use Rattle.mem.proofs.Tests.{true-T}
 use Rattle.mem.proofs.Laws.{put-length}
-use Rattle.classes.specs.Classes.{slotBytes, classOf, slotsOf, rowsOf, tooLarge}
+use Rattle.classes.specs.Classes.{classOf, slotsOf, rowsOf, tooLarge}
 use Rattle.classes.proofs.Laws.{rows-pos, slots-small}
 use Rattle.model.specs.declared.Slot.{Slot}
 use Rattle.model.specs.declared.Slot.the-variants.{Fresh}
-use Rattle.model.specs.State.{Pool, Place, free, group, count, disp, size, wellFormed, poolOf, slotNumber, rows}
-use Rattle.model.specs.Plans.{Site, openFrom, runFrom, siteOr, site, reserveIn, reserve, grantIn, grantSlot, freshPool}
-use Rattle.model.specs.Tables.{encode, view, sound, arenaRight, spanRecords, roomBytes}
+use Rattle.model.specs.State.{Pool, free, group, rows}
+use Rattle.model.specs.Plans.{Site, openFrom, runFrom, siteOr, site, reserveIn, reserve, grantIn, grantSlot}
+use Rattle.model.specs.Tables.{encode, view, sound, spanRecords, roomBytes}
 use Rattle.model.proofs.Tables.{Sound, sound-facts, encode-length}
-use Rattle.model.proofs.Rooms.{rows-append, encode-from}
+use Rattle.model.proofs.Rooms.{encode-from}
 use Rattle.model.proofs.Reserve.{Open, open-found, New, run-found, Ground, ground}
 use Rattle.records.specs.Records.{rowAt}
 use Rattle.records.proofs.Laws.{made-encode}
-use Rattle.search.specs.declared.Block.{Block}
 use Rattle.search.specs.declared.Found.{Found}
 use Rattle.search.specs.declared.Found.the-variants.{At, Nothing}
-use Rattle.search.specs.Found.{siteFound, blockOf}
+use Rattle.search.specs.Found.{siteFound}
 use Rattle.changes.specs.Changes.{slotTaken, takenAs, takenRoom}
 use Rattle.changes.proofs.Laws.{taken-below, taken-as, taken-encode}
 use Rattle.ops.specs.declared.Reserved.{Reserved}

@@ -1,21 +1,20 @@
 -- A block as the calls handle it: where it lies, and what they find, reserve and change of it.
 use Prim.Native.Nat.{ℕ, suc, _+_, _*_, _-_, _≤_, _<_}
 use mathlib.Core.Path.{_≡_}
-use mathlib.Core.Bool.{Bool, true, _&&_}
+use mathlib.Core.Bool.{Bool, _&&_}
 use mathlib.Core.Option.{Option, none, some}
 use mathlib.Core.List.{List}
 use lib.Dec.{eqb, leb}
-use lib.ListN.{length}
 use Rattle.mem.specs.Lists.{choose}
 use Rattle.classes.specs.Classes.{slotBytes, classOf, rowsOf}
 use Rattle.model.specs.declared.Resize.{Resize}
 use Rattle.model.specs.State.{Pool, Place, isLive, poolOf}
 use Rattle.model.specs.Blocks.{damage}
 use Rattle.model.specs.Plans.{Plan, refused, resizeInPlace, resizeMove, lookup}
-use Rattle.model.specs.Tables.{encode, view, sound}
+use Rattle.model.specs.Tables.{encode, view}
 use Rattle.search.specs.declared.Block.{Block}
 use Rattle.search.specs.declared.Looked.{Looked}
-use Rattle.search.specs.declared.Looked.the-variants.{Present, Freed, Absent}
+use Rattle.search.specs.declared.Looked.the-variants.{Present}
 use Rattle.search.specs.Found.{blockOf, looked, startAt}
 use Rattle.changes.specs.declared.Taken.{Taken}
 use Rattle.ops.specs.declared.Located.{Located}

@@ -1,13 +1,12 @@
 -- Set up: when it is refused, and the tables that it writes.
-use Prim.Native.Nat.{ℕ, zero, suc, _+_, _*_, _-_, _/_, _≤_, _<_}
-use mathlib.Core.Path.{_≡_, refl, sym, subst, ap, ap₂, _∙_}
+use Prim.Native.Nat.{ℕ, _+_, _*_, _-_, _/_, _≤_}
+use mathlib.Core.Path.{_≡_, refl, sym, ap, ap₂, _∙_}
 use mathlib.Core.Bool.{Bool, true, false, _&&_}
-use mathlib.Core.List.{List, [], _∷_, _++_}
+use mathlib.Core.List.{List, [], _++_}
 use native.Mathlib.Omega.{arith}
 use lib.Dec.{T, eqb, eqb→eq}
 use lib.ListN.{length}
 use borrow.Author.Tests.{eq-eqb}
-use Rattle.mem.specs.Lists.{choose, join}
 use Rattle.mem.specs.Bytes.{zeros, low, put}
 use Rattle.mem.proofs.Tests.{and-left, and-right, and-both, choose-true, choose-false, T-true, true-T}
 use Rattle.mem.proofs.Laws.{zeros-length, zeros-add, put-at}
@@ -15,8 +14,8 @@ use Rattle.model.specs.declared.SetUp.{SetUp}
 use Rattle.model.specs.State.{rows}
 use Rattle.model.specs.Answers.{setUpAnswer}
 use Rattle.model.specs.Plans.{setsUp, freshPool}
-use Rattle.model.specs.Tables.{encode, spanRecords, arenaRight, roomBytes, roomFor}
-use Rattle.model.specs.Calls.{Result, call, setUp, setUpRight, keeps}
+use Rattle.model.specs.Tables.{encode, arenaRight, roomBytes, roomFor}
+use Rattle.model.specs.Calls.{call, setUp, setUpRight, keeps}
 use Rattle.model.proofs.Fresh.{fresh-rows, whole-rows}
 use Rattle.records.proofs.Laws.{free-records}
 

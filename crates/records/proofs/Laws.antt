@@ -1,12 +1,12 @@
 -- What the reads and writes of records are to the pool's state.
 use Prim.Native.Nat.{ℕ, zero, suc, _+_, _*_, _-_, _^_, _≤_, _<_}
-use mathlib.Core.Path.{_≡_, refl, sym, subst, ap, ap₂, _∙_}
-use mathlib.Core.Bool.{Bool, _&&_}
+use mathlib.Core.Path.{_≡_, refl, sym, ap, ap₂, _∙_}
+use mathlib.Core.Bool.{Bool}
 use mathlib.Core.List.{List, [], _∷_, _++_, map, append-assoc, append-nil}
 use native.Mathlib.Nat.{add-zero, pow-succ', div-one, div-div-eq-div-mul}
 use native.Mathlib.Omega.{arith}
 use lib.Dec.{T, lit≤}
-use lib.ListN.{length, getD, drop, replicate, length-append, length-map, List·getD-map}
+use lib.ListN.{length, getD, drop, replicate, length-append, List·getD-map}
 use lib.Seq.{take-at, drop-drop, drop-append-add}
 use Rattle.mem.specs.Lists.{every, any, join}
 use Rattle.mem.specs.Bytes.{zeros, low, mask, part, put}

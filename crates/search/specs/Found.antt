@@ -1,10 +1,7 @@
 -- What the searches give, of what the definitions find.
 use Prim.Native.Nat.{ℕ, _+_, _*_, _-_, _/_, _%_}
-use mathlib.Core.Bool.{Bool}
 use mathlib.Core.Option.{Option, none, some}
-use mathlib.Core.List.{List}
 use lib.Dec.{ltb, leb, eqb}
-use lib.ListN.{getD}
 use Rattle.mem.specs.Lists.{choose}
 use Rattle.classes.specs.Classes.{slotBytes, slotsOf}
 use Rattle.model.specs.declared.Slot.{Slot}

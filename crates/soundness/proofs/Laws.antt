@@ -3,17 +3,17 @@ use Prim.Native.Nat.{ℕ, zero, suc, _+_, _*_, _-_, _/_, _%_, _^_, _≤_, _<_}
 use mathlib.Core.Path.{_≡_, refl, sym, ap, ap₂, _∙_, subst, subst⁻¹}
 use mathlib.Core.Bool.{Bool, true, false, _&&_, _||_, not, and-assoc, and-comm, and-true, and-false, Bool·not-not}
 use mathlib.Core.List.{List, [], _∷_, _++_, map, append-assoc}
-use native.Mathlib.Nat.{le-trans, lt-of-lt-of-le, pow-le-pow-right, pow-suc, add-zero, div-add-mod, div-eq-of-eq-mul-right}
+use native.Mathlib.Nat.{pow-suc, add-zero, div-add-mod, div-eq-of-eq-mul-right}
 use native.Mathlib.Numerals.{add-one, add-two}
 use native.Mathlib.Omega.{arith}
 use lib.Dec.{T, leb, ltb, eqb, leb→le, eqb→eq, eqb-refl, le→leb, lit≤}
-use lib.ListN.{length, getD, take, drop, length-append, length-map, length-drop, take-append-drop}
+use lib.ListN.{length, getD, take, drop, length-append, length-drop, take-append-drop}
 use lib.Seq.{drop-cons, drop-drop, drop-at, getD-take, getD-drop}
 use borrow.Author.Tests.{eq-eqb, ne-eqb, lt-ltb, le-ltb, leb-true, eqb-true, eqb-false}
 use Rattle.mem.specs.Lists.{choose, every, any, join}
 use Rattle.mem.specs.Bytes.{zeros, low, number, same, mask, bit, part}
 use Rattle.mem.proofs.Tests.{and-left, and-right, and-both, T-true, true-T, same-test, eq→eqb, any-map, choose-case}
-use Rattle.mem.proofs.Masks.{mask-below, mask-zero}
+use Rattle.mem.proofs.Masks.{mask-zero}
 use Rattle.mem.proofs.Laws.{part-length, getD-part, part-part, zeros-length, zeros-cons, low-length, number-low, low-number}
 use Rattle.mem.proofs.Laws.{bytes-by, every-part, same→eq, eq→same, same-part-low}
 use Rattle.classes.specs.Classes.{rowBytes, slotBytes, slotsOf, rowsOf, classOf, tooLarge, below2}

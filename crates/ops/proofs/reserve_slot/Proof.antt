@@ -1,18 +1,18 @@
 -- A slot is taken in the lowest group that can serve, or in a new one at the lowest run of free rows.
 use Prim.Native.Nat.{_+_, _≤_}
-use mathlib.Core.Path.{_≡_, refl, sym, subst, ap, _∙_}
+use mathlib.Core.Path.{refl, sym, subst, ap, _∙_}
 use borrow.Author.Needs.{needs}
 use lib.Dec.{lit≤}
-use lib.ListN.{length, replicate}
+use lib.ListN.{replicate}
 use Rattle.mem.specs.Bytes.{put}
 use Rattle.classes.specs.Classes.{rowBytes, slotBytes, slotsOf}
-use Rattle.classes.proofs.Laws.{ClassFacts, class-facts}
+use Rattle.classes.proofs.Laws.{class-facts}
 use Rattle.model.specs.declared.Slot.the-variants.{Fresh}
 use Rattle.model.specs.State.{group}
 use Rattle.model.specs.Tables.{spanRecords}
 use Rattle.records.specs.Records.{rowAt}
 use Rattle.ops.specs.declared.Reserved.{Reserved}
-use Rattle.ops.proofs.Reserving.{TakenAt, open-taken, MadeAt, run-taken, none-taken}
+use Rattle.ops.proofs.Reserving.{open-taken, run-taken, none-taken}
 use Rattle.ops.proofs.reserve_slot.Statement.{statement}
 use Rattle.ops.proofs.reserve_slot.Tie as tie
 use denote.Ref.{now}

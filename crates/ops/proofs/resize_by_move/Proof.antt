@@ -1,5 +1,5 @@
 -- The old block lives on in the tables that the grant leaves, and the new one is apart from it.
-use Prim.Native.Nat.{ℕ, min}
+use Prim.Native.Nat.{min}
 use mathlib.Core.Path.{_≡_, sym, subst, ap, ap₂, _∙_}
 use mathlib.Core.Bool.{true}
 use mathlib.Core.Logic.{inl, inr, ⊎-elim}
@@ -16,7 +16,7 @@ use Rattle.model.specs.Tables.{view, sound}
 use Rattle.model.specs.Calls.{written}
 use Rattle.search.specs.Found.{startAt}
 use Rattle.ops.proofs.Places.{lives-stands}
-use Rattle.ops.proofs.Moves.{MovedNowhere, moved-nowhere, MovedTo, moved-to}
+use Rattle.ops.proofs.Moves.{moved-nowhere, moved-to}
 use Rattle.ops.proofs.resize_by_move.Statement.{statement}
 use Rattle.ops.proofs.resize_by_move.Tie as tie
 use denote.Ref.{now}

@@ -1,19 +1,17 @@
 -- By what is reserved.
-use Prim.Native.Nat.{ℕ}
-use mathlib.Core.Path.{_≡_, refl, sym, ap, _∙_}
+use mathlib.Core.Path.{sym, ap, _∙_}
 use mathlib.Core.List.{[], _∷_}
 use native.Mathlib.Omega.{arith}
 use borrow.Author.Needs.{needs}
 use borrow.Author.Tests.{not-true, not-false}
 use lib.Dec.{lit≤}
-use lib.ListN.{length}
 use Rattle.classes.specs.Classes.{rowBytes, tooLarge}
 use Rattle.model.specs.Answers.{done}
 use Rattle.model.specs.Plans.{grants}
 use Rattle.model.specs.Calls.{Result}
 use Rattle.model.proofs.Calls.{call-unsound}
 use Rattle.ops.proofs.Calls.{grant-too-large}
-use Rattle.ops.proofs.Moves.{GrantedAt, granted-at, granted-none}
+use Rattle.ops.proofs.Moves.{granted-at, granted-none}
 use Rattle.pool.proofs.grant.Statement.{statement}
 use Rattle.pool.proofs.grant.Tie as tie
 use denote.Ref.{now}

@@ -1,9 +1,8 @@
 -- By what is located.
-use mathlib.Core.Path.{_≡_, sym, ap, _∙_}
+use mathlib.Core.Path.{sym, ap, _∙_}
 use borrow.Author.Needs.{needs}
 use borrow.Author.Tests.{not-true, not-false}
 use lib.Dec.{lit≤}
-use lib.ListN.{length}
 use Rattle.classes.specs.Classes.{rowBytes}
 use Rattle.model.specs.Plans.{measures}
 use Rattle.model.specs.Calls.{Result}

@@ -1,11 +1,8 @@
 -- Each refusal breaks a part of the rule; what passes them all keeps it.
-use Prim.Native.Nat.{ℕ, _+_, _*_, _/_, _%_}
-use mathlib.Core.Path.{_≡_, sym, _∙_}
-use mathlib.Core.Bool.{_&&_, true, false}
+use Prim.Native.Nat.{_%_}
 use borrow.Author.Needs.{needs}
 use borrow.Author.Tests.{le-leb, lt-leb, eq-eqb, ne-eqb}
 use Rattle.mem.specs.Lists.{choose}
-use Rattle.mem.proofs.Tests.{choose-true, choose-false}
 use Rattle.classes.specs.Classes.{rowBytes}
 use Rattle.model.specs.Tables.{roomFor, roomBytes, arenaRight}
 use Rattle.pool.proofs.room_len.Statement.{statement}
