@@ -77,11 +77,15 @@ fn main() {
                 let o = pool.grant(black_box(160)).unwrap();
                 pool.release(black_box(o)).unwrap();
             });
-            let room_now = second.tables().write();
+            // the second implementation checks the tables as they are before each call
+            let before = second.tables().write();
+            let o = second.grant(160).unwrap();
+            let between = second.tables().write();
+            second.release(o).unwrap();
             let other = time(turns / 10 + 1, || {
-                black_box(Tables::read(len, black_box(&room_now)).is_some());
+                black_box(Tables::read(len, black_box(&before)).is_some());
                 let o = second.grant(black_box(160)).unwrap();
-                black_box(Tables::read(len, black_box(&room_now)).is_some());
+                black_box(Tables::read(len, black_box(&between)).is_some());
                 second.release(black_box(o)).unwrap();
             });
             let block = match blocks.last() {
@@ -92,11 +96,12 @@ fn main() {
                     o
                 }
             };
+            let now = second.tables().write();
             let measured = time(turns, || {
                 black_box(pool.measure(black_box(block)).unwrap());
             });
             let measured_other = time(turns / 10 + 1, || {
-                black_box(Tables::read(len, black_box(&room_now)).is_some());
+                black_box(Tables::read(len, black_box(&now)).is_some());
                 black_box(second.measure(black_box(block)).unwrap());
             });
             println!(
