@@ -32,8 +32,8 @@ use Rattle.model.proofs.Formed.{Formed, plan-formed}
 use Rattle.model.proofs.Calls.{Asks, call-unsound, call-sound, carriedOut, carried-whole, carried-damaged}
 use Rattle.model.proofs.Lookup.{Fits, fits, disp-inside, slot-inside, Owns, owned-unique}
 use Rattle.model.proofs.Reserve.{groupOf, Served, served, reserve-formed, site-lowest, first-lowest}
-use Rattle.claims.specs.Demand1.{Reason, unsound, noSuchBlock, alreadyFree, headerDamaged, overrun, order, offsetIn, FirstDue, StartsAt, LiveAt, headerDue, guardDue, NoPlace, Due}
-use Rattle.claims.specs.Demand2.{Intact, ReleasesExactly, MeasuresExactly, GrantsExactly, AllLive, Granted, GrantsAsSaid, InBlock, NeverShared, LeavesSound}
+use Rattle.claims.specs.Demand1.{AllLive, Reason, unsound, noSuchBlock, alreadyFree, headerDamaged, overrun, order, offsetIn, FirstDue, StartsAt, LiveAt, headerDue, guardDue, NoPlace, Due}
+use Rattle.claims.specs.Demand2.{Intact, ReleasesExactly, MeasuresExactly, GrantsExactly, Granted, GrantsAsSaid, InBlock, NeverShared, LeavesSound}
 use Rattle.claims.proofs.Demand1.{applied, blockFirst, starts-found, none-starts, starts-once, found-starts, demand1}
 
 -- what is not refuted passes the test

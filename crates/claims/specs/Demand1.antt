@@ -72,6 +72,10 @@ refusedValues (resizes o n) = 0 ∷ []
 refusedValues (measures o) = 0 ∷ []
 refusedValues reports = 0 ∷ 0 ∷ 0 ∷ 0 ∷ 0 ∷ 0 ∷ []
 
+-- every slot of the groups of class c in a pool is live
+abbrev pub AllLive : Pool → ℕ → Type 0
+AllLive P c = (X Y : Pool) (ss : List Slot) → P ≡ X ++ (group c ss ∷ Y) → T (every isLive ss)
+
 module _ (row : ℕ) where
   -- a granted slot of a pool, and the one whose last start an offset is
   pub record Slotted (P : Pool) (p : Place) : Type 0 where
@@ -96,7 +100,7 @@ module _ (row : ℕ) where
 
   -- "neither a free slot of its class nor a long enough run of free rows exists"
   pub record NoPlace (P : Pool) (n : ℕ) : Type 0 where
-    pub all-live : (X Y : Pool) (ss : List Slot) → P ≡ X ++ (group (classOf n) ss ∷ Y) → T (every isLive ss)
+    pub all-live : AllLive P (classOf n)
     pub no-run : (X Y : Pool) → P ≡ X ++ (freshPool (rowsOf row (classOf n)) ++ Y) → ⊥
 
   -- no room: for a resize, of a block that is not changed in place

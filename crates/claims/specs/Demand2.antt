@@ -19,11 +19,7 @@ use Rattle.model.specs.Blocks.{frame}
 use Rattle.model.specs.Plans.{Call, grants, releases, measures, refill, grantSlot, freshPool}
 use Rattle.model.specs.Tables.{sound, view}
 use Rattle.model.specs.Calls.{call}
-use Rattle.claims.specs.Demand1.{LiveAt, headerDue, guardDue, NoPlace}
-
--- every slot of the groups of class c in a pool is live
-abbrev pub AllLive : Pool → ℕ → Type 0
-AllLive P c = (X Y : Pool) (ss : List Slot) → P ≡ X ++ (group c ss ∷ Y) → T (every isLive ss)
+use Rattle.claims.specs.Demand1.{AllLive, LiveAt, headerDue, guardDue, NoPlace}
 
 module _ (row : ℕ) where
   -- a live block of a pool at an offset, whose 4 header bytes and guard bytes are those due
