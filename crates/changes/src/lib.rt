@@ -3,7 +3,7 @@ ghost use mathlib.Core.Path.{_≡_};
 ghost use Prim.Native.Nat.{_+_, _≤_, _<_, _^_};
 ghost use lib.Count.{ones};
 ghost use lib.ListN.{length, drop};
-ghost use Rattle.classes.specs.Classes.{rowBytes, slotBytes, slotsOf, rowsOf};
+ghost use Rattle.classes.specs.Classes.{Lawful, slotBytes, slotsOf, rowsOf};
 ghost use Rattle.masks.specs.Sets.{givenBack};
 ghost use Rattle.model.specs.declared.Slot.{Slot};
 ghost use Rattle.model.specs.State.{count, disp};
@@ -95,17 +95,18 @@ pub fn take_slot(room: &mut [u8], i: usize, c: usize, n: usize) -> Taken
 }
 
 // Gives a slot back, which then waits. If no slot of its group is live any more, the group goes and its rows are free.
-pub fn give_slot(room: &mut [u8], i: usize, c: usize, j: usize, k: u8, d: usize) -> Left
-    requires { ⌜ (c < 48) × (i + rowsOf rowBytes c ≤ 512) ⌝ }
-    requires { ⌜ rowAt (i + rowsOf rowBytes c) ≤ length (now room) ⌝ }
+pub fn give_slot(row: usize, room: &mut [u8], i: usize, c: usize, j: usize, k: u8, d: usize) -> Left
+    requires { ⌜ (c < 48) × (i + rowsOf row c ≤ 512) ⌝ }
+    requires { ⌜ rowAt (i + rowsOf row c) ≤ length (now room) ⌝ }
     requires { ⌜ (j < 31) × (masksIn (drop (rowAt i) (now room)) .waiting + 2 ^ j < 4294967296) ⌝ }
     requires { ⌜ ones (givenBack (masksIn (drop (rowAt i) (now room))) j .ready) + ones (givenBack (masksIn (drop (rowAt i) (now room))) j .waiting) ≤ slotsOf c ⌝ }
+    requires { ⌜ Lawful row ⌝ }
     ensures { λ r. ⌜ r ≡ leftAs c j (drop (rowAt i) (now (room .entry))) ⌝ }
-    ensures { λ r. ⌜ now (room .exit) ≡ givenRoom rowBytes i c j k d (now (room .entry)) ⌝ }
+    ensures { λ r. ⌜ now (room .exit) ≡ givenRoom row i c j k d (now (room .entry)) ⌝ }
 {
     let m = records::masks_at(room, i).give_back(j as u32);
     if m.live(classes::slots(c) as u32) == 0 {
-        records::drop_rows(room, i, classes::rows(c));
+        records::drop_rows(room, i, classes::rows(row, c));
         return Left::Dropped;
     }
     records::store(

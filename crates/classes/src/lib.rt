@@ -1,7 +1,7 @@
 // The 48 size classes: units of a slot, slots and rows of a group, and the class of a size.
 ghost use mathlib.Core.Path.{_≡_};
-ghost use Prim.Native.Nat.{_≤_, _<_};
-ghost use Rattle.classes.specs.Classes.{unitsOf, slotsOf, rowsOf, classOf, tooLarge, rowBytes};
+ghost use Prim.Native.Nat.{_/_, _≤_, _<_};
+ghost use Rattle.classes.specs.Classes.{unitsOf, slotsOf, rowsOf, classOf, tooLarge, Lawful};
 
 // The bytes of a row.
 pub const ROW: usize = 512;
@@ -12,7 +12,8 @@ pub const CLASSES: usize = 48;
 // The largest request is one byte less.
 pub const TOO_LARGE: usize = 131052;
 
-const UNITS: [usize; 48] = [
+// 16-bit numbers: a table that is read at an index is copied to the stack first, so it is kept small.
+const UNITS: [u16; 48] = [
     1,
     2,
     3,
@@ -69,7 +70,7 @@ pub fn units(c: usize) -> usize
     ensures { λ r. ⌜ r ≡ unitsOf c ⌝ }
     ensures small { λ r. ⌜ (1 ≤ r) × (r < 8192) ⌝ }
 {
-    UNITS[c]
+    UNITS[c] as usize
 }
 
 // The slots of a group.
@@ -88,13 +89,28 @@ pub fn slots(c: usize) -> usize
     n
 }
 
+// How many rows of a size have no more than n bytes. The two sizes in use divide by shifts.
+pub fn whole_rows(row: usize, n: usize) -> usize
+    requires { ⌜ Lawful row ⌝ }
+    ensures { λ r. ⌜ r ≡ n / row ⌝ }
+{
+    if row == 512 {
+        return n / 512;
+    }
+    if row == 1024 {
+        return n / 1024;
+    }
+    n / row
+}
+
 // The rows of a group.
-pub fn rows(c: usize) -> usize
+pub fn rows(row: usize, c: usize) -> usize
     requires { ⌜ c < 48 ⌝ }
-    ensures { λ r. ⌜ r ≡ rowsOf rowBytes c ⌝ }
+    requires { ⌜ Lawful row ⌝ }
+    ensures { λ r. ⌜ r ≡ rowsOf row c ⌝ }
     ensures small { λ r. ⌜ (1 ≤ r) × (r ≤ 256) ⌝ }
 {
-    (16 + 16 * units(c) * slots(c) + (ROW - 1)) / ROW
+    whole_rows(row, 16 + 16 * units(c) * slots(c) + (row - 1))
 }
 
 // The least class whose slot has n + 4 bytes.
@@ -104,7 +120,7 @@ pub fn class_of(n: usize) -> usize
     ensures small { λ r. ⌜ r < 48 ⌝ }
 {
     let mut c = 0;
-    while 16 * UNITS[c] < n + 4 {
+    while 16 * (UNITS[c] as usize) < n + 4 {
         c += 1;
     }
     c

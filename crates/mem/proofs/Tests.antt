@@ -1,10 +1,12 @@
 -- Laws of tests: conjunctions as facts, tests over a list, choices.
 use Prim.Native.Nat.{ℕ, zero, suc, _<_, suc-le-suc}
 use native.Mathlib.Nat.{not-suc-le-zero, le-of-suc-le-suc, zero-lt-suc}
+use native.Mathlib.Omega.{arith}
 use mathlib.Core.Bool.{Bool, true, false, _&&_, _||_, false≢true, true≢false}
 use mathlib.Core.List.{List, [], _∷_, _++_, map}
 use mathlib.Core.Path.{_≡_, refl, ap, subst}
-use lib.Dec.{T, eqb, eqb-refl}
+use lib.Bits.{bitOr, or-add-and, and-le-l, and-le-r}
+use lib.Dec.{T, eqb, eqb→eq, eqb-refl}
 use lib.ListN.{getD, length}
 use Rattle.mem.specs.Lists.{every, any, choose}
 
@@ -91,3 +93,16 @@ pub choose-false {ℓ} : {A : Type ℓ} (b : Bool) (x y : A) → b ≡ false →
 unfolding choose
 choose-false true x y e = absurd (true≢false e)
 choose-false false x y e = refl
+
+-- an or is zero where both are
+pub or-none : (a b : ℕ) → eqb (bitOr a b) 0 ≡ (eqb a 0 && eqb b 0)
+or-none a b =
+    let s = or-add-and a b in
+    let l = and-le-l a b in
+    let r = and-le-r a b in
+    same-test (eqb (bitOr a b) 0) (eqb a 0 && eqb b 0)
+    (λ t. let z = eqb→eq (bitOr a b) 0 t in and-both (eqb a 0) (eqb b 0) (eq→eqb a 0 (omega arith)) (eq→eqb b 0 (omega arith)))
+    (λ t.
+    let x = eqb→eq a 0 (and-left (eqb a 0) (eqb b 0) t) in
+    let y = eqb→eq b 0 (and-right (eqb a 0) (eqb b 0) t) in
+    eq→eqb (bitOr a b) 0 (omega arith))

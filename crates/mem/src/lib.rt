@@ -111,3 +111,20 @@ pub fn get4(s: &[u8], at: usize) -> usize
 {
     wide(s[at]) + 256 * wide(s[at + 1]) + 65536 * wide(s[at + 2]) + 16777216 * wide(s[at + 3])
 }
+
+// A byte, and the number in four, at 32 bits: a loop over many of them is vectorised four at a time.
+pub fn wide32(x: u8) -> u32
+    ensures { λ r. ⌜ (r ≡ x) × (r < 256) ⌝ }
+{
+    x as u32
+}
+
+pub fn quad(s: &[u8], at: usize) -> u32
+    requires { ⌜ at + 4 ≤ length (now s) ⌝ }
+    ensures { λ r. ⌜ r ≡ number (part at 4 (now (s .entry))) ⌝ }
+{
+    wide32(s[at])
+        + 256 * wide32(s[at + 1])
+        + 65536 * wide32(s[at + 2])
+        + 16777216 * wide32(s[at + 3])
+}

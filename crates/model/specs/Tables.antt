@@ -56,6 +56,11 @@ viewSlots (suc n) ready waiting t =
 unfoldable pub viewGroup : ℕ → List ℕ → List Slot
 viewGroup c t = viewSlots (slotsOf c) (number (part 8 4 t)) (number (part 12 4 t)) (drop 16 t)
 
+-- the requested sizes in n slot records: one that is not live holds 0
+unfoldable pub sizesIn : ℕ → List ℕ → ℕ
+sizesIn zero t = 0
+sizesIn (suc n) t = number (part 4 3 t) + sizesIn n (drop 8 t)
+
 -- who holds the row whose record stands first
 unfoldable pub viewHolder : List ℕ → Holder
 viewHolder t =

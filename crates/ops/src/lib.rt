@@ -4,7 +4,7 @@ ghost use mathlib.Core.Bool.{true};
 ghost use Prim.Native.Nat.{_+_, _*_, _≤_, _<_, min};
 ghost use lib.ListN.{length, drop};
 ghost use Rattle.mem.specs.Bytes.{put, part};
-ghost use Rattle.classes.specs.Classes.{rowBytes, slotBytes, tooLarge};
+ghost use Rattle.classes.specs.Classes.{Lawful, slotBytes, tooLarge};
 ghost use Rattle.blocks.specs.Damage.{damageNumber};
 ghost use Rattle.model.specs.Blocks.{damageIn, frame};
 ghost use Rattle.model.specs.Plans.{reserve, release, lookup};
@@ -37,37 +37,41 @@ pub enum Reserved {
 }
 
 // The first byte that a block's slot owns.
-fn owned_of(b: Block) -> usize
+fn owned_of(row: usize, b: Block) -> usize
     requires { ⌜ (b .class < 48) × (b .slot < 31) × (b .first ≤ 512) ⌝ }
-    ensures { λ r. ⌜ r ≡ ownedAt rowBytes b ⌝ }
+    requires { ⌜ Lawful row ⌝ }
+    ensures { λ r. ⌜ r ≡ ownedAt row b ⌝ }
     ensures small { λ r. ⌜ r < 8388608 ⌝ }
 {
-    classes::ROW * b.first + 12 + b.slot * (16 * classes::units(b.class))
+    row * b.first + 12 + b.slot * (16 * classes::units(b.class))
 }
 
 // Where a block starts.
-pub fn start_of(b: Block) -> usize
+pub fn start_of(row: usize, b: Block) -> usize
     requires { ⌜ (b .class < 48) × (b .slot < 31) × (b .first ≤ 512) ⌝ }
     requires { ⌜ 16 * b .disp ≤ slotBytes (b .class) ⌝ }
-    ensures { λ r. ⌜ r ≡ startAt rowBytes b ⌝ }
+    requires { ⌜ Lawful row ⌝ }
+    ensures { λ r. ⌜ r ≡ startAt row b ⌝ }
 {
-    owned_of(b) + 4 + 16 * b.disp
+    owned_of(row, b) + 4 + 16 * b.disp
 }
 
 // Whether the header and the guard of a block are those due.
-fn inspect(arena: &[u8], b: Block) -> Damage
-    requires { ⌜ Standing rowBytes (length (now arena)) b ⌝ }
-    ensures { λ r. ⌜ damageNumber r ≡ damageIn (b .class) (b .slot) (b .disp) (b .size) (part (ownedAt rowBytes b) (slotBytes (b .class)) (now (arena .entry))) ⌝ }
+fn inspect(row: usize, arena: &[u8], b: Block) -> Damage
+    requires { ⌜ Standing row (length (now arena)) b ⌝ }
+    requires { ⌜ Lawful row ⌝ }
+    ensures { λ r. ⌜ damageNumber r ≡ damageIn (b .class) (b .slot) (b .disp) (b .size) (part (ownedAt row b) (slotBytes (b .class)) (now (arena .entry))) ⌝ }
 {
-    blocks::inspect_at(arena, owned_of(b), b.class, b.slot, b.disp, b.size)
+    blocks::inspect_at(arena, owned_of(row, b), b.class, b.slot, b.disp, b.size)
 }
 
 // Writes zero over a block's slot, then its header and guard (mallocng's enframe).
-pub fn lay_out(arena: &mut [u8], b: Block)
-    requires { ⌜ Standing rowBytes (length (now arena)) b ⌝ }
-    ensures { λ _. ⌜ now (arena .exit) ≡ put (ownedAt rowBytes b) (frame (b .class) (b .slot) (b .disp) (b .size)) (now (arena .entry)) ⌝ }
+pub fn lay_out(row: usize, arena: &mut [u8], b: Block)
+    requires { ⌜ Standing row (length (now arena)) b ⌝ }
+    requires { ⌜ Lawful row ⌝ }
+    ensures { λ _. ⌜ now (arena .exit) ≡ put (ownedAt row b) (frame (b .class) (b .slot) (b .disp) (b .size)) (now (arena .entry)) ⌝ }
 {
-    blocks::enframe_at(arena, owned_of(b), b.class, b.slot, b.disp, b.size);
+    blocks::enframe_at(arena, owned_of(row, b), b.class, b.slot, b.disp, b.size);
 }
 
 // Takes the lowest ready slot of the group at a row.
@@ -91,32 +95,34 @@ fn take(room: &mut [u8], i: usize, c: usize, n: usize) -> Block
 
 // Reserves a slot for n bytes: in the lowest group of their class with a slot that is not live, or in a new one at the lowest run
 // of free rows.
-pub fn reserve_slot(len: usize, room: &mut [u8], n: usize) -> Reserved
-    requires { ⌜ sound rowBytes len (now room) ≡ true ⌝ }
+pub fn reserve_slot(row: usize, len: usize, room: &mut [u8], n: usize) -> Reserved
+    requires { ⌜ sound row len (now room) ≡ true ⌝ }
     requires { ⌜ n < tooLarge ⌝ }
-    ensures { λ r. ⌜ r ≡ reservedAs rowBytes (reserve rowBytes (view rowBytes (now (room .entry))) n) ⌝ }
-    ensures { λ r. ⌜ now (room .exit) ≡ roomAfter rowBytes (now (room .entry)) (reserve rowBytes (view rowBytes (now (room .entry))) n) ⌝ }
+    requires { ⌜ Lawful row ⌝ }
+    ensures { λ r. ⌜ r ≡ reservedAs row (reserve row (view row (now (room .entry))) n) ⌝ }
+    ensures { λ r. ⌜ now (room .exit) ≡ roomAfter row (now (room .entry)) (reserve row (view row (now (room .entry))) n) ⌝ }
 {
     let c = classes::class_of(n);
-    if let Found::At(i) = search::find_open(len, room, c) {
+    if let Found::At(i) = search::find_open(row, len, room, c) {
         return Reserved::At(take(room, i, c, n));
     }
-    let Found::At(i) = search::find_run(len, room, c) else {
+    let Found::At(i) = search::find_run(row, len, room, c) else {
         return Reserved::NoRoom;
     };
-    records::make_group(room, i, c);
+    records::make_group(row, room, i, c);
     Reserved::At(take(room, i, c, n))
 }
 
 // The block at an offset, if it is live and undamaged.
-pub fn locate(arena: &[u8], room: &[u8], offset: usize) -> Located
-    requires { ⌜ sound rowBytes (length (now arena)) (now room) ≡ true ⌝ }
-    ensures { λ r. ⌜ r ≡ located rowBytes (now (arena .entry)) (lookup rowBytes (view rowBytes (now (room .entry))) offset) ⌝ }
+pub fn locate(row: usize, arena: &[u8], room: &[u8], offset: usize) -> Located
+    requires { ⌜ sound row (length (now arena)) (now room) ≡ true ⌝ }
+    requires { ⌜ Lawful row ⌝ }
+    ensures { λ r. ⌜ r ≡ located row (now (arena .entry)) (lookup row (view row (now (room .entry))) offset) ⌝ }
 {
-    match search::find_block(arena.len(), room, offset) {
+    match search::find_block(row, arena.len(), room, offset) {
         Looked::Absent => Located::NoSuchBlock,
         Looked::Freed => Located::AlreadyFree,
-        Looked::Present(b) => match inspect(arena, b) {
+        Looked::Present(b) => match inspect(row, arena, b) {
             Damage::Intact => Located::Intact(b),
             Damage::HeaderDamaged => Located::HeaderDamaged,
             Damage::Overrun => Located::Overrun,
@@ -125,22 +131,23 @@ pub fn locate(arena: &[u8], room: &[u8], offset: usize) -> Located
 }
 
 // Gives a live block back: its slot waits and its bytes become zero, or the group goes with its last live slot.
-pub fn discard(arena: &mut [u8], room: &mut [u8], b: Block)
-    requires { ⌜ sound rowBytes (length (now arena)) (now room) ≡ true ⌝ }
-    requires { ⌜ Lives rowBytes (now room) b ⌝ }
-    ensures { λ _. ⌜ now (arena .exit) ≡ written (now (arena .entry)) (release rowBytes (view rowBytes (now (room .entry))) (startAt rowBytes b) .changes) ⌝ }
-    ensures { λ _. ⌜ now (room .exit) ≡ encode rowBytes (release rowBytes (view rowBytes (now (room .entry))) (startAt rowBytes b) .pool) ⌝ }
+pub fn discard(row: usize, arena: &mut [u8], room: &mut [u8], b: Block)
+    requires { ⌜ sound row (length (now arena)) (now room) ≡ true ⌝ }
+    requires { ⌜ Lives row (now room) b ⌝ }
+    requires { ⌜ Lawful row ⌝ }
+    ensures { λ _. ⌜ now (arena .exit) ≡ written (now (arena .entry)) (release row (view row (now (room .entry))) (startAt row b) .changes) ⌝ }
+    ensures { λ _. ⌜ now (room .exit) ≡ encode row (release row (view row (now (room .entry))) (startAt row b) .pool) ⌝ }
 {
     let first = b.first;
     let c = b.class;
-    match changes::give_slot(room, first, c, b.slot, b.count, b.disp) {
+    match changes::give_slot(row, room, first, c, b.slot, b.count, b.disp) {
         Left::Kept => {
-            let at = owned_of(b);
+            let at = owned_of(row, b);
             mem::clear(arena, at, at + 16 * classes::units(c));
         }
         Left::Dropped => {
-            let at = classes::ROW * first;
-            mem::clear(arena, at, at + classes::ROW * classes::rows(c));
+            let at = row * first;
+            mem::clear(arena, at, at + row * classes::rows(row, c));
         }
     }
 }
@@ -152,34 +159,36 @@ fn lesser(a: usize, b: usize) -> usize
 }
 
 // Changes a block's size where it is: the first bytes stay, and header and guard are written anew.
-fn resize_in_place(arena: &mut [u8], room: &mut [u8], b: Block, n: usize)
-    requires { ⌜ sound rowBytes (length (now arena)) (now room) ≡ true ⌝ }
-    requires { ⌜ Lives rowBytes (now room) b ⌝ }
+fn resize_in_place(row: usize, arena: &mut [u8], room: &mut [u8], b: Block, n: usize)
+    requires { ⌜ sound row (length (now arena)) (now room) ≡ true ⌝ }
+    requires { ⌜ Lives row (now room) b ⌝ }
     requires { ⌜ (staysIn b n ≡ true) × (n < tooLarge) ⌝ }
-    ensures { λ _. ⌜ now (arena .exit) ≡ written (now (arena .entry)) (changedInPlace rowBytes (view rowBytes (now (room .entry))) (lookup rowBytes (view rowBytes (now (room .entry))) (startAt rowBytes b)) n .changes) ⌝ }
-    ensures { λ _. ⌜ now (room .exit) ≡ encode rowBytes (changedInPlace rowBytes (view rowBytes (now (room .entry))) (lookup rowBytes (view rowBytes (now (room .entry))) (startAt rowBytes b)) n .pool) ⌝ }
+    requires { ⌜ Lawful row ⌝ }
+    ensures { λ _. ⌜ now (arena .exit) ≡ written (now (arena .entry)) (changedInPlace row (view row (now (room .entry))) (lookup row (view row (now (room .entry))) (startAt row b)) n .changes) ⌝ }
+    ensures { λ _. ⌜ now (room .exit) ≡ encode row (changedInPlace row (view row (now (room .entry))) (lookup row (view row (now (room .entry))) (startAt row b)) n .pool) ⌝ }
 {
     let kept = lesser(b.size, n);
-    blocks::reframe_at(arena, owned_of(b), b.class, b.slot, b.disp, kept, n);
+    blocks::reframe_at(arena, owned_of(row, b), b.class, b.slot, b.disp, kept, n);
     changes::resize_slot(room, b.first, b.slot, b.count, b.disp, n);
 }
 
 // Moves a block: a grant while the old one is live, a copy of the first bytes, then the old one is given back.
-fn resize_by_move(arena: &mut [u8], room: &mut [u8], b: Block, n: usize) -> Resize
-    requires { ⌜ sound rowBytes (length (now arena)) (now room) ≡ true ⌝ }
-    requires { ⌜ Lives rowBytes (now room) b ⌝ }
+fn resize_by_move(row: usize, arena: &mut [u8], room: &mut [u8], b: Block, n: usize) -> Resize
+    requires { ⌜ sound row (length (now arena)) (now room) ≡ true ⌝ }
+    requires { ⌜ Lives row (now room) b ⌝ }
     requires { ⌜ n < tooLarge ⌝ }
-    ensures { λ r. ⌜ r ≡ changedByMove rowBytes (view rowBytes (now (room .entry))) (lookup rowBytes (view rowBytes (now (room .entry))) (startAt rowBytes b)) n .answer ⌝ }
-    ensures { λ r. ⌜ now (arena .exit) ≡ written (now (arena .entry)) (changedByMove rowBytes (view rowBytes (now (room .entry))) (lookup rowBytes (view rowBytes (now (room .entry))) (startAt rowBytes b)) n .changes) ⌝ }
-    ensures { λ r. ⌜ now (room .exit) ≡ encode rowBytes (changedByMove rowBytes (view rowBytes (now (room .entry))) (lookup rowBytes (view rowBytes (now (room .entry))) (startAt rowBytes b)) n .pool) ⌝ }
+    requires { ⌜ Lawful row ⌝ }
+    ensures { λ r. ⌜ r ≡ changedByMove row (view row (now (room .entry))) (lookup row (view row (now (room .entry))) (startAt row b)) n .answer ⌝ }
+    ensures { λ r. ⌜ now (arena .exit) ≡ written (now (arena .entry)) (changedByMove row (view row (now (room .entry))) (lookup row (view row (now (room .entry))) (startAt row b)) n .changes) ⌝ }
+    ensures { λ r. ⌜ now (room .exit) ≡ encode row (changedByMove row (view row (now (room .entry))) (lookup row (view row (now (room .entry))) (startAt row b)) n .pool) ⌝ }
 {
-    let Reserved::At(q) = reserve_slot(arena.len(), room, n) else {
+    let Reserved::At(q) = reserve_slot(row, arena.len(), room, n) else {
         return Resize::NoRoom;
     };
-    let start = start_of(q);
-    lay_out(arena, q);
-    mem::copy_within(arena, start_of(b), start, lesser(b.size, n));
-    discard(arena, room, b);
+    let start = start_of(row, q);
+    lay_out(row, arena, q);
+    mem::copy_within(arena, start_of(row, b), start, lesser(b.size, n));
+    discard(row, arena, room, b);
     Resize::At(start)
 }
 
@@ -196,17 +205,18 @@ fn stays_in(b: Block, n: usize) -> bool
 }
 
 // Changes the size of a live block, in place or by a move.
-pub fn change_size(arena: &mut [u8], room: &mut [u8], b: Block, n: usize) -> Resize
-    requires { ⌜ sound rowBytes (length (now arena)) (now room) ≡ true ⌝ }
-    requires { ⌜ Lives rowBytes (now room) b ⌝ }
+pub fn change_size(row: usize, arena: &mut [u8], room: &mut [u8], b: Block, n: usize) -> Resize
+    requires { ⌜ sound row (length (now arena)) (now room) ≡ true ⌝ }
+    requires { ⌜ Lives row (now room) b ⌝ }
     requires { ⌜ n < tooLarge ⌝ }
-    ensures { λ r. ⌜ r ≡ changed rowBytes (view rowBytes (now (room .entry))) b n .answer ⌝ }
-    ensures { λ r. ⌜ now (arena .exit) ≡ written (now (arena .entry)) (changed rowBytes (view rowBytes (now (room .entry))) b n .changes) ⌝ }
-    ensures { λ r. ⌜ now (room .exit) ≡ encode rowBytes (changed rowBytes (view rowBytes (now (room .entry))) b n .pool) ⌝ }
+    requires { ⌜ Lawful row ⌝ }
+    ensures { λ r. ⌜ r ≡ changed row (view row (now (room .entry))) b n .answer ⌝ }
+    ensures { λ r. ⌜ now (arena .exit) ≡ written (now (arena .entry)) (changed row (view row (now (room .entry))) b n .changes) ⌝ }
+    ensures { λ r. ⌜ now (room .exit) ≡ encode row (changed row (view row (now (room .entry))) b n .pool) ⌝ }
 {
     if stays_in(b, n) {
-        resize_in_place(arena, room, b, n);
-        return Resize::At(start_of(b));
+        resize_in_place(row, arena, room, b, n);
+        return Resize::At(start_of(row, b));
     }
-    resize_by_move(arena, room, b, n)
+    resize_by_move(row, arena, room, b, n)
 }

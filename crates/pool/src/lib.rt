@@ -77,17 +77,17 @@ pub fn grant(arena: &mut [u8], room: &mut [u8], n: usize) -> Grant
     ensures { λ r. ⌜ now (room .exit) ≡ call rowBytes (now (arena .entry)) (now (room .entry)) (grants n) .room ⌝ }
 {
     let len = arena.len();
-    if !soundness::sound(len, room) {
+    if !soundness::sound(classes::ROW, len, room) {
         return Grant::Unsound;
     }
     if classes::TOO_LARGE <= n {
         return Grant::TooLarge;
     }
-    let Reserved::At(b) = ops::reserve_slot(len, room, n) else {
+    let Reserved::At(b) = ops::reserve_slot(classes::ROW, len, room, n) else {
         return Grant::NoRoom;
     };
-    ops::lay_out(arena, b);
-    let start = ops::start_of(b);
+    ops::lay_out(classes::ROW, arena, b);
+    let start = ops::start_of(classes::ROW, b);
     Grant::At(start)
 }
 
@@ -97,12 +97,12 @@ pub fn release(arena: &mut [u8], room: &mut [u8], offset: usize) -> Release
     ensures { λ r. ⌜ now (arena .exit) ≡ call rowBytes (now (arena .entry)) (now (room .entry)) (releases offset) .arena ⌝ }
     ensures { λ r. ⌜ now (room .exit) ≡ call rowBytes (now (arena .entry)) (now (room .entry)) (releases offset) .room ⌝ }
 {
-    if !soundness::sound(arena.len(), room) {
+    if !soundness::sound(classes::ROW, arena.len(), room) {
         return Release::Unsound;
     }
-    match ops::locate(arena, room, offset) {
+    match ops::locate(classes::ROW, arena, room, offset) {
         Located::Intact(b) => {
-            ops::discard(arena, room, b);
+            ops::discard(classes::ROW, arena, room, b);
             Release::Done
         }
         Located::NoSuchBlock => Release::NoSuchBlock,
@@ -118,14 +118,14 @@ pub fn resize(arena: &mut [u8], room: &mut [u8], offset: usize, n: usize) -> Res
     ensures { λ r. ⌜ now (arena .exit) ≡ call rowBytes (now (arena .entry)) (now (room .entry)) (resizes offset n) .arena ⌝ }
     ensures { λ r. ⌜ now (room .exit) ≡ call rowBytes (now (arena .entry)) (now (room .entry)) (resizes offset n) .room ⌝ }
 {
-    if !soundness::sound(arena.len(), room) {
+    if !soundness::sound(classes::ROW, arena.len(), room) {
         return Resize::Unsound;
     }
     if classes::TOO_LARGE <= n {
         return Resize::TooLarge;
     }
-    match ops::locate(arena, room, offset) {
-        Located::Intact(b) => ops::change_size(arena, room, b, n),
+    match ops::locate(classes::ROW, arena, room, offset) {
+        Located::Intact(b) => ops::change_size(classes::ROW, arena, room, b, n),
         Located::NoSuchBlock => Resize::NoSuchBlock,
         Located::AlreadyFree => Resize::AlreadyFree,
         Located::HeaderDamaged => Resize::HeaderDamaged,
@@ -137,10 +137,10 @@ pub fn resize(arena: &mut [u8], room: &mut [u8], offset: usize, n: usize) -> Res
 pub fn measure(arena: &[u8], room: &[u8], offset: usize) -> Measure
     ensures { λ r. ⌜ measureAnswer r ≡ call rowBytes (now (arena .entry)) (now (room .entry)) (measures offset) .answer ⌝ }
 {
-    if !soundness::sound(arena.len(), room) {
+    if !soundness::sound(classes::ROW, arena.len(), room) {
         return Measure::Unsound;
     }
-    match ops::locate(arena, room, offset) {
+    match ops::locate(classes::ROW, arena, room, offset) {
         Located::Intact(b) => Measure::Size(b.size),
         Located::NoSuchBlock => Measure::NoSuchBlock,
         Located::AlreadyFree => Measure::AlreadyFree,
@@ -154,9 +154,9 @@ pub fn report(arena: &[u8], room: &[u8]) -> Report
     ensures { λ r. ⌜ reportAnswer r ≡ call rowBytes (now (arena .entry)) (now (room .entry)) reports .answer ⌝ }
 {
     let len = arena.len();
-    if !soundness::sound(len, room) {
+    if !soundness::sound(classes::ROW, len, room) {
         return Report::Unsound;
     }
-    let counted = totals::count(len, room);
+    let counted = totals::count(classes::ROW, len, room);
     Report::Counted(counted)
 }

@@ -4,7 +4,7 @@ ghost use Prim.Native.Nat.{_+_, _*_, _-_, _≤_, _<_};
 ghost use lib.ListN.{length, drop, replicate};
 ghost use mathlib.Core.List.{_∷_, _++_};
 ghost use Rattle.mem.specs.Bytes.{zeros, low, put};
-ghost use Rattle.classes.specs.Classes.{rowBytes, slotsOf, rowsOf};
+ghost use Rattle.classes.specs.Classes.{Lawful, slotsOf, rowsOf};
 ghost use Rattle.model.specs.declared.Slot.{Slot};
 ghost use Rattle.model.specs.State.{group};
 ghost use Rattle.model.specs.Tables.{viewHolder, slotRecord, laterRecords, spanRecords};
@@ -169,10 +169,11 @@ fn write_later(room: &mut [u8], i: usize, n: usize)
 }
 
 // Writes the records of a new group: its class, all slots ready and never granted, and the later rows.
-pub fn make_group(room: &mut [u8], i: usize, c: usize)
-    requires { ⌜ (c < 48) × (i + rowsOf rowBytes c ≤ 512) ⌝ }
-    requires { ⌜ rowAt (i + rowsOf rowBytes c) ≤ length (now room) ⌝ }
-    ensures { λ _. ⌜ now (room .exit) ≡ put (rowAt i) (spanRecords rowBytes (group c (replicate (slotsOf c) Slot.Fresh))) (now (room .entry)) ⌝ }
+pub fn make_group(row: usize, room: &mut [u8], i: usize, c: usize)
+    requires { ⌜ (c < 48) × (i + rowsOf row c ≤ 512) ⌝ }
+    requires { ⌜ rowAt (i + rowsOf row c) ≤ length (now room) ⌝ }
+    requires { ⌜ Lawful row ⌝ }
+    ensures { λ _. ⌜ now (room .exit) ≡ put (rowAt i) (spanRecords row (group c (replicate (slotsOf c) Slot.Fresh))) (now (room .entry)) ⌝ }
 {
     write_row(room, i, 1, c as u8);
     let sets = mask_bytes(Masks {
@@ -180,7 +181,7 @@ pub fn make_group(room: &mut [u8], i: usize, c: usize)
         waiting: 0,
     });
     mem::copy_in(room, row_at(i) + 8, &sets);
-    write_later(room, i, classes::rows(c));
+    write_later(room, i, classes::rows(row, c));
 }
 
 // Writes the records of n free rows.

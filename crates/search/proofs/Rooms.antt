@@ -11,7 +11,6 @@ use Rattle.mem.specs.Lists.{any, join}
 use Rattle.mem.specs.Bytes.{mask}
 use Rattle.mem.proofs.Tests.{and-left, and-right, true-T, every-left, every-right, any-map}
 use Rattle.mem.proofs.Masks.{mask-zero}
-use Rattle.classes.specs.Classes.{rowBytes}
 use Rattle.classes.proofs.Laws.{rows-pos}
 use Rattle.model.specs.declared.Slot.{Slot}
 use Rattle.model.specs.declared.Slot.the-variants.{Fresh, Idle, Live}
@@ -83,6 +82,12 @@ module _ (row : ℕ) (pos : 0 < row) (n : ℕ) (t : List ℕ) (e : sound row n t
   pub row-count : n / row ≡ rows row (view row t)
   row-count = ap (λ m. m / row) (facts .long) ∙ mul-div-cancel-left (rows row (view row t)) pos
 
+  pub row-below : (i : ℕ) → i < n / row → i < rows row (view row t)
+  row-below i h = subst (λ m. i < m) row-count h
+
+  pub row-past : (i : ℕ) → n / row ≤ i → rows row (view row t) ≤ i
+  row-past i h = subst (λ m. m ≤ i) row-count h
+
   few-rows : rows row (view row t) ≤ 512
   unfolding arenaRight
   few-rows =
@@ -117,18 +122,3 @@ module _ (row : ℕ) (pos : 0 < row) (n : ℕ) (t : List ℕ) (e : sound row n t
 
     pub span-open : (c : ℕ) → opensIn c (drop (rowAt (rows row X)) t) ≡ opens c s
     span-open c = ap (opensIn c) span-from ∙ records-open row Y c s span-sound
-
--- ---- at rows of 512 bytes
-
-pub some-bytes : 0 < rowBytes
-unfolding rowBytes
-some-bytes = omega arith
-
-module _ (len : ℕ) (t : List ℕ) (e : sound rowBytes len t ≡ true) where
-  pub row-below : (i : ℕ) → i < len / 512 → i < rows rowBytes (view rowBytes t)
-  unfolding rowBytes
-  row-below i h = subst (λ m. i < m) (row-count rowBytes some-bytes len t e) h
-
-  pub row-past : (i : ℕ) → len / 512 ≤ i → rows rowBytes (view rowBytes t) ≤ i
-  unfolding rowBytes
-  row-past i h = subst (λ m. m ≤ i) (row-count rowBytes some-bytes len t e) h

@@ -4,7 +4,7 @@ ghost use mathlib.Core.Bool.{true};
 ghost use mathlib.Core.List.{[]};
 ghost use Prim.Native.Nat.{_+_, _≤_, _<_};
 ghost use lib.ListN.{length, drop, getD};
-ghost use Rattle.classes.specs.Classes.{rowBytes};
+ghost use Rattle.classes.specs.Classes.{Lawful};
 ghost use Rattle.model.specs.Tables.{sound, view, viewHolder};
 ghost use Rattle.model.specs.Plans.{openFrom, runFrom, lookup};
 ghost use Rattle.records.specs.Records.{rowAt, masksIn, slotIn};
@@ -63,41 +63,44 @@ fn opens_at(room: &[u8], i: usize, c: usize) -> bool
 }
 
 // The rows of the span that a row begins.
-fn rows_held(h: Holder) -> usize
+fn rows_held(row: usize, h: Holder) -> usize
     requires { ⌜ classHeld h < 48 ⌝ }
-    ensures { λ r. ⌜ r ≡ rowsHeld rowBytes h ⌝ }
+    requires { ⌜ Lawful row ⌝ }
+    ensures { λ r. ⌜ r ≡ rowsHeld row h ⌝ }
     ensures small { λ r. ⌜ (1 ≤ r) × (r ≤ 256) ⌝ }
 {
     match h {
         Holder::Free => 1,
-        Holder::First(c) => classes::rows(mem::wide(c)),
+        Holder::First(c) => classes::rows(row, mem::wide(c)),
         Holder::Later(_) => 1,
     }
 }
 
 // The lowest group of a class with a slot that is not live.
-pub fn find_open(len: usize, room: &[u8], c: usize) -> Found
-    requires { ⌜ sound rowBytes len (now room) ≡ true ⌝ }
+pub fn find_open(row: usize, len: usize, room: &[u8], c: usize) -> Found
+    requires { ⌜ sound row len (now room) ≡ true ⌝ }
     requires { ⌜ c < 48 ⌝ }
-    ensures { λ r. ⌜ r ≡ siteFound rowBytes (openFrom [] c (view rowBytes (now (room .entry)))) ⌝ }
+    requires { ⌜ Lawful row ⌝ }
+    ensures { λ r. ⌜ r ≡ siteFound row (openFrom [] c (view row (now (room .entry)))) ⌝ }
 {
-    let n = len / classes::ROW;
+    let n = len / row;
     let mut i = 0;
     while i < n {
         if opens_at(room, i, c) {
             return Found::At(i);
         }
-        i += rows_held(records::holder_at(room, i));
+        i += rows_held(row, records::holder_at(room, i));
     }
     Found::Nothing
 }
 
 // A run of free rows, one span further: a free row makes it longer, a group begins it anew.
-fn next_run(run: Run, h: Holder) -> Run
+fn next_run(row: usize, run: Run, h: Holder) -> Run
     requires { ⌜ (classHeld h < 48) × (run .next < 512) ⌝ }
-    ensures { λ r. ⌜ r ≡ nextRun rowBytes run h ⌝ }
+    requires { ⌜ Lawful row ⌝ }
+    ensures { λ r. ⌜ r ≡ nextRun row run h ⌝ }
 {
-    let after = run.next + rows_held(h);
+    let after = run.next + rows_held(row, h);
     match h {
         Holder::First(_) => Run {
             from: after,
@@ -115,17 +118,19 @@ fn next_run(run: Run, h: Holder) -> Run
 }
 
 // The lowest run of as many free rows as a group of a class takes.
-pub fn find_run(len: usize, room: &[u8], c: usize) -> Found
-    requires { ⌜ sound rowBytes len (now room) ≡ true ⌝ }
+pub fn find_run(row: usize, len: usize, room: &[u8], c: usize) -> Found
+    requires { ⌜ sound row len (now room) ≡ true ⌝ }
     requires { ⌜ c < 48 ⌝ }
-    ensures { λ r. ⌜ r ≡ siteFound rowBytes (runFrom rowBytes [] c (view rowBytes (now (room .entry)))) ⌝ }
+    requires { ⌜ Lawful row ⌝ }
+    ensures { λ r. ⌜ r ≡ siteFound row (runFrom row [] c (view row (now (room .entry)))) ⌝ }
 {
-    let n = len / classes::ROW;
-    let need = classes::rows(c);
+    let n = len / row;
+    let need = classes::rows(row, c);
     let mut from = 0;
     let mut i = 0;
     while i < n {
         let run = next_run(
+            row,
             Run {
                 from: from,
                 next: i,
@@ -208,17 +213,18 @@ fn look_group(room: &[u8], first: usize, c: usize, inside: usize) -> Looked
 }
 
 // The block at an offset: the row of the offset leads to the group's first row, and the distance from there to the slot.
-pub fn find_block(len: usize, room: &[u8], offset: usize) -> Looked
-    requires { ⌜ sound rowBytes len (now room) ≡ true ⌝ }
-    ensures { λ r. ⌜ r ≡ looked rowBytes (lookup rowBytes (view rowBytes (now (room .entry))) offset) ⌝ }
+pub fn find_block(row: usize, len: usize, room: &[u8], offset: usize) -> Looked
+    requires { ⌜ sound row len (now room) ≡ true ⌝ }
+    requires { ⌜ Lawful row ⌝ }
+    ensures { λ r. ⌜ r ≡ looked row (lookup row (view row (now (room .entry))) offset) ⌝ }
 {
     if len <= offset {
         return Looked::Absent;
     }
-    let i = offset / classes::ROW;
+    let i = offset / row;
     let Found::At(first) = first_of(i, records::holder_at(room, i)) else {
         return Looked::Absent;
     };
     let c = mem::wide(room[records::row_at(first) + 1]);
-    look_group(room, first, c, offset - classes::ROW * first)
+    look_group(room, first, c, offset - row * first)
 }

@@ -16,7 +16,7 @@ use Rattle.mem.proofs.Tests.{and-left, and-right, and-both, T-true, true-T, sam
 use Rattle.mem.proofs.Masks.{mask-zero}
 use Rattle.mem.proofs.Laws.{part-length, getD-part, part-part, zeros-length, zeros-cons, low-length, number-low, low-number}
 use Rattle.mem.proofs.Laws.{bytes-by, every-part, same→eq, eq→same, same-part-low}
-use Rattle.classes.specs.Classes.{rowBytes, slotBytes, slotsOf, rowsOf, classOf, tooLarge, below2}
+use Rattle.classes.specs.Classes.{slotBytes, slotsOf, rowsOf, classOf, tooLarge, below2}
 use Rattle.classes.proofs.Laws.{near-test, bytes-least, slots-small, rows-pos}
 use Rattle.model.specs.declared.Slot.{Slot}
 use Rattle.model.specs.declared.Slot.the-variants.{Fresh, Idle, Live}
@@ -58,7 +58,7 @@ starts-then k t x y e = rw (← e) (go t x)
     go [] (b ∷ x) = refl
     go (a ∷ t) (b ∷ x) = rw (go t x) (sym (and-assoc (eqb a b) (starts t x) (starts (drop (length x) t) y)))
 
-starts-from : (s : List ℕ) (p k q : ℕ) (x y : List ℕ) → length x ≡ k → p + k ≡ q
+pub starts-from : (s : List ℕ) (p k q : ℕ) (x y : List ℕ) → length x ≡ k → p + k ≡ q
     → starts (drop p s) (x ++ y) ≡ (starts (drop p s) x && starts (drop q s) y)
 starts-from s p k q x y e f =
     starts-then k (drop p s) x y e ∙ ap (λ (l : List ℕ). starts (drop p s) x && starts l y) (drop-drop k p s ∙ ap (λ (i : ℕ). drop i s) f)
@@ -83,7 +83,7 @@ starts-own [] y = tt
 starts-own (a ∷ x) y = and-both (eqb a a) (starts (x ++ y) x) (eqb-refl a) (starts-own x y)
 
 -- the test of zeros from a place on
-starts-zeros : (at n : ℕ) (s : List ℕ) → same (part at n s) (zeros n) ≡ starts (drop at s) (zeros n)
+pub starts-zeros : (at n : ℕ) (s : List ℕ) → same (part at n s) (zeros n) ≡ starts (drop at s) (zeros n)
 starts-zeros at n s = ap (λ (k : ℕ). same (take k (drop at s)) (zeros n)) (sym (zeros-length n)) ∙ starts-same (drop at s) (zeros n)
 
 -- the first two elements
@@ -605,7 +605,3 @@ module _ (row : ℕ) (pos : 0 < row) where
 
     pub sound-law : ((i : ℕ) → getD t i 0 < 256) → sound row n t ≡ roomChecked row n t
     sound-law B = same-test (sound row n t) (roomChecked row n t) sound-passes (passes-sound B)
-
-pub row-pos : 0 < rowBytes
-unfolding rowBytes
-row-pos = lit≤ tt

@@ -1,6 +1,6 @@
 -- What is tested of a room, piece by piece, each piece over the room's bytes from its place on.
-use Prim.Native.Nat.{ℕ, _+_, _*_, _-_, _/_}
-use mathlib.Core.Bool.{Bool, true, false, _&&_, not}
+use Prim.Native.Nat.{ℕ, _+_, _*_, _-_, _/_, _%_}
+use mathlib.Core.Bool.{Bool, true, false, _&&_, _||_, not}
 use mathlib.Core.List.{List, [], _∷_, map}
 use lib.Dec.{leb, ltb, eqb}
 use lib.ListN.{length, getD, take, drop}
@@ -31,6 +31,13 @@ slotFits most least (Live k d n) = leb (16 * d + n) most && ltb least (n + 4) &&
 unfoldable pub slotChecked : ℕ → ℕ → Bool → Bool → List ℕ → Bool
 slotChecked most least r w t =
     let x = viewSlot r w (take 8 t) in not (r && w) && starts t (slotRecord x) && slotFits most least x
+
+-- the same of the numbers in the record's two halves, rule by rule: `lo` has tag, count and displacement, `hi` the size and a zero
+unfoldable pub recordChecked : ℕ → ℕ → Bool → Bool → ℕ → ℕ → Bool
+recordChecked most least r w lo hi =
+    let n = hi % 16777216 in
+    not (r && w) && (eqb (lo % 256) 1 || (r && eqb lo 0)) && ltb hi 16777216 && leb (16 * (lo / 65536) + n) most
+    && ((r || w) || ltb least (n + 4)) && (not (r || w) || eqb hi 0) && ltb n tooLarge
 
 -- the records of n slots, with the two masks
 unfoldable pub slotsChecked : ℕ → ℕ → ℕ → ℕ → ℕ → List ℕ → Bool

@@ -1,104 +1,116 @@
 // Whether the bytes of a room are sound tables. The room is walked once, span by span.
 ghost use mathlib.Core.Path.{_≡_};
-ghost use mathlib.Core.Bool.{true, false};
 ghost use mathlib.Core.List.{[]};
-ghost use Prim.Native.Nat.{_+_, _*_, _≤_, _<_};
+ghost use Prim.Native.Nat.{_+_, _*_, _-_, _/_, _%_, _^_, _≤_, _<_};
 ghost use lib.ListN.{length, getD, drop};
-ghost use Rattle.classes.specs.Classes.{rowBytes, slotsOf, below2};
+ghost use lib.Dec.{eqb};
+ghost use Rattle.mem.specs.Bytes.{zeros, same, part};
+ghost use Rattle.classes.specs.Classes.{Lawful, slotsOf, below2};
 ghost use Rattle.model.specs.declared.Holder.the-variants.{Later};
-ghost use Rattle.model.specs.Tables.{rowRecord, laterRecords, sound};
-ghost use Rattle.soundness.specs.Checks.{starts, slotChecked, slotsChecked, membersChecked};
+ghost use Rattle.model.specs.Tables.{rowRecord, laterRecords, sizesIn, sound};
+ghost use Rattle.soundness.specs.Checks.{starts, recordChecked, slotsChecked, membersChecked};
 ghost use Rattle.soundness.specs.Checks.{groupChecked, spanChecked, rowsChecked};
 
-// The record of a slot that was granted and is not live: 1, its count, its displacement, zeros.
-fn idle_sound(s: &[u8], at: usize, most: usize) -> bool
-    requires { ⌜ at + 8 ≤ length (now s) ⌝ }
-    ensures { λ r. ⌜ r ≡ slotChecked most 0 false true (drop at (now (s .entry))) ⌝ }
+// Whether bit i of a mask is set.
+fn has(m: u32, i: usize) -> bool
+    requires { ⌜ i < 32 ⌝ }
+    ensures { λ r. ⌜ r ≡ eqb (m / 2 ^ i % 2) 1 ⌝ }
 {
-    if s[at] != 1 {
-        return false;
-    }
-    if !mem::zeros_at(s, at + 4, 4) {
-        return false;
-    }
-    16 * mem::get2(s, at + 2) <= most
+    (m >> i as u32) % 2 == 1
 }
 
-// The record of a live slot: 1, its count, its displacement, its size, 0.
-fn live_sound(s: &[u8], at: usize, most: usize, least: usize) -> bool
-    requires { ⌜ at + 8 ≤ length (now s) ⌝ }
-    ensures { λ r. ⌜ r ≡ slotChecked most least false false (drop at (now (s .entry))) ⌝ }
+// The record of a slot, as the numbers in its two halves, with its bits of the two masks. A displacement and a size have at most
+// `most` bytes together; the class two below has `least`. Every rule is tested, with no branch between them, so that the loop over
+// the slots is vectorised.
+fn record_sound(lo: u32, hi: u32, ready: bool, waiting: bool, most: u32, least: u32) -> bool
+    ensures { λ r. ⌜ r ≡ recordChecked most least ready waiting lo hi ⌝ }
 {
-    if s[at] != 1 {
-        return false;
-    }
-    if s[at + 7] != 0 {
-        return false;
-    }
-    let n = mem::get3(s, at + 4);
-    if most < 16 * mem::get2(s, at + 2) + n {
-        return false;
-    }
-    if n + 4 <= least {
-        return false;
-    }
-    n < classes::TOO_LARGE
+    let granted = lo % 256 == 1;
+    let displacement = lo / 65536;
+    let size = hi % 16777216;
+    let idle = ready | waiting;
+    // The slot is not in both sets.
+    let one_set = !(ready & waiting);
+    // It was granted before, or it is ready and has zeros alone.
+    let begun = granted | (ready & (lo == 0));
+    // The byte after the size is 0.
+    let ended = hi < 16777216;
+    // The block ends within the slot, wherever it begins.
+    let fits = 16 * displacement + size <= most;
+    // A live block is too large for the class two below.
+    let own_class = idle | (least < size + 4);
+    // A slot that is not live has no size.
+    let cleared = !idle | (hi == 0);
+    // The size is one that can be asked for.
+    let allowed = size < classes::TOO_LARGE as u32;
+    one_set & begun & ended & fits & own_class & cleared & allowed
 }
 
-// The record of a slot with its bits of the two masks, which are not both set.
-fn slot_sound(s: &[u8], at: usize, ready: bool, waiting: bool, most: usize, least: usize) -> bool
-    requires { ⌜ at + 8 ≤ length (now s) ⌝ }
-    ensures { λ r. ⌜ r ≡ slotChecked most least ready waiting (drop at (now (s .entry))) ⌝ }
-{
-    if ready {
-        if waiting {
-            return false;
-        }
-        if s[at] == 0 {
-            return mem::zeros_at(s, at, 8);
-        }
-        return idle_sound(s, at, most);
-    }
-    if waiting {
-        return idle_sound(s, at, most);
-    }
-    live_sound(s, at, most, least)
+// What is found of the slots of a group: whether they are sound, and the sum of their requested sizes.
+pub struct Slots {
+    pub sound: bool,
+    pub bytes: u32,
 }
 
 // The records of n slots; the masks have no bits past them.
-fn slots_sound(
+fn slots_walk(
     s: &[u8],
     at: usize,
     n: usize,
-    ready: usize,
-    waiting: usize,
-    most: usize,
-    least: usize,
-) -> bool
-    requires { ⌜ at + 8 * n ≤ length (now s) ⌝ }
-    ensures { λ r. ⌜ r ≡ slotsChecked most least n ready waiting (drop at (now (s .entry))) ⌝ }
+    ready: u32,
+    waiting: u32,
+    most: u32,
+    least: u32,
+) -> Slots
+    requires { ⌜ (n ≤ 31) × (at + 8 * n ≤ length (now s)) ⌝ }
+    ensures { λ r. ⌜ r .sound ≡ slotsChecked most least n ready waiting (drop at (now (s .entry))) ⌝ }
+    ensures { λ r. ⌜ r .bytes ≡ sizesIn n (drop at (now (s .entry))) ⌝ }
+    ensures small { λ r. ⌜ r .bytes ≤ 16777216 * n ⌝ }
 {
-    let mut r = ready;
-    let mut w = waiting;
+    let mut sound = true;
+    let mut bytes = 0;
     let mut i = 0;
     while i < n {
-        if !slot_sound(s, at + 8 * i, r % 2 == 1, w % 2 == 1, most, least) {
-            return false;
-        }
-        r = r / 2;
-        w = w / 2;
+        let lo = mem::quad(s, at + 8 * i);
+        let hi = mem::quad(s, at + 8 * i + 4);
+        sound = sound & record_sound(lo, hi, has(ready, i), has(waiting, i), most, least);
+        bytes += hi % 16777216;
         i += 1;
     }
-    if r != 0 {
-        return false;
+    Slots {
+        sound: sound & (ready >> n as u32 == 0) & (waiting >> n as u32 == 0),
+        bytes: bytes,
     }
-    w == 0
+}
+
+// The same, with a path of its own for a group whose slots are all live: there the tests of the masks fall away.
+fn slots_found(
+    s: &[u8],
+    at: usize,
+    n: usize,
+    ready: u32,
+    waiting: u32,
+    most: u32,
+    least: u32,
+) -> Slots
+    requires { ⌜ (n ≤ 31) × (at + 8 * n ≤ length (now s)) ⌝ }
+    ensures { λ r. ⌜ r .sound ≡ slotsChecked most least n ready waiting (drop at (now (s .entry))) ⌝ }
+    ensures { λ r. ⌜ r .bytes ≡ sizesIn n (drop at (now (s .entry))) ⌝ }
+    ensures small { λ r. ⌜ r .bytes ≤ 16777216 * n ⌝ }
+{
+    if ready == 0 {
+        if waiting == 0 {
+            return slots_walk(s, at, n, 0, 0, most, least);
+        }
+    }
+    slots_walk(s, at, n, ready, waiting, most, least)
 }
 
 // The bytes of the class two below c, or 0: a request that fits them is of neither class c nor the one below.
 fn below(c: usize) -> usize
     requires { ⌜ c < 48 ⌝ }
     ensures { λ r. ⌜ r ≡ below2 c ⌝ }
+    ensures small { λ r. ⌜ r < 131072 ⌝ }
 {
     if c < 2 {
         return 0;
@@ -107,16 +119,33 @@ fn below(c: usize) -> usize
 }
 
 // The masks and the n slots of a group of class c. One slot is live: else the masks would have all n bits.
-fn members_sound(s: &[u8], at: usize, c: usize, n: usize) -> bool
+fn members_found(s: &[u8], at: usize, c: usize, n: usize) -> Slots
     requires { ⌜ (at + 264 ≤ length (now s)) × (c < 48) × (n ≡ slotsOf c) × (n ≤ 31) ⌝ }
-    ensures { λ r. ⌜ r ≡ membersChecked c (drop at (now (s .entry))) ⌝ }
+    ensures { λ r. ⌜ r .sound ≡ membersChecked c (drop at (now (s .entry))) ⌝ }
+    ensures { λ r. ⌜ r .bytes ≡ sizesIn n (drop (at + 16) (now (s .entry))) ⌝ }
 {
-    let r = mem::get4(s, at + 8);
-    let w = mem::get4(s, at + 12);
-    if !slots_sound(s, at + 16, n, r, w, 16 * classes::units(c) - 4, below(c)) {
-        return false;
+    let r = mem::quad(s, at + 8);
+    let w = mem::quad(s, at + 12);
+    let most = (16 * classes::units(c) - 4) as u32;
+    let found = slots_found(s, at + 16, n, r, w, most, below(c) as u32);
+    Slots {
+        sound: found.sound & (r as usize + w as usize + 1 != masks::bit_of(n as u32) as usize),
+        bytes: found.bytes,
     }
-    r + w + 1 != masks::bit_of(n as u32) as usize
+}
+
+// Whether the records from the n-th slot's to the row's end are zero. It counts up to 31: a loop of 31 - n turns is not vectorised.
+fn rest_zero(s: &[u8], at: usize, n: usize) -> bool
+    requires { ⌜ (n ≤ 31) × (at + 248 ≤ length (now s)) ⌝ }
+    ensures { λ r. ⌜ r ≡ same (part (at + 8 * n) (8 * (31 - n)) (now (s .entry))) (zeros (8 * (31 - n))) ⌝ }
+{
+    let mut seen: u32 = 0;
+    let mut i = n;
+    while i < 31 {
+        seen = seen | mem::quad(s, at + 8 * i) | mem::quad(s, at + 8 * i + 4);
+        i += 1;
+    }
+    seen == 0
 }
 
 // The first row of a group of class c.
@@ -129,10 +158,11 @@ fn group_sound(s: &[u8], at: usize, c: usize) -> bool
         return false;
     }
     let n = classes::slots(c);
-    if !members_sound(s, at, c, n) {
+    let found = members_found(s, at, c, n);
+    if !found.sound {
         return false;
     }
-    mem::zeros_at(s, at + 16 + 8 * n, 8 * (31 - n))
+    rest_zero(s, at + 16, n)
 }
 
 // A later row of a group, k rows after the first.
@@ -171,15 +201,16 @@ pub enum Tile {
 }
 
 // The group whose first row stands at a place, where n rows are left.
-fn held_sound(s: &[u8], at: usize, n: usize) -> Tile
+fn held_sound(row: usize, s: &[u8], at: usize, n: usize) -> Tile
     requires { ⌜ (0 < n) × (at + 264 * n ≤ length (now s)) × (getD (now s) at 0 ≡ 1) ⌝ }
-    ensures { λ r. ⌜ r ≡ spanChecked rowBytes n (drop at (now (s .entry))) ⌝ }
+    requires { ⌜ Lawful row ⌝ }
+    ensures { λ r. ⌜ r ≡ spanChecked row n (drop at (now (s .entry))) ⌝ }
 {
     let c = mem::wide(s[at + 1]);
     if classes::CLASSES <= c {
         return Tile::Unsound;
     }
-    let rows = classes::rows(c);
+    let rows = classes::rows(row, c);
     if n < rows {
         return Tile::Unsound;
     }
@@ -193,9 +224,10 @@ fn held_sound(s: &[u8], at: usize, n: usize) -> Tile
 }
 
 // The span that begins at a place, where n rows are left: a free row, or a group.
-fn span_sound(s: &[u8], at: usize, n: usize) -> Tile
+fn span_sound(row: usize, s: &[u8], at: usize, n: usize) -> Tile
     requires { ⌜ (0 < n) × (at + 264 * n ≤ length (now s)) ⌝ }
-    ensures { λ r. ⌜ r ≡ spanChecked rowBytes n (drop at (now (s .entry))) ⌝ }
+    requires { ⌜ Lawful row ⌝ }
+    ensures { λ r. ⌜ r ≡ spanChecked row n (drop at (now (s .entry))) ⌝ }
 {
     let kind = s[at];
     if kind == 0 {
@@ -205,19 +237,20 @@ fn span_sound(s: &[u8], at: usize, n: usize) -> Tile
         return Tile::Unsound;
     }
     if kind == 1 {
-        return held_sound(s, at, n);
+        return held_sound(row, s, at, n);
     }
     Tile::Unsound
 }
 
 // The n rows of a room.
-fn rows_sound(room: &[u8], n: usize) -> bool
+fn rows_sound(row: usize, room: &[u8], n: usize) -> bool
     requires { ⌜ length (now room) ≡ 16 + 264 * n ⌝ }
-    ensures { λ r. ⌜ r ≡ rowsChecked rowBytes n (drop 16 (now (room .entry))) ⌝ }
+    requires { ⌜ Lawful row ⌝ }
+    ensures { λ r. ⌜ r ≡ rowsChecked row n (drop 16 (now (room .entry))) ⌝ }
 {
     let mut i = 0;
     while i < n {
-        match span_sound(room, 16 + 264 * i, n - i) {
+        match span_sound(row, room, 16 + 264 * i, n - i) {
             Tile::Rows(k) => {
                 i += k;
             }
@@ -230,19 +263,20 @@ fn rows_sound(room: &[u8], n: usize) -> bool
 }
 
 // Whether a room is sound under an arena of len bytes.
-pub fn sound(len: usize, room: &[u8]) -> bool
-    ensures { λ r. ⌜ r ≡ sound rowBytes len (now (room .entry)) ⌝ }
+pub fn sound(row: usize, len: usize, room: &[u8]) -> bool
+    requires { ⌜ Lawful row ⌝ }
+    ensures { λ r. ⌜ r ≡ sound row len (now (room .entry)) ⌝ }
 {
-    if len < classes::ROW {
+    if len < row {
         return false;
     }
-    if 512 * classes::ROW < len {
+    if 512 * row < len {
         return false;
     }
-    if len % classes::ROW != 0 {
+    if len % row != 0 {
         return false;
     }
-    let n = len / classes::ROW;
+    let n = len / row;
     if room.len() != 16 + 264 * n {
         return false;
     }
@@ -252,5 +286,5 @@ pub fn sound(len: usize, room: &[u8]) -> bool
     if !mem::zeros_at(room, 4, 12) {
         return false;
     }
-    rows_sound(room, n)
+    rows_sound(row, room, n)
 }

@@ -14,7 +14,7 @@ use Rattle.mem.specs.Bytes.{zeros, number, part, mask, bit}
 use Rattle.mem.proofs.Tests.{and-left, and-right, true-T, every-left, every-right}
 use Rattle.mem.proofs.Masks.{ones-sum}
 use Rattle.mem.proofs.Laws.{number-low}
-use Rattle.classes.specs.Classes.{rowBytes, slotsOf, tooLarge}
+use Rattle.classes.specs.Classes.{slotsOf, tooLarge}
 use Rattle.classes.proofs.Laws.{rows-pos}
 use Rattle.model.specs.declared.Slot.{Slot}
 use Rattle.model.specs.declared.Slot.the-variants.{Fresh, Idle, Live}
@@ -23,12 +23,12 @@ use Rattle.model.specs.declared.Holder.the-variants.{Free, First}
 use Rattle.model.specs.declared.Totals.{Totals}
 use Rattle.model.specs.State.{Span, Pool, free, group, isReady, isWaiting, isLive, size, slotSound, spanSound, wellFormed, rows, rowsIn}
 use Rattle.model.specs.Plans.{slotSum, freeRow, heldRows, totals}
-use Rattle.model.specs.Tables.{slotRecord, rowRecord, spanRecords, encode, roomBytes, view, viewHolder, arenaRight, sound}
+use Rattle.model.specs.Tables.{slotRecord, rowRecord, spanRecords, encode, roomBytes, sizesIn, view, viewHolder, arenaRight, sound}
 use Rattle.model.proofs.Tables.{slot-length, rowHead, head-length, row-parts, group-slots, group-few, encode-length, holder-free, holder-first, Sound, sound-facts}
 use Rattle.model.proofs.Rooms.{rows-append, encode-from}
 use Rattle.records.specs.Records.{rowAt, masksIn}
 use Rattle.records.proofs.Laws.{group-first, masks-read-span}
-use Rattle.totals.specs.Sums.{sizesIn, idle, Countable, Small, addHeld, addGroup, addSpan}
+use Rattle.totals.specs.Sums.{idle, Countable, Small, addHeld, addGroup, addSpan}
 
 -- ---- sums over the slots of a group
 
@@ -290,7 +290,3 @@ module _ (row : ℕ) (pos : 0 < row) (n : ℕ) (t : List ℕ) (e : sound row n t
         go : (Y : Pool) → view row t ≡ p .before ++ Y → s ≡ totals row (view row t)
         go [] e = p .counted ∙ ap (totals row) (sym (e ∙ append-nil (p .before)))
         go (x ∷ Y) e = absurd (omega (arith, row-count, passed, span-rows (p .before) x Y e, some-rows row pos x))
-
-pub some-bytes : 0 < rowBytes
-unfolding rowBytes
-some-bytes = omega arith

@@ -1,20 +1,14 @@
 -- What one span adds to the totals: t is the room from its first row's record on.
-use Prim.Native.Nat.{ℕ, zero, suc, _+_, _-_, _≤_, _<_}
+use Prim.Native.Nat.{ℕ, _+_, _-_, _≤_, _<_}
 use mathlib.Core.List.{List}
 use lib.Count.{ones}
 use lib.ListN.{drop}
-use Rattle.mem.specs.Bytes.{number, part}
 use Rattle.classes.specs.Classes.{slotsOf, rowsOf}
 use Rattle.model.specs.declared.Holder.{Holder}
 use Rattle.model.specs.declared.Holder.the-variants.{Free, First, Later}
 use Rattle.model.specs.declared.Totals.{Totals}
-use Rattle.model.specs.Tables.{viewHolder}
+use Rattle.model.specs.Tables.{sizesIn, viewHolder}
 use Rattle.records.specs.Records.{masksIn}
-
--- the requested sizes in n slot records: one that is not live holds 0
-unfoldable pub sizesIn : ℕ → List ℕ → ℕ
-sizesIn zero t = 0
-sizesIn (suc n) t = number (part 4 3 t) + sizesIn n (drop 8 t)
 
 -- the slots of a group that are not live
 abbrev pub idle : List ℕ → ℕ

@@ -3,12 +3,12 @@ ghost use mathlib.Core.Path.{_≡_};
 ghost use mathlib.Core.Bool.{true};
 ghost use Prim.Native.Nat.{ℕ, _+_, _*_, _≤_, _<_};
 ghost use lib.ListN.{length, drop};
-ghost use Rattle.classes.specs.Classes.{rowBytes};
+ghost use Rattle.classes.specs.Classes.{Lawful};
 ghost use Rattle.model.specs.declared.Holder.the-variants.{First};
-ghost use Rattle.model.specs.Tables.{sound, view, viewHolder};
+ghost use Rattle.model.specs.Tables.{sizesIn, sound, view, viewHolder};
 ghost use Rattle.model.specs.Plans.{totals};
 ghost use Rattle.records.specs.Records.{rowAt};
-ghost use Rattle.totals.specs.Sums.{sizesIn, Countable, Small, addGroup, addSpan};
+ghost use Rattle.totals.specs.Sums.{Countable, Small, addGroup, addSpan};
 use model::Holder;
 use model::Totals;
 
@@ -28,11 +28,12 @@ fn sizes(room: &[u8], at: usize, n: usize) -> usize
 }
 
 // Totals with one group more, of class c, whose first row is row i.
-fn add_group(s: Totals, room: &[u8], i: usize, c: usize) -> Totals
+fn add_group(row: usize, s: Totals, room: &[u8], i: usize, c: usize) -> Totals
     requires { ⌜ (i < 512) × (rowAt i + 264 ≤ length (now room)) ⌝ }
     requires { ⌜ Countable (drop (rowAt i) (now room)) c ⌝ }
     requires { ⌜ Small s ⌝ }
-    ensures { λ r. ⌜ r ≡ addGroup rowBytes s (drop (rowAt i) (now (room .entry))) c ⌝ }
+    requires { ⌜ Lawful row ⌝ }
+    ensures { λ r. ⌜ r ≡ addGroup row s (drop (rowAt i) (now (room .entry))) c ⌝ }
 {
     let n = classes::slots(c);
     let m = records::masks_at(room, i);
@@ -42,7 +43,7 @@ fn add_group(s: Totals, room: &[u8], i: usize, c: usize) -> Totals
     Totals {
         blocks: s.blocks + live,
         bytes: s.bytes + sizes(room, records::row_at(i) + 16, n),
-        held: s.held + classes::rows(c),
+        held: s.held + classes::rows(row, c),
         free: s.free,
         ready: s.ready + ready,
         waiting: s.waiting + waiting,
@@ -50,11 +51,12 @@ fn add_group(s: Totals, room: &[u8], i: usize, c: usize) -> Totals
 }
 
 // Totals with one span more, whose first row is row i.
-fn add_span(s: Totals, room: &[u8], i: usize) -> Totals
+fn add_span(row: usize, s: Totals, room: &[u8], i: usize) -> Totals
     requires { ⌜ (i < 512) × (rowAt i + 264 ≤ length (now room)) ⌝ }
     requires { ⌜ ((c : ℕ) → viewHolder (drop (rowAt i) (now room)) ≡ First c → Countable (drop (rowAt i) (now room)) c) ⌝ }
     requires { ⌜ Small s ⌝ }
-    ensures { λ r. ⌜ r ≡ addSpan rowBytes s (drop (rowAt i) (now (room .entry))) ⌝ }
+    requires { ⌜ Lawful row ⌝ }
+    ensures { λ r. ⌜ r ≡ addSpan row s (drop (rowAt i) (now (room .entry))) ⌝ }
 {
     let h = records::holder_at(room, i);
     let Holder::First(c) = h else {
@@ -67,15 +69,16 @@ fn add_span(s: Totals, room: &[u8], i: usize) -> Totals
             waiting: s.waiting,
         };
     };
-    add_group(s, room, i, mem::wide(c))
+    add_group(row, s, room, i, mem::wide(c))
 }
 
 // The totals that sound tables say. What is held and what is free are the rows passed.
-pub fn count(len: usize, room: &[u8]) -> Totals
-    requires { ⌜ sound rowBytes len (now room) ≡ true ⌝ }
-    ensures { λ r. ⌜ r ≡ totals rowBytes (view rowBytes (now (room .entry))) ⌝ }
+pub fn count(row: usize, len: usize, room: &[u8]) -> Totals
+    requires { ⌜ sound row len (now room) ≡ true ⌝ }
+    requires { ⌜ Lawful row ⌝ }
+    ensures { λ r. ⌜ r ≡ totals row (view row (now (room .entry))) ⌝ }
 {
-    let n = len / classes::ROW;
+    let n = len / row;
     let mut s = Totals {
         blocks: 0,
         bytes: 0,
@@ -85,7 +88,7 @@ pub fn count(len: usize, room: &[u8]) -> Totals
         waiting: 0,
     };
     while s.held + s.free < n {
-        s = add_span(s, room, s.held + s.free);
+        s = add_span(row, s, room, s.held + s.free);
     }
     s
 }

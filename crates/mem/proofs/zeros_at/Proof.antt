@@ -7,27 +7,14 @@ use native.Mathlib.Nat.{add-zero, sub-zero}
 use native.Mathlib.Omega.{arith}
 use borrow.Author.Needs.{needs}
 use denote.Ref.{now}
-use lib.Bits.{bitOr, or-add-and, and-le-l, and-le-r}
-use lib.Dec.{eqb, eqb→eq}
+use lib.Bits.{bitOr}
+use lib.Dec.{eqb}
 use lib.ListN.{length, getD}
 use Rattle.mem.specs.Bytes.{zeros, part, same}
 use Rattle.mem.proofs.Laws.{part-cons, zeros-none, zeros-left}
-use Rattle.mem.proofs.Tests.{and-left, and-right, and-both, same-test, eq→eqb}
+use Rattle.mem.proofs.Tests.{or-none}
 use Rattle.mem.proofs.zeros_at.Statement.{statement}
 use Rattle.mem.proofs.zeros_at.Tie as tie
-
--- an or is zero where both are
-or-none : (a b : ℕ) → eqb (bitOr a b) 0 ≡ (eqb a 0 && eqb b 0)
-or-none a b =
-    let s = or-add-and a b in
-    let l = and-le-l a b in
-    let r = and-le-r a b in
-    same-test (eqb (bitOr a b) 0) (eqb a 0 && eqb b 0)
-    (λ t. let z = eqb→eq (bitOr a b) 0 t in and-both (eqb a 0) (eqb b 0) (eq→eqb a 0 (omega arith)) (eq→eqb b 0 (omega arith)))
-    (λ t.
-    let x = eqb→eq a 0 (and-left (eqb a 0) (eqb b 0) t) in
-    let y = eqb→eq b 0 (and-right (eqb a 0) (eqb b 0) t) in
-    eq→eqb (bitOr a b) 0 (omega arith))
 
 -- one turn
 turn : (s : List ℕ) (at n i seen : ℕ) → i < n → at + n ≤ length s

@@ -1,10 +1,9 @@
 -- What the search finds and what the inspection tells is what is located.
 use mathlib.Core.Path.{sym, ap, _∙_}
+use native.Mathlib.Omega.{arith}
 use borrow.Author.Needs.{needs}
-use lib.Dec.{lit≤}
 use lib.ListN.{length}
 use Rattle.mem.specs.Lists.{choose}
-use Rattle.classes.specs.Classes.{rowBytes}
 use Rattle.blocks.specs.Damage.{damageNumber}
 use Rattle.model.specs.Plans.{lookup}
 use Rattle.model.specs.Tables.{view}
@@ -15,29 +14,30 @@ use Rattle.ops.proofs.locate.Statement.{statement}
 use Rattle.ops.proofs.locate.Tie as tie
 
 inspect-requires : tie.Need-inspect-requires
-unfolding rowBytes
 inspect-requires c κs =
-    let a = c .before .before .before .before .before .before .args in
-    lives-stands rowBytes (lit≤ tt) (length (now (a .arena))) (now (a .room)) (c .before .b .given .0 .0) (c .before .before .before .before .before .before .pre)
-    (present-lives rowBytes (lit≤ tt) (now (a .room)) (a .offset) (c .before .b .given .0 .0) (sym (c .before .before .before .find-block .ensures) ∙ c .before .b .given .1) .0)
+    let a = c .before .before .before .before .before .before .args in (
+      lives-stands (a .row) (omega arith) (length (now (a .arena))) (now (a .room)) (c .before .b .given .0 .0) (c .before .before .before .before .before .before .pre .0)
+          (present-lives (a .row) (omega arith) (now (a .room)) (a .offset) (c .before .b .given .0 .0) (sym (c .before .before .before .find-block .ensures) ∙ c .before .b .given .1) .0),
+      search needs,
+    )
 
 returns : tie.Need-returns
 returns c =
     let a = c .before .before .before .before .before .args in
-    located-absent rowBytes (now (a .arena)) (lookup rowBytes (view rowBytes (now (a .room))) (a .offset)) (sym (c .before .before .find-block .ensures) ∙ c .enum-told .given .1)
+    located-absent (a .row) (now (a .arena)) (lookup (a .row) (view (a .row) (now (a .room))) (a .offset)) (sym (c .before .before .find-block .ensures) ∙ c .enum-told .given .1)
 
 returns-2 : tie.Need-returns-2
 returns-2 c =
     let a = c .before .before .before .before .before .args in
-    located-freed rowBytes (now (a .arena)) (lookup rowBytes (view rowBytes (now (a .room))) (a .offset)) (sym (c .before .before .find-block .ensures) ∙ c .enum-told2 .given .1)
+    located-freed (a .row) (now (a .arena)) (lookup (a .row) (view (a .row) (now (a .room))) (a .offset)) (sym (c .before .before .find-block .ensures) ∙ c .enum-told2 .given .1)
 
 returns-3 : tie.Need-returns-3
 unfolding choose
 returns-3 c =
     let a = c .before .before .before .before .before .before .before .before .before .args in
     let b = c .before .before .before .before .b .given .0 .0 in
-    ap (byDamage rowBytes b) (sym (ap damageNumber (c .enum-told3 .given .1)) ∙ c .before .before .inspect .ensures)
-    ∙ located-present rowBytes (now (a .arena)) (lookup rowBytes (view rowBytes (now (a .room))) (a .offset)) b
+    ap (byDamage (a .row) b) (sym (ap damageNumber (c .enum-told3 .given .1)) ∙ c .before .before .inspect .ensures)
+    ∙ located-present (a .row) (now (a .arena)) (lookup (a .row) (view (a .row) (now (a .room))) (a .offset)) b
     (sym (c .before .before .before .before .before .before .find-block .ensures) ∙ c .before .before .before .before .b .given .1)
 
 returns-4 : tie.Need-returns-4
@@ -45,8 +45,8 @@ unfolding choose
 returns-4 c =
     let a = c .before .before .before .before .before .before .before .before .before .args in
     let b = c .before .before .before .before .b .given .0 .0 in
-    ap (byDamage rowBytes b) (sym (ap damageNumber (c .enum-told4 .given .1)) ∙ c .before .before .inspect .ensures)
-    ∙ located-present rowBytes (now (a .arena)) (lookup rowBytes (view rowBytes (now (a .room))) (a .offset)) b
+    ap (byDamage (a .row) b) (sym (ap damageNumber (c .enum-told4 .given .1)) ∙ c .before .before .inspect .ensures)
+    ∙ located-present (a .row) (now (a .arena)) (lookup (a .row) (view (a .row) (now (a .room))) (a .offset)) b
     (sym (c .before .before .before .before .before .before .find-block .ensures) ∙ c .before .before .before .before .b .given .1)
 
 returns-5 : tie.Need-returns-5
@@ -54,8 +54,8 @@ unfolding choose
 returns-5 c =
     let a = c .before .before .before .before .before .before .before .before .before .args in
     let b = c .before .before .before .before .b .given .0 .0 in
-    ap (byDamage rowBytes b) (sym (ap damageNumber (c .enum-told5 .given .1)) ∙ c .before .before .inspect .ensures)
-    ∙ located-present rowBytes (now (a .arena)) (lookup rowBytes (view rowBytes (now (a .room))) (a .offset)) b
+    ap (byDamage (a .row) b) (sym (ap damageNumber (c .enum-told5 .given .1)) ∙ c .before .before .inspect .ensures)
+    ∙ located-present (a .row) (now (a .arena)) (lookup (a .row) (view (a .row) (now (a .room))) (a .offset)) b
     (sym (c .before .before .before .before .before .before .find-block .ensures) ∙ c .before .before .before .before .b .given .1)
 
 pub locate-spec : {M : Type 1} → statement M

@@ -1,10 +1,7 @@
 -- Header, spare bytes and record are those of the plan.
-use Prim.Native.Nat.{_<_}
 use native.Mathlib.Omega.{arith}
 use borrow.Author.Needs.{needs}
-use lib.Dec.{lit≤}
 use lib.ListN.{length}
-use Rattle.classes.specs.Classes.{rowBytes}
 use Rattle.classes.proofs.Laws.{rows-pos}
 use Rattle.ops.proofs.Places.{lives-stands}
 use Rattle.ops.proofs.Discarding.{stays-fits, resized}
@@ -12,23 +9,19 @@ use denote.Ref.{now}
 use Rattle.ops.proofs.resize_in_place.Statement.{statement}
 use Rattle.ops.proofs.resize_in_place.Tie as tie
 
-pos : 0 < rowBytes
-unfolding rowBytes
-pos = lit≤ tt
-
 owned-of-requires : tie.Need-owned-of-requires
 owned-of-requires c κs =
     let z = c .before .before .before .before in
     let a = z .args in
-    let h = lives-stands rowBytes pos (length (now (a .arena))) (now (a .room)) (a .b) (z .pre .0) (z .pre .1 .0) in
-    (h .class, h .slot, omega (arith, h .few))
+    let h = lives-stands (a .row) (omega arith) (length (now (a .arena))) (now (a .room)) (a .b) (z .pre .0) (z .pre .1 .0) in
+    ((h .class, h .slot, omega (arith, h .few)), search needs)
 
 reframe-at-requires : tie.Need-reframe-at-requires
 reframe-at-requires c κs =
     let z = c .before .before .before .before .before in
     let a = z .args in
-    let h = lives-stands rowBytes pos (length (now (a .arena))) (now (a .room)) (a .b) (z .pre .0) (z .pre .1 .0) in (
-      (h .class, stays-fits (a .b) (a .n) (z .pre .1 .1 .0) (omega (arith, h .bytes))),
+    let h = lives-stands (a .row) (omega arith) (length (now (a .arena))) (now (a .room)) (a .b) (z .pre .0) (z .pre .1 .0) in (
+      (h .class, stays-fits (a .b) (a .n) (z .pre .1 .1 .0 .0) (omega (arith, h .bytes))),
       ((omega (arith, h .slot), omega (arith, h .owned, c .owned-of .ensures .0)), omega (arith, c .before .before .lesser .ensures)),
     )
 
@@ -36,16 +29,16 @@ resize-slot-requires : tie.Need-resize-slot-requires
 resize-slot-requires c κs =
     let z = c .before .before .before .before .before .before .before .before .before in
     let a = z .args in
-    let h = lives-stands rowBytes pos (length (now (a .arena))) (now (a .room)) (a .b) (z .pre .0) (z .pre .1 .0) in
-    let g = resized rowBytes pos (length (now (a .arena))) (now (a .room)) (a .b) (z .pre .0) (z .pre .1 .0) (a .n) in
-    let k = rows-pos rowBytes (a .b .class) pos in
+    let h = lives-stands (a .row) (omega arith) (length (now (a .arena))) (now (a .room)) (a .b) (z .pre .0) (z .pre .1 .0) in
+    let g = resized (a .row) (omega arith) (length (now (a .arena))) (now (a .room)) (a .b) (z .pre .0) (z .pre .1 .0) (a .n) in
+    let k = rows-pos (a .row) (a .b .class) (omega arith) in
     ((omega (arith, h .few, k), omega (arith, g .room, k)), h .slot)
 
 returns : tie.Need-returns
 returns c =
     let z = c .before .before .before .before .before .before .before .before .before .before .before .before in
     let a = z .args in
-    let g = resized rowBytes pos (length (now (a .arena))) (now (a .room)) (a .b) (z .pre .0) (z .pre .1 .0) (a .n) in
+    let g = resized (a .row) (omega arith) (length (now (a .arena))) (now (a .room)) (a .b) (z .pre .0) (z .pre .1 .0) (a .n) in
     let at = c .before .before .before .before .before .before .before .owned-of in
     let kept = c .before .before .before .before .before .before .before .before .before .lesser in
     let r = c .before .before .before .before .before .before .reframe-at in (

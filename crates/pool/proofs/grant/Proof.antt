@@ -17,21 +17,22 @@ use Rattle.pool.proofs.grant.Tie as tie
 use denote.Ref.{now}
 
 returns : tie.Need-returns
+unfolding rowBytes
 returns c =
     let a = c .before .before .before .before .before .args in
     let e = call-unsound rowBytes (now (a .arena)) (now (a .room)) (grants (a .n)) tt (sym (c .before .sound .ensures) ∙ not-true (c .before .sound .result) (c .if1 .taken)) in
     (sym (ap (λ (r : Result). r .answer) e), (sym (ap (λ (r : Result). r .arena) e), sym (ap (λ (r : Result). r .room) e)))
 
 returns-2 : tie.Need-returns-2
-unfolding tooLarge
+unfolding rowBytes tooLarge
 returns-2 c =
     let a = c .before .before .before .before .before .before .args in
     let e = grant-too-large rowBytes (now (a .arena)) (now (a .room)) (sym (c .before .before .sound .ensures) ∙ not-false (c .before .before .sound .result) (c .before .if1 .left)) (a .n) (c .if2 .taken) in
     (sym (ap (λ (r : Result). r .answer) e), (sym (ap (λ (r : Result). r .arena) e), sym (ap (λ (r : Result). r .room) e)))
 
 reserve-slot-requires : tie.Need-reserve-slot-requires
-unfolding tooLarge
-reserve-slot-requires c κs = ((sym (c .before .before .before .sound .ensures) ∙ not-false (c .before .before .before .sound .result) (c .before .before .if1 .left)), c .before .if2 .left)
+unfolding rowBytes tooLarge
+reserve-slot-requires c κs = ((sym (c .before .before .before .sound .ensures) ∙ not-false (c .before .before .before .sound .result) (c .before .before .if1 .left)), (c .before .if2 .left, (lit≤ tt, lit≤ tt)))
 
 returns-3 : tie.Need-returns-3
 unfolding rowBytes tooLarge
@@ -44,14 +45,14 @@ lay-out-requires : tie.Need-lay-out-requires
 unfolding rowBytes tooLarge
 lay-out-requires c κs =
     let a = c .before .before .before .before .before .before .before .before .before .before .before .before .before .before .args in
-    granted-at rowBytes (lit≤ tt) (now (a .arena)) (now (a .room)) (a .n) (sym (c .before .before .before .before .before .before .before .before .before .before .sound .ensures) ∙ not-false (c .before .before .before .before .before .before .before .before .before .before .sound .result) (c .before .before .before .before .before .before .before .before .before .if1 .left)) (c .before .before .before .before .before .before .before .before .if2 .left) (c .before .before .b .given .0 .0) (sym (c .before .before .before .before .before .before .reserve-slot .ensures .0) ∙ c .before .before .b .given .1) .stands
+    (granted-at rowBytes (lit≤ tt) (now (a .arena)) (now (a .room)) (a .n) (sym (c .before .before .before .before .before .before .before .before .before .before .sound .ensures) ∙ not-false (c .before .before .before .before .before .before .before .before .before .before .sound .result) (c .before .before .before .before .before .before .before .before .before .if1 .left)) (c .before .before .before .before .before .before .before .before .if2 .left) (c .before .before .b .given .0 .0) (sym (c .before .before .before .before .before .before .reserve-slot .ensures .0) ∙ c .before .before .b .given .1) .stands, (lit≤ tt, lit≤ tt))
 
 start-of-requires : tie.Need-start-of-requires
 unfolding rowBytes tooLarge
 start-of-requires c κs =
     let a = c .before .before .before .before .before .before .before .before .before .before .before .before .before .before .before .before .before .args in
     let s = granted-at rowBytes (lit≤ tt) (now (a .arena)) (now (a .room)) (a .n) (sym (c .before .before .before .before .before .before .before .before .before .before .before .before .before .sound .ensures) ∙ not-false (c .before .before .before .before .before .before .before .before .before .before .before .before .before .sound .result) (c .before .before .before .before .before .before .before .before .before .before .before .before .if1 .left)) (c .before .before .before .before .before .before .before .before .before .before .before .if2 .left) (c .before .before .before .before .before .b .given .0 .0) (sym (c .before .before .before .before .before .before .before .before .before .reserve-slot .ensures .0) ∙ c .before .before .before .before .before .b .given .1) .stands in
-    ((s .class, s .slot, omega (arith, s .few)), omega (arith, s .bytes))
+    ((s .class, s .slot, omega (arith, s .few)), (omega (arith, s .bytes), (lit≤ tt, lit≤ tt)))
 
 returns-4 : tie.Need-returns-4
 unfolding rowBytes tooLarge

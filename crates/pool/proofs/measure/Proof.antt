@@ -15,12 +15,14 @@ use Rattle.pool.proofs.measure.Tie as tie
 use denote.Ref.{now}
 
 returns : tie.Need-returns
+unfolding rowBytes
 returns c =
     let a = c .before .before .before .before .args in
     sym (ap (λ (r : Result). r .answer) (call-unsound rowBytes (now (a .arena)) (now (a .room)) (measures (a .offset)) tt (sym (c .before .sound .ensures) ∙ not-true (c .before .sound .result) (c .if1 .taken))))
 
 locate-requires : tie.Need-locate-requires
-locate-requires c κs = sym (c .before .sound .ensures) ∙ not-false (c .before .sound .result) (c .if1 .left)
+unfolding rowBytes
+locate-requires c κs = (sym (c .before .sound .ensures) ∙ not-false (c .before .sound .result) (c .if1 .left), (lit≤ tt, lit≤ tt))
 
 abbrev answered : Result → Answer
 answered r = r .answer

@@ -15,6 +15,7 @@ use Rattle.pool.proofs.release.Tie as tie
 use denote.Ref.{now}
 
 returns : tie.Need-returns
+unfolding rowBytes
 returns c =
     let a = c .before .before .before .before .before .args in
     let w = c .before .sound in
@@ -22,7 +23,8 @@ returns c =
     (ap (λ (r : Result). r .answer) e, (ap (λ (r : Result). r .arena) e, ap (λ (r : Result). r .room) e))
 
 locate-requires : tie.Need-locate-requires
-locate-requires c κs = sym (c .before .before .before .sound .ensures) ∙ not-false (c .before .before .before .sound .result) (c .before .before .if1 .left)
+unfolding rowBytes
+locate-requires c κs = (sym (c .before .before .before .sound .ensures) ∙ not-false (c .before .before .before .sound .result) (c .before .before .if1 .left), (lit≤ tt, lit≤ tt))
 
 discard-requires : tie.Need-discard-requires
 unfolding rowBytes
@@ -31,7 +33,7 @@ discard-requires c κs =
     let w = c .before .before .before .before .before .before .before .before .before .sound in
     let b = c .before .before .before .b .given in (
       sym (w .ensures) ∙ not-false (w .result) (c .before .before .before .before .before .before .before .before .if1 .left),
-      located-lives rowBytes (lit≤ tt) (now (a .arena)) (now (a .room)) (a .offset) (b .0 .0) (sym (c .before .before .before .before .before .locate .ensures) ∙ b .1),
+      (located-lives rowBytes (lit≤ tt) (now (a .arena)) (now (a .room)) (a .offset) (b .0 .0) (sym (c .before .before .before .before .before .locate .ensures) ∙ b .1), (lit≤ tt, lit≤ tt)),
     )
 
 returns-2 : tie.Need-returns-2

@@ -18,13 +18,15 @@ abbrev answered : Result → Answer
 answered r = r .answer
 
 returns : tie.Need-returns
+unfolding rowBytes
 returns c =
     let a = c .before .before .before .before .args in
     let w = c .before .sound in
     sym (ap answered (call-unsound rowBytes (now (a .arena)) (now (a .room)) reports tt (sym (w .ensures) ∙ not-true (w .result) (c .if1 .taken))))
 
 count-requires : tie.Need-count-requires
-count-requires c κs = sym (c .before .sound .ensures) ∙ not-false (c .before .sound .result) (c .if1 .left)
+unfolding rowBytes
+count-requires c κs = (sym (c .before .sound .ensures) ∙ not-false (c .before .sound .result) (c .if1 .left), (lit≤ tt, lit≤ tt))
 
 returns-2 : tie.Need-returns-2
 unfolding rowBytes

@@ -16,6 +16,7 @@ use Rattle.pool.proofs.resize.Tie as tie
 use denote.Ref.{now}
 
 returns : tie.Need-returns
+unfolding rowBytes
 returns c =
     let a = c .before .before .before .before .before .args in
     let w = c .before .sound in
@@ -32,7 +33,8 @@ returns-2 c =
     (ap (λ (r : Result). r .answer) e, (ap (λ (r : Result). r .arena) e, ap (λ (r : Result). r .room) e))
 
 locate-requires : tie.Need-locate-requires
-locate-requires c κs = sym (c .before .before .before .before .sound .ensures) ∙ not-false (c .before .before .before .before .sound .result) (c .before .before .before .if1 .left)
+unfolding rowBytes
+locate-requires c κs = (sym (c .before .before .before .before .sound .ensures) ∙ not-false (c .before .before .before .before .sound .result) (c .before .before .before .if1 .left), (lit≤ tt, lit≤ tt))
 
 change-size-requires : tie.Need-change-size-requires
 unfolding rowBytes tooLarge
@@ -43,7 +45,7 @@ change-size-requires c κs =
       sym (w .ensures) ∙ not-false (w .result) (c .before .before .before .before .before .before .before .before .before .if1 .left),
       (
         located-lives rowBytes (lit≤ tt) (now (a .arena)) (now (a .room)) (a .offset) (b .0 .0) (sym (c .before .before .before .before .before .locate .ensures) ∙ b .1),
-        c .before .before .before .before .before .before .before .before .if2 .left,
+        (c .before .before .before .before .before .before .before .before .if2 .left, (lit≤ tt, lit≤ tt)),
       ),
     )
 

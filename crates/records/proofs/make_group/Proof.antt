@@ -12,7 +12,7 @@ use lib.Pow.{pow-pos}
 use Rattle.mem.specs.Lists.{join}
 use Rattle.mem.specs.Bytes.{zeros, low, mask, put}
 use Rattle.mem.proofs.Laws.{zeros-none, zeros-add, put-append, put-put}
-use Rattle.classes.specs.Classes.{rowBytes, slotsOf, rowsOf}
+use Rattle.classes.specs.Classes.{slotsOf, rowsOf}
 use Rattle.classes.proofs.Laws.{slots-small, rows-pos}
 use Rattle.model.specs.declared.Slot.{Slot}
 use Rattle.model.specs.declared.Holder.{Holder}
@@ -50,17 +50,13 @@ first c n h =
     rw (fresh-records n) (sym (zeros-add (8 * n) (8 * (31 - length (replicate n Slot.Fresh)))) ∙ ap zeros e) in
     sym (rw (fresh-ready n, fresh-waiting n, z))
 
-rows-some : (c : ℕ) → 1 ≤ rowsOf rowBytes c
-unfolding rowBytes
-rows-some c = rows-pos 512 c (lit≤ tt)
-
 -- the three writes together
-made : (i c n b p k : ℕ) (v s s₁ s₂ s₃ : List ℕ) → s₁ ≡ put (rowAt i) (1 ∷ c ∷ zeros 262) s → n ≡ slotsOf c → b ≡ 2 ^ n
-    → v ≡ low 4 (b - 1) ++ low 4 0 → p ≡ rowAt i → s₂ ≡ put (p + 8) v s₁ → k ≡ rowsOf rowBytes c
+made : (row i c n b p k : ℕ) (v s s₁ s₂ s₃ : List ℕ) → s₁ ≡ put (rowAt i) (1 ∷ c ∷ zeros 262) s → n ≡ slotsOf c → b ≡ 2 ^ n
+    → v ≡ low 4 (b - 1) ++ low 4 0 → p ≡ rowAt i → s₂ ≡ put (p + 8) v s₁ → k ≡ rowsOf row c
     → s₃ ≡ put (rowAt (i + 1)) (laterRecords (k - 1) 1) s₂
-    → s₃ ≡ put (rowAt i) (spanRecords rowBytes (group c (replicate (slotsOf c) Slot.Fresh))) s
+    → s₃ ≡ put (rowAt i) (spanRecords row (group c (replicate (slotsOf c) Slot.Fresh))) s
 unfolding spanRecords zeros
-made i c n b p k v s s₁ s₂ s₃ e₁ en eb ev ep e₂ ek e₃ =
+made row i c n b p k v s s₁ s₂ s₃ e₁ en eb ev ep e₂ ek e₃ =
     let ss : List Slot = replicate (slotsOf c) Slot.Fresh in
     let l : length ss ≡ slotsOf c = length-replicate (slotsOf c) Slot.Fresh in
     let f : rowAt (i + 1) ≡ rowAt i + length (rowRecord (Holder.First c) ss) =
@@ -69,18 +65,18 @@ made i c n b p k v s s₁ s₂ s₃ e₁ en eb ev ep e₂ ek e₃ =
     rw (e₂, e₁, ev, eb, en, ep)
     (put-put (rowAt i) 8 (low 4 (2 ^ slotsOf c - 1) ++ low 4 0) (1 ∷ c ∷ zeros 262) s (lit≤ tt)
     ∙ ap (λ r. put (rowAt i) r s) (first c (slotsOf c) (slots-small c))) in
-    rw (e₃, h, ek, f) (sym (put-append (rowAt i) (rowRecord (Holder.First c) ss) (laterRecords (rowsOf rowBytes c - 1) 1) s))
+    rw (e₃, h, ek, f) (sym (put-append (rowAt i) (rowRecord (Holder.First c) ss) (laterRecords (rowsOf row c - 1) 1) s))
 
 write-row-requires : tie.Need-write-row-requires
-write-row-requires c κs = let a = c .before .before .args in (omega (arith, rows-some (a .c)), omega (arith, rows-some (a .c)))
+write-row-requires c κs = let a = c .before .before .args in (omega (arith, rows-pos (a .row) (a .c) (omega arith)), omega (arith, rows-pos (a .row) (a .c) (omega arith)))
 
-sub-ready : tie.Need-sub-t13
+sub-ready : tie.Need-sub-t14
 sub-ready c = omega (arith, c .bit-of .ensures, pow-pos (c .before .slots .result))
 
 copy-in-requires : tie.Need-copy-in-requires
 copy-in-requires c κs =
     let a = c .before .before .before .before .before .before .before .before .before .before .before .args in
-    omega (arith, rows-some (a .c))
+    omega (arith, rows-pos (a .row) (a .c) (omega arith))
 
 returns : tie.Need-returns
 returns c =
@@ -93,7 +89,7 @@ returns c =
     let l = k .before in
     let m = l .before .before .before in
     let a = m .before .before .before .args in
-    made (a .i) (a .c) (l .slots .result) (k .bit-of .result) (g .row-at .result) (e .rows .result) (h .mask-bytes .result) (now (a .room))
+    made (a .row) (a .i) (a .c) (l .slots .result) (k .bit-of .result) (g .row-at .result) (e .rows .result) (h .mask-bytes .result) (now (a .room))
     (m .write-row .last .0) (f .copy-in .last .0) (d .write-later .last .0) (m .write-row .ensures) (l .slots .ensures .0) (k .bit-of .ensures)
     (h .mask-bytes .ensures) (g .row-at .ensures) (f .copy-in .ensures) (e .rows .ensures .0) (d .write-later .ensures)
 

@@ -6,14 +6,13 @@ use native.Mathlib.Omega.{arith}
 use borrow.Author.Needs.{needs}
 use denote.Ref.{now}
 use lib.ListN.{getD, drop}
-use Rattle.classes.specs.Classes.{rowBytes}
 use Rattle.model.specs.Plans.{lookup}
 use Rattle.model.specs.Tables.{view, viewHolder}
 use Rattle.records.specs.Records.{rowAt, masksIn, slotIn}
 use Rattle.search.specs.declared.Looked.{Looked}
 use Rattle.search.specs.Found.{looked, groupLooked}
 use Rattle.search.specs.Steps.{firstOf}
-use Rattle.search.proofs.Rooms.{row-inside, some-bytes}
+use Rattle.search.proofs.Rooms.{row-inside}
 use Rattle.search.proofs.Offsets.{Group, Leads, past, row-of, leads}
 use Rattle.search.proofs.find_block.Statement.{statement}
 use Rattle.search.proofs.find_block.Tie as tie
@@ -28,43 +27,38 @@ module _ (row : ℕ) (t : List ℕ) (o f p c : ℕ) (g : Group row t o f) (e : p
 
 -- what the offset's row leads to
 lead : (c : tie.Else1)
-    → (let a = c .before .before .args in Leads rowBytes (now (a .room)) (a .offset) (viewHolder (drop (rowAt (a .offset / 512)) (now (a .room)))))
-unfolding rowBytes
+    → (let a = c .before .before .args in Leads (a .row) (now (a .room)) (a .offset) (viewHolder (drop (rowAt (a .offset / a .row)) (now (a .room)))))
 lead c =
     let s = c .before .before in
-    leads rowBytes some-bytes (s .args .len) (now (s .args .room)) (s .pre) (s .args .offset) (c .if1 .left)
+    leads (s .args .row) (omega arith) (s .args .len) (now (s .args .room)) (s .pre .0) (s .args .offset) (c .if1 .left)
 
 to-group : (c : tie.After-known-told)
-    → (let a = c .before .before .before .before .before .before .before .args in Group rowBytes (now (a .room)) (a .offset) (c .before .first .given .0 .0))
-unfolding rowBytes
+    → (let a = c .before .before .before .before .before .before .before .args in Group (a .row) (now (a .room)) (a .offset) (c .before .first .given .0 .0))
 to-group c =
     let b = c .before .before .before in
     let a = b .before .before .before .before .args in
     lead (b .before .before) .first (c .before .first .given .0 .0)
-    (ap (firstOf (a .offset / 512)) (sym (b .before .holder-at .ensures)) ∙ sym (b .first-of .ensures) ∙ c .before .first .given .1)
+    (ap (firstOf (a .offset / a .row)) (sym (b .before .holder-at .ensures)) ∙ sym (b .first-of .ensures) ∙ c .before .first .given .1)
 
 returns : tie.Need-returns
 returns c =
     let s = c .before .before in
-    sym (past rowBytes some-bytes (s .args .len) (now (s .args .room)) (s .pre) (s .args .offset) (c .if1 .taken))
+    sym (past (s .args .row) (omega arith) (s .args .len) (now (s .args .room)) (s .pre .0) (s .args .offset) (c .if1 .taken))
 
 holder-at-requires : tie.Need-holder-at-requires
-unfolding rowBytes
 holder-at-requires c κs =
     let s = c .before .before in
-    row-inside rowBytes some-bytes (s .args .len) (now (s .args .room)) (s .pre) (s .args .offset / 512)
-    (row-of rowBytes some-bytes (s .args .len) (now (s .args .room)) (s .pre) (s .args .offset) (c .if1 .left))
+    row-inside (s .args .row) (omega arith) (s .args .len) (now (s .args .room)) (s .pre .0) (s .args .offset / s .args .row)
+    (row-of (s .args .row) (omega arith) (s .args .len) (now (s .args .room)) (s .pre .0) (s .args .offset) (c .if1 .left))
 
 first-of-requires : tie.Need-first-of-requires
-unfolding rowBytes
 first-of-requires c κs = rw (c .holder-at .ensures) (lead (c .before) .reach)
 
 returns-2 : tie.Need-returns-2
-unfolding rowBytes
 returns-2 c =
     let b = c .before .before in
     let a = b .before .before .before .before .args in
-    sym (lead (b .before .before) .nothing (ap (firstOf (a .offset / 512)) (sym (b .before .holder-at .ensures)) ∙ sym (b .first-of .ensures) ∙ c .enum-told .given .1))
+    sym (lead (b .before .before) .nothing (ap (firstOf (a .offset / a .row)) (sym (b .before .holder-at .ensures)) ∙ sym (b .first-of .ensures) ∙ c .enum-told .given .1))
 
 row-at-requires : tie.Need-row-at-requires
 row-at-requires c κs = omega (arith, to-group c .room .0)
@@ -73,10 +67,9 @@ shared-slice-read-wide : tie.Need-shared-slice-read-wide
 shared-slice-read-wide c = omega (arith, to-group (c .before .before) .room .1, c .before .row-at .ensures)
 
 mul-look-group : tie.Need-mul-look-group
-mul-look-group c = omega (arith, to-group (c .before .before .before) .room .0)
+mul-look-group c = omega (arith, to-group (c .before .before .before) .low)
 
 sub-look-group : tie.Need-sub-look-group
-unfolding rowBytes
 sub-look-group c = to-group (c .before .before .before) .low
 
 look-group-requires : tie.Need-look-group-requires
@@ -84,15 +77,14 @@ look-group-requires c κs =
     let b = c .before .before in
     let s = b .before .before .before .before .before .before .before .before in
     let g = to-group (b .before) in
-    (g .room, rw (class rowBytes (now (s .args .room)) (s .args .offset) (b .before .before .first .given .0 .0) (b .row-at .result) (c .wide .result) g (b .row-at .ensures) (c .wide .ensures .0)) (g .class))
+    (g .room, rw (class (s .args .row) (now (s .args .room)) (s .args .offset) (b .before .before .first .given .0 .0) (b .row-at .result) (c .wide .result) g (b .row-at .ensures) (c .wide .ensures .0)) (g .class))
 
 returns-3 : tie.Need-returns-3
-unfolding rowBytes
 returns-3 c =
     let b = c .before .before .before in
     let s = b .before .before .before .before .before .before .before .before in
     let g = to-group (b .before) in
-    found rowBytes (now (s .args .room)) (s .args .offset) (b .before .before .first .given .0 .0) (b .row-at .result) (c .before .wide .result) g (b .row-at .ensures)
+    found (s .args .row) (now (s .args .room)) (s .args .offset) (b .before .before .first .given .0 .0) (b .row-at .result) (c .before .wide .result) g (b .row-at .ensures)
     (c .before .wide .ensures .0) (c .look-group .result) (c .look-group .ensures)
 
 pub find-block-spec : {M : Type 1} → statement M
@@ -100,6 +92,7 @@ find-block-spec =
     tie.close
     (tie.spec
     returns
+    (λ c. search needs)
     holder-at-requires
     first-of-requires
     (λ c. search needs)

@@ -5,23 +5,22 @@ use native.Mathlib.Omega.{arith}
 use borrow.Author.Needs.{needs}
 use denote.Ref.{now}
 use lib.ListN.{length, drop}
-use Rattle.classes.specs.Classes.{rowBytes}
 use Rattle.model.specs.Tables.{viewHolder}
 use Rattle.records.specs.Records.{rowAt}
 use Rattle.search.specs.Steps.{nextRun}
-use Rattle.search.proofs.Rooms.{row-inside, some-bytes, row-below, row-past}
+use Rattle.search.proofs.Rooms.{row-inside, row-below, row-past}
 use Rattle.search.proofs.Steps.{Ran, run-start, RunStep, run-step, run-end}
 use Rattle.search.proofs.find_run.Statement.{statement}
 use Rattle.search.proofs.find_run.Tie as tie
 
 abbrev Inv-loop : tie.InvT-loop
-Inv-loop len room c n need from₀ i₀ from i = Ran rowBytes room c from i
+Inv-loop row len room c n need from₀ i₀ from i = Ran row room c from i
 
 abbrev μ-loop : tie.MeasureT-loop
-μ-loop len room c n need from₀ i₀ from i = n - i
+μ-loop row len room c n need from₀ i₀ from i = n - i
 
 loop-holds : tie.Need-loop-holds Inv-loop μ-loop
-loop-holds c = run-start rowBytes (now (c .before .before .args .room)) (c .before .before .args .c) some-bytes
+loop-holds c = let a = c .before .before .args in run-start (a .row) (now (a .room)) (a .c) (omega arith)
 
 -- the row is one of the arena's
 inside : (c : tie.In-loop Inv-loop μ-loop)
@@ -29,24 +28,25 @@ inside : (c : tie.In-loop Inv-loop μ-loop)
 inside c =
     let s = c .before .before .before .before in
     let i = c .before .loop .i in
-    row-inside rowBytes some-bytes (s .args .len) (now (s .args .room)) (s .pre .0) i (row-below (s .args .len) (now (s .args .room)) (s .pre .0) i (c .loop-test .taken))
+    row-inside (s .args .row) (omega arith) (s .args .len) (now (s .args .room)) (s .pre .0) i (row-below (s .args .row) (omega arith) (s .args .len) (now (s .args .room)) (s .pre .0) i (c .loop-test .taken))
 
 step : (c : tie.In-loop Inv-loop μ-loop)
-    → (let t = now (c .before .before .before .before .args .room) in
+    → (let a = c .before .before .before .before .args in
+    let t = now (a .room) in
     let l = c .before .loop in
-    RunStep rowBytes t (c .before .before .before .before .args .c) (l .i) (nextRun rowBytes (record { from = l .from; next = l .i }) (viewHolder (drop (rowAt (l .i)) t))))
+    RunStep (a .row) t (a .c) (l .i) (nextRun (a .row) (record { from = l .from; next = l .i }) (viewHolder (drop (rowAt (l .i)) t))))
 step c =
     let s = c .before .before .before .before in
     let l = c .before .loop in
-    run-step rowBytes some-bytes (s .args .len) (now (s .args .room)) (s .pre .0) (s .args .c) (l .from) (l .i) (l .inv)
-    (row-below (s .args .len) (now (s .args .room)) (s .pre .0) (l .i) (c .loop-test .taken))
+    run-step (s .args .row) (omega arith) (s .args .len) (now (s .args .room)) (s .pre .0) (s .args .c) (l .from) (l .i) (l .inv)
+    (row-below (s .args .row) (omega arith) (s .args .len) (now (s .args .room)) (s .pre .0) (l .i) (c .loop-test .taken))
 
 next : (c : tie.After-next-run Inv-loop μ-loop)
-    → (let d = c .before .before .before in RunStep rowBytes (now (d .before .before .before .args .room)) (d .before .before .before .args .c) (d .loop .i) (c .next-run .result))
+    → (let d = c .before .before .before in RunStep (d .before .before .before .args .row) (now (d .before .before .before .args .room)) (d .before .before .before .args .c) (d .loop .i) (c .next-run .result))
 next c = rw (c .next-run .ensures, c .before .holder-at .ensures) (step (c .before .before))
 
 next-run-requires : tie.Need-next-run-requires Inv-loop μ-loop
-next-run-requires c κs = (rw (c .holder-at .ensures) (step (c .before) .class), inside (c .before) .0)
+next-run-requires c κs = ((rw (c .holder-at .ensures) (step (c .before) .class), inside (c .before) .0), search needs)
 
 sub-if1 : tie.Need-sub-if1 Inv-loop μ-loop
 sub-if1 c = next c .order
@@ -64,8 +64,8 @@ returns-2 : tie.Need-returns-2 Inv-loop μ-loop
 returns-2 c =
     let s = c .before .before .before .before in
     let l = c .before .loop in
-    sym (run-end rowBytes some-bytes (s .args .len) (now (s .args .room)) (s .pre .0) (s .args .c) (l .from) (l .i) (l .inv)
-    (row-past (s .args .len) (now (s .args .room)) (s .pre .0) (l .i) (c .loop-test .left)))
+    sym (run-end (s .args .row) (omega arith) (s .args .len) (now (s .args .room)) (s .pre .0) (s .args .c) (l .from) (l .i) (l .inv)
+    (row-past (s .args .row) (omega arith) (s .args .len) (now (s .args .room)) (s .pre .0) (l .i) (c .loop-test .left)))
 
 pub find-run-spec : {M : Type 1} → statement M
 find-run-spec =
@@ -73,6 +73,7 @@ find-run-spec =
     (tie.spec
     Inv-loop
     μ-loop
+    (λ c. search needs)
     (λ c κs. search needs)
     loop-holds
     (λ c κs. inside c)

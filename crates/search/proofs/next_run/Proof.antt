@@ -1,7 +1,6 @@
 -- `next_run` meets its contract.
 use mathlib.Core.Path.{ap, _∙_}
 use borrow.Author.Needs.{needs}
-use Rattle.classes.specs.Classes.{rowBytes}
 use Rattle.search.specs.Steps.{rowsHeld}
 use Rattle.search.proofs.next_run.Statement.{statement}
 use Rattle.search.proofs.next_run.Tie as tie
@@ -9,17 +8,17 @@ use Rattle.search.proofs.next_run.Tie as tie
 returns : tie.Need-returns
 returns c =
     let e = c .enum-told .given .1 in
-    rw (e, c .before .before .before .rows-held .ensures .0 ∙ ap (rowsHeld rowBytes) e)
+    rw (e, c .before .before .before .rows-held .ensures .0 ∙ ap (rowsHeld (c .before .before .before .before .args .row)) e)
 
 returns-2 : tie.Need-returns-2
 returns-2 c =
     let e = c .enum-told2 .given .1 in
-    rw (e, c .before .before .before .rows-held .ensures .0 ∙ ap (rowsHeld rowBytes) e)
+    rw (e, c .before .before .before .rows-held .ensures .0 ∙ ap (rowsHeld (c .before .before .before .before .args .row)) e)
 
 returns-3 : tie.Need-returns-3
 returns-3 c =
     let e = c .enum-told3 .given .1 in
-    rw (e, c .before .before .before .rows-held .ensures .0 ∙ ap (rowsHeld rowBytes) e)
+    rw (e, c .before .before .before .rows-held .ensures .0 ∙ ap (rowsHeld (c .before .before .before .before .args .row)) e)
 
 pub next-run-spec : {M : Type 1} → statement M
 next-run-spec =

@@ -28,26 +28,20 @@ returns c = sym (law (c .before) (slotsOf (c .before .before .before .args .c)) 
 
 returns-2 : tie.Need-returns-2
 returns-2 c =
-    let z = c .before .before .before .before in
-    let n = c .before .before .slots in
+    let z = c .before .before .before .before .before in
+    let n = c .before .before .before .slots in
+    let q = c .before .before .members-found in
     sym (law z (n .result) (n .ensures .0)
-    ∙ simp (
-      not-false (z .zeros-at .result) (c .before .before .before .if1 .left),
-      ← (c .before .members-sound .ensures),
-      not-true (c .before .members-sound .result) (c .if2 .taken),
-    ))
+    ∙ simp (not-false (z .zeros-at .result) (c .before .before .before .before .if1 .left), ← (q .ensures .0), not-true (q .result .sound) (c .if2 .taken)))
 
 returns-3 : tie.Need-returns-3
 returns-3 c =
-    let z = c .before .before .before .before .before in
-    let n = c .before .before .before .slots in
-    c .zeros-at2 .ensures
+    let z = c .before .before .before .before .before .before in
+    let n = c .before .before .before .before .slots in
+    let q = c .before .before .before .members-found in
+    c .rest-zero .ensures
     ∙ sym (law z (n .result) (n .ensures .0)
-    ∙ simp (
-      not-false (z .zeros-at .result) (c .before .before .before .before .if1 .left),
-      ← (c .before .before .members-sound .ensures),
-      not-false (c .before .before .members-sound .result) (c .before .if2 .left),
-    ))
+    ∙ simp (not-false (z .zeros-at .result) (c .before .before .before .before .before .if1 .left), ← (q .ensures .0), not-false (q .result .sound) (c .before .if2 .left)))
 
 pub group-sound-spec : {M : Type 1} → statement M
 group-sound-spec =
@@ -59,10 +53,6 @@ group-sound-spec =
     (λ c κs. search needs)
     (λ c κs. search needs)
     returns-2
-    (λ c. search needs)
-    (λ c. search needs)
-    (λ c. search needs)
-    (λ c. search needs)
     (λ c. search needs)
     (λ c κs. search needs)
     returns-3)

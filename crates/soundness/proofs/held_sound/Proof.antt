@@ -9,7 +9,7 @@ use denote.Ref.{now}
 use lib.Dec.{leb}
 use lib.ListN.{drop}
 use Rattle.mem.specs.Lists.{choose}
-use Rattle.classes.specs.Classes.{rowBytes, rowsOf}
+use Rattle.classes.specs.Classes.{rowsOf}
 use Rattle.model.specs.Tables.{laterRecords}
 use Rattle.soundness.specs.declared.Tile.the-variants.{Rows, Unsound}
 use Rattle.soundness.specs.Checks.{starts, groupChecked, spanChecked}
@@ -18,20 +18,20 @@ use Rattle.soundness.proofs.held_sound.Statement.{statement}
 use Rattle.soundness.proofs.held_sound.Tie as tie
 
 law : (e : tie.After-wide) (k : ℕ) → let a = e .before .before .before .args in let s = now (a .s) in let c = e .wide .result in
-    k ≡ rowsOf rowBytes c
-    → spanChecked rowBytes (a .n) (drop (a .at) s)
+    k ≡ rowsOf (a .row) c
+    → spanChecked (a .row) (a .n) (drop (a .at) s)
     ≡ choose (leb k (a .n) && groupChecked c (drop (a .at) s) && starts (drop (a .at + 264) s) (laterRecords (k - 1) 1)) (Rows k) Unsound
 law e k ek =
     let a = e .before .before .before .args in
-    held-law rowBytes (a .n) (now (a .s)) (a .at) (omega arith) (e .before .before .before .pre .2) (e .wide .result) k (e .wide .ensures .0) ek
+    held-law (a .row) (a .n) (now (a .s)) (a .at) (omega arith) (e .before .before .before .pre .0 .2) (e .wide .result) k (e .wide .ensures .0) ek
 
 returns : tie.Need-returns
 unfolding choose
 returns c =
     let a = c .before .before .before .before .args in
     let k = c .before .wide .result in
-    sym (law (c .before) (rowsOf rowBytes k) refl
-    ∙ simp (no-class k (drop (a .at) (now (a .s))) (c .if1 .taken), and-false (leb (rowsOf rowBytes k) (a .n))))
+    sym (law (c .before) (rowsOf (a .row) k) refl
+    ∙ simp (no-class k (drop (a .at) (now (a .s))) (c .if1 .taken), and-false (leb (rowsOf (a .row) k) (a .n))))
 
 returns-2 : tie.Need-returns-2
 unfolding choose
@@ -50,7 +50,7 @@ returns-3 c =
 -- past the first row
 laters : (e : tie.After-laters-sound) → let a = e .before .before .before .before .before .before .before .before .before .args in
     let r = e .before .before .before .before .rows in
-    spanChecked rowBytes (a .n) (drop (a .at) (now (a .s))) ≡ choose (e .laters-sound .result) (Rows (r .result)) Unsound
+    spanChecked (a .row) (a .n) (drop (a .at) (now (a .s))) ≡ choose (e .laters-sound .result) (Rows (r .result)) Unsound
 laters e =
     let r = e .before .before .before .before .rows in
     let g = e .before .before .group-sound in

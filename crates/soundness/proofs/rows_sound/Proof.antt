@@ -7,31 +7,30 @@ use borrow.Author.Needs.{needs}
 use denote.Ref.{now}
 use lib.ListN.{drop, length-drop, drop-of-length-le}
 use lib.Seq.{drop-drop}
-use Rattle.classes.specs.Classes.{rowBytes}
 use Rattle.model.specs.Tables.{viewRows}
 use Rattle.soundness.specs.Checks.{rowsChecked}
-use Rattle.soundness.proofs.Laws.{row-pos, rows-pass, rows-fail}
+use Rattle.soundness.proofs.Laws.{rows-pass, rows-fail}
 use Rattle.soundness.proofs.rows_sound.Statement.{statement}
 use Rattle.soundness.proofs.rows_sound.Tie as tie
 
 abbrev Inv-loop : tie.InvT-loop
-Inv-loop room n i₀ i = (i ≤ n) × (rowsChecked rowBytes n (drop 16 room) ≡ rowsChecked rowBytes (n - i) (drop (16 + 264 * i) room))
+Inv-loop row room n i₀ i = (i ≤ n) × (rowsChecked row n (drop 16 room) ≡ rowsChecked row (n - i) (drop (16 + 264 * i) room))
 
 abbrev μ-loop : tie.MeasureT-loop
-μ-loop room n i₀ i = n - i
+μ-loop row room n i₀ i = n - i
 
 -- a span of k rows is passed
 pass : (c : tie.After-known-told Inv-loop μ-loop) → let a = c .before .before .before .before .before .before .before .args in
     let i = c .before .before .before .before .before .loop .i in
     let k = c .before .k .given .0 .0 in
     (1 ≤ k) × (i + k ≤ a .n)
-    × (rowsChecked rowBytes (a .n) (drop 16 (now (a .room))) ≡ rowsChecked rowBytes (a .n - (i + k)) (drop (16 + 264 * (i + k)) (now (a .room))))
+    × (rowsChecked (a .row) (a .n) (drop 16 (now (a .room))) ≡ rowsChecked (a .row) (a .n - (i + k)) (drop (16 + 264 * (i + k)) (now (a .room))))
 pass c =
     let a = c .before .before .before .before .before .before .before .args in
     let l = c .before .before .before .before .before .loop in
     let k = c .before .k .given .0 .0 in
     let p = 16 + 264 * l .i in
-    let r = rows-pass rowBytes row-pos (a .n - l .i) k (drop p (now (a .room))) (omega arith)
+    let r = rows-pass (a .row) (omega arith) (a .n - l .i) k (drop p (now (a .room))) (omega arith)
     (sym (c .before .before .before .span-sound .ensures) ∙ c .before .k .given .1) in
     let e : a .n - l .i - k ≡ a .n - (l .i + k) = omega arith in
     let f : p + 264 * k ≡ 16 + 264 * (l .i + k) = omega arith in
@@ -41,7 +40,7 @@ loop-holds : tie.Need-loop-holds Inv-loop μ-loop
 loop-holds c =
     let a = c .before .args in
     let e : a .n ≡ a .n - 0 = omega arith in
-    (search needs, ap (λ (k : ℕ). rowsChecked rowBytes k (drop 16 (now (a .room)))) e)
+    (search needs, ap (λ (k : ℕ). rowsChecked (a .row) k (drop 16 (now (a .room)))) e)
 
 add-i : tie.Need-add-i Inv-loop μ-loop
 add-i c = omega (arith, pass c .1)
@@ -59,7 +58,7 @@ returns c =
     let t = now (b .args .room) in
     let p = 16 + 264 * l .i in
     sym (l .inv .1
-    ∙ rows-fail rowBytes row-pos (b .args .n - l .i) (drop p t) (omega arith) (omega (arith, length-drop p t))
+    ∙ rows-fail (b .args .row) (omega arith) (b .args .n - l .i) (drop p t) (omega arith) (omega (arith, length-drop p t))
     (sym (c .before .before .span-sound .ensures) ∙ c .enum-told .given .1))
 
 returns-2 : tie.Need-returns-2 Inv-loop μ-loop

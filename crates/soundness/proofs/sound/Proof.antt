@@ -2,54 +2,66 @@
 use mathlib.Core.Path.{_≡_, sym, _∙_}
 use mathlib.Core.Bool.{_&&_}
 use Prim.Native.Nat.{_+_, _*_, _/_, _%_}
+use native.Mathlib.Nat.{div-le-self}
 use native.Mathlib.Omega.{arith}
 use borrow.Author.Needs.{needs}
 use borrow.Author.Tests.{not-true, not-false, lt-leb, le-leb, eq-eqb, ne-eqb}
 use denote.Ref.{now}
-use lib.Dec.{T, leb, eqb, le→leb, lit≤}
+use lib.Dec.{T, leb, eqb, le→leb}
 use lib.ListN.{length, drop}
 use Rattle.mem.specs.Bytes.{zeros, number, same, part}
 use Rattle.mem.proofs.Tests.{and-both, eq→eqb}
-use Rattle.classes.specs.Classes.{rowBytes}
 use Rattle.model.specs.Tables.{arenaRight, sound}
 use Rattle.soundness.specs.Checks.{rowsChecked, roomChecked}
-use Rattle.soundness.proofs.Laws.{row-pos, sound-law}
+use Rattle.soundness.proofs.Laws.{sound-law}
 use Rattle.soundness.proofs.sound.Statement.{statement}
 use Rattle.soundness.proofs.sound.Tie as tie
 
 -- past the tests of the arena's length
-law : (e : tie.Else3) → let n = e .before .before .before .before .args .len in let t = now (e .before .before .before .before .args .room) in
-    sound rowBytes n t
-    ≡ (eqb (length t) (16 + 264 * (n / 512)) && eqb (number (part 0 4 t)) n && same (part 4 12 t) (zeros 12) && rowsChecked rowBytes (n / 512) (drop 16 t))
-unfolding roomChecked arenaRight rowBytes
+law : (e : tie.Else3) → let a = e .before .before .before .before .args in let n = a .len in let t = now (a .room) in
+    sound (a .row) n t
+    ≡ (eqb (length t) (16 + 264 * (n / a .row)) && eqb (number (part 0 4 t)) n && same (part 4 12 t) (zeros 12) && rowsChecked (a .row) (n / a .row) (drop 16 t))
+unfolding roomChecked arenaRight
 law e =
-    let n = e .before .before .before .before .args .len in
-    let lawful : T (arenaRight rowBytes n) =
-    and-both (leb 512 n && leb n 262144) (eqb (n % 512) 0)
-    (and-both (leb 512 n) (leb n 262144) (le→leb 512 n (omega arith)) (le→leb n 262144 (omega arith))) (eq→eqb (n % 512) 0 (e .if3 .left)) in
-    sound-law rowBytes row-pos n (now (e .before .before .before .before .args .room)) lawful (lit≤ tt)
+    let a = e .before .before .before .before .args in
+    let n = a .len in
+    let lawful : T (arenaRight (a .row) n) =
+    and-both (leb (a .row) n && leb n (512 * a .row)) (eqb (n % a .row) 0)
+    (and-both (leb (a .row) n) (leb n (512 * a .row)) (le→leb (a .row) n (omega arith)) (le→leb n (512 * a .row) (omega arith))) (eq→eqb (n % a .row) 0 (e .if3 .left)) in
+    sound-law (a .row) (omega arith) n (now (a .room)) lawful (omega arith)
     (λ i. omega (arith, e .before .before .before .shared-slice-known .given i))
 
 returns : tie.Need-returns
-unfolding sound arenaRight rowBytes
-returns c = sym (simp (lt-leb 512 (c .before .before .args .len) (c .if1 .taken)))
+unfolding sound arenaRight
+returns c = let a = c .before .before .args in sym (simp (lt-leb (a .row) (a .len) (c .if1 .taken)))
 
 returns-2 : tie.Need-returns-2
-unfolding sound arenaRight rowBytes
+unfolding sound arenaRight
 returns-2 c =
-    let n = c .before .before .before .args .len in
-    sym (simp (le-leb 512 n (c .before .if1 .left), lt-leb n 262144 (c .if2 .taken)))
+    let a = c .before .before .before .args in
+    sym (simp (le-leb (a .row) (a .len) (c .before .if1 .left), lt-leb (a .len) (512 * a .row) (c .if2 .taken)))
 
 returns-3 : tie.Need-returns-3
-unfolding sound arenaRight rowBytes
+unfolding sound arenaRight
 returns-3 c =
-    let n = c .before .before .before .before .args .len in
-    sym (simp (le-leb 512 n (c .before .before .if1 .left), le-leb n 262144 (c .before .if2 .left), ne-eqb (n % 512) 0 (c .if3 .taken)))
+    let a = c .before .before .before .before .args in
+    sym (simp (
+      le-leb (a .row) (a .len) (c .before .before .if1 .left),
+      le-leb (a .len) (512 * a .row) (c .before .if2 .left),
+      ne-eqb (a .len % a .row) 0 (c .if3 .taken),
+    ))
+
+-- the rows are no more than the arena's bytes
+mul-rows : tie.Need-mul-if4
+mul-rows c = let a = c .before .before .before .before .args in omega (arith, div-le-self (a .len) (a .row))
+
+add-rows : tie.Need-add-if4
+add-rows c = let a = c .before .before .before .before .args in omega (arith, div-le-self (a .len) (a .row))
 
 returns-4 : tie.Need-returns-4
 returns-4 c =
     let a = c .before .before .before .before .before .args in
-    sym (law (c .before) ∙ simp (ne-eqb (length (now (a .room))) (16 + 264 * (a .len / 512)) (c .if4 .taken)))
+    sym (law (c .before) ∙ simp (ne-eqb (length (now (a .room))) (16 + 264 * (a .len / a .row)) (c .if4 .taken)))
 
 returns-5 : tie.Need-returns-5
 returns-5 c =
@@ -57,20 +69,20 @@ returns-5 c =
     let g = c .before .get4 in
     sym (law (c .before .before .before)
     ∙ simp (
-      eq-eqb (length (now (a .room))) (16 + 264 * (a .len / 512)) (c .before .before .if4 .left),
+      eq-eqb (length (now (a .room))) (16 + 264 * (a .len / a .row)) (c .before .before .if4 .left),
       ← (g .ensures .0),
       ne-eqb (g .result) (a .len) (c .if5 .taken),
     ))
 
 -- past the tests of the room's head
 head : (e : tie.After-zeros-at) → let a = e .before .before .before .before .before .before .before .before .args in let t = now (a .room) in
-    sound rowBytes (a .len) t ≡ (e .zeros-at .result && rowsChecked rowBytes (a .len / 512) (drop 16 t))
+    sound (a .row) (a .len) t ≡ (e .zeros-at .result && rowsChecked (a .row) (a .len / a .row) (drop 16 t))
 head e =
     let a = e .before .before .before .before .before .before .before .before .args in
     let g = e .before .before .get4 in
     law (e .before .before .before .before)
     ∙ simp (
-      eq-eqb (length (now (a .room))) (16 + 264 * (a .len / 512)) (e .before .before .before .if4 .left),
+      eq-eqb (length (now (a .room))) (16 + 264 * (a .len / a .row)) (e .before .before .before .if4 .left),
       ← (g .ensures .0),
       eq-eqb (g .result) (a .len) (e .before .if5 .left),
       ← (e .zeros-at .ensures),
@@ -91,9 +103,11 @@ sound-spec =
     returns
     (λ c. search needs)
     returns-2
+    (λ c. search needs)
     returns-3
     (λ c. search needs)
-    (λ c. search needs)
+    mul-rows
+    add-rows
     returns-4
     (λ c κs. search needs)
     returns-5

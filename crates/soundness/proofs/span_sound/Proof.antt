@@ -4,7 +4,6 @@ use native.Mathlib.Omega.{arith}
 use borrow.Author.Needs.{needs}
 use denote.Ref.{now}
 use Rattle.mem.specs.Lists.{choose}
-use Rattle.classes.specs.Classes.{rowBytes}
 use Rattle.soundness.proofs.Laws.{free-law, other-law}
 use Rattle.soundness.proofs.span_sound.Statement.{statement}
 use Rattle.soundness.proofs.span_sound.Tie as tie
@@ -13,18 +12,18 @@ returns : tie.Need-returns
 unfolding choose
 returns c =
     let a = c .before .before .before .before .before .args in
-    sym (free-law rowBytes (a .n) (now (a .s)) (a .at) (omega arith) (c .before .before .if1 .taken) ∙ rw (← (c .before .zeros-at .ensures), c .if2 .taken))
+    sym (free-law (a .row) (a .n) (now (a .s)) (a .at) (omega arith) (c .before .before .if1 .taken) ∙ rw (← (c .before .zeros-at .ensures), c .if2 .taken))
 
 returns-2 : tie.Need-returns-2
 unfolding choose
 returns-2 c =
     let a = c .before .before .before .before .before .args in
-    sym (free-law rowBytes (a .n) (now (a .s)) (a .at) (omega arith) (c .before .before .if1 .taken) ∙ rw (← (c .before .zeros-at .ensures), c .if2 .left))
+    sym (free-law (a .row) (a .n) (now (a .s)) (a .at) (omega arith) (c .before .before .if1 .taken) ∙ rw (← (c .before .zeros-at .ensures), c .if2 .left))
 
 returns-4 : tie.Need-returns-4
 returns-4 c =
     let a = c .before .before .before .before .args in
-    sym (other-law rowBytes (a .n) (now (a .s)) (a .at) (omega arith) (c .before .if1 .left) (c .if3 .left))
+    sym (other-law (a .row) (a .n) (now (a .s)) (a .at) (omega arith) (c .before .if1 .left) (c .if3 .left))
 
 pub span-sound-spec : {M : Type 1} → statement M
 span-sound-spec =

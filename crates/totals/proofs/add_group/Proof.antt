@@ -29,14 +29,17 @@ cast-waiting : tie.Need-cast-waiting
 cast-waiting c = omega (arith, few-31 (c .before .before .before))
 
 add-t19 : tie.Need-add-t19
-add-t19 c =
-    let b = c .before .before .before .before .before .before .before .before .before .before in
-    omega (arith, few-31 b, b .before .before .before .pre .1 .1 .ready)
+add-t19 c = omega (arith, c .before .before .before .before .before .before .before .before .before .before .before .before .pre .1 .1 .0 .held)
 
 add-t20 : tie.Need-add-t20
 add-t20 c =
+    let b = c .before .before .before .before .before .before .before .before .before .before in
+    omega (arith, few-31 b, b .before .before .before .pre .1 .1 .0 .ready)
+
+add-t21 : tie.Need-add-t21
+add-t21 c =
     let b = c .before .before .before .before .before .before .before .before .before .before .before in
-    omega (arith, few-31 b, b .before .before .before .pre .1 .1 .waiting)
+    omega (arith, few-31 b, b .before .before .before .pre .1 .1 .0 .waiting)
 
 returns : tie.Need-returns
 unfolding addGroup
@@ -73,7 +76,7 @@ add-group-spec =
     (λ c κs. search needs)
     (λ c. search needs)
     (λ c κs. search needs)
-    (λ c. search needs)
     add-t19
     add-t20
+    add-t21
     returns)

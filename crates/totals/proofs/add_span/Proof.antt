@@ -9,7 +9,6 @@ use denote.Ref.{now}
 use denote.Enum.Declared.{tagOf}
 use types.Run.{OneOf}
 use lib.ListN.{drop}
-use Rattle.classes.specs.Classes.{rowBytes}
 use Rattle.model.specs.declared.Holder.{Holder}
 use Rattle.model.specs.declared.Holder.the-variants.{Free, First, Later}
 use Rattle.model.specs.declared.Totals.{Totals}
@@ -21,22 +20,22 @@ use Rattle.totals.proofs.add_span.Statement.{statement}
 use Rattle.totals.proofs.add_span.Tie as tie
 
 -- what the code knows of the row is what the room says
-told : (s : Totals) (t : List ℕ) (h : Holder) → h ≡ viewHolder t → addHeld rowBytes s t h ≡ addSpan rowBytes s t
+told : (row : ℕ) (s : Totals) (t : List ℕ) (h : Holder) → h ≡ viewHolder t → addHeld row s t h ≡ addSpan row s t
 unfolding addSpan
-told s t h e = ap (addHeld rowBytes s t) e
+told row s t h e = ap (addHeld row s t) e
 
 -- no first row
-other : (s : Totals) (t : List ℕ) (h : Holder) → OneOf (0 ∷ 2 ∷ []) (tagOf the-type h) → addFree s ≡ addHeld rowBytes s t h
-other s t Free o = refl
-other s t (First k) o = absurd (⊎-elim (λ e. omega arith) (λ e. omega arith) o)
-other s t (Later k) o = refl
+other : (row : ℕ) (s : Totals) (t : List ℕ) (h : Holder) → OneOf (0 ∷ 2 ∷ []) (tagOf the-type h) → addFree s ≡ addHeld row s t h
+other row s t Free o = refl
+other row s t (First k) o = absurd (⊎-elim (λ e. omega arith) (λ e. omega arith) o)
+other row s t (Later k) o = refl
 
 returns : tie.Need-returns
 returns c =
     let a = c .before .before .before .before .args in
     let t = drop (rowAt (a .i)) (now (a .room)) in
     let h = c .before .before .holder-at in
-    other (a .s) t (h .result) (c .before .match .keys2) ∙ told (a .s) t (h .result) (h .ensures)
+    other (a .row) (a .s) t (h .result) (c .before .match .keys2) ∙ told (a .row) (a .s) t (h .result) (h .ensures)
 
 add-group-requires : tie.Need-add-group-requires
 add-group-requires c κs =
@@ -51,7 +50,7 @@ returns-2 c =
     let a = b .before .before .args in
     let t = drop (rowAt (a .i)) (now (a .room)) in
     let x = c .before .before .before .h .given in
-    c .add-group .ensures ∙ rw (c .before .wide .ensures .0) (told (a .s) t (First (x .0 .0)) (sym (x .1) ∙ b .holder-at .ensures))
+    c .add-group .ensures ∙ rw (c .before .wide .ensures .0) (told (a .row) (a .s) t (First (x .0 .0)) (sym (x .1) ∙ b .holder-at .ensures))
 
 pub add-span-spec : {M : Type 1} → statement M
 add-span-spec =

@@ -9,7 +9,7 @@ use denote.Ref.{now}
 use lib.ListN.{drop, take}
 use lib.Seq.{drop-drop}
 use Rattle.mem.specs.Bytes.{number, part}
-use Rattle.totals.specs.Sums.{sizesIn}
+use Rattle.model.specs.Tables.{sizesIn}
 use Rattle.totals.proofs.sizes.Statement.{statement}
 use Rattle.totals.proofs.sizes.Tie as tie
 

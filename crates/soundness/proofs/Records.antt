@@ -1,0 +1,202 @@
+-- A slot's record as two numbers of four bytes, and the loop over the slots that reads it so.
+use Prim.Native.Nat.{ℕ, suc, _+_, _*_, _-_, _/_, _%_, _^_, _≤_, _<_}
+use mathlib.Core.Path.{_≡_, refl, sym, ap, ap₂, _∙_}
+use mathlib.Core.Bool.{Bool, true, false, _&&_, _||_, not, and-assoc, and-true, and-false}
+use mathlib.Core.List.{List, _++_}
+use native.Mathlib.Nat.{add-zero, pow-suc, div-div-eq-div-mul}
+use native.Mathlib.Numerals.{add-one, add-two}
+use native.Mathlib.Omega.{arith}
+use lib.Dec.{leb, ltb, eqb, eqb→eq, ltb→lt, lt→ltb, lit≤}
+use lib.ListN.{length, getD, take, drop}
+use lib.Seq.{drop-drop}
+use borrow.Author.Tests.{ne-eqb, le-leb, eqb-true, eqb-false}
+use Rattle.mem.specs.Bytes.{zeros, number, same, part}
+use Rattle.mem.proofs.Tests.{same-test, eq→eqb}
+use Rattle.mem.proofs.Laws.{number-part, zeros-add, zeros-length, same-part-low}
+use Rattle.classes.specs.Classes.{tooLarge}
+use Rattle.model.specs.Tables.{sizesIn}
+use Rattle.soundness.specs.Checks.{starts, slotChecked, recordChecked, slotsChecked}
+use Rattle.soundness.proofs.Laws.{starts-from, starts-zeros, fresh-law, ready-law, idle-law, live-law, slots-turn, slots-end}
+
+-- ---- the tests, in the order of the code
+
+or-false : (a : Bool) → (a || false) ≡ a
+or-false true = refl
+or-false false = refl
+
+live-order : (a b c d e z : Bool) → (a && b && (c && d && e)) ≡ (not false && (a || false) && b && c && (false || d) && (true || z) && e)
+live-order true true true true e z = refl
+live-order true true true false e z = refl
+live-order true true false d e z = refl
+live-order true false c d e z = refl
+live-order false b c d e z = refl
+
+idle-order : (most : ℕ) (a : Bool) (d h : ℕ) → (a && eqb h 0 && leb (16 * d) most)
+    ≡ (a && ltb h 16777216 && leb (16 * d + h % 16777216) most && true && eqb h 0 && ltb (h % 16777216) tooLarge)
+unfolding tooLarge
+idle-order most a d h = go (eqb h 0) refl
+  where
+    go : (b : Bool) → eqb h 0 ≡ b → (a && b && leb (16 * d) most)
+        ≡ (a && ltb h 16777216 && leb (16 * d + h % 16777216) most && true && b && ltb (h % 16777216) tooLarge)
+    go true e = rw (eqb-true h 0 e) (simp (add-zero, and-true))
+    go false e = simp and-false
+
+fresh-order : (most l h : ℕ) → (eqb l 0 && eqb h 0)
+    ≡ (eqb l 0 && ltb h 16777216 && leb (16 * (l / 65536) + h % 16777216) most && true && eqb h 0 && ltb (h % 16777216) tooLarge)
+unfolding tooLarge
+fresh-order most l h = go (eqb l 0) refl (eqb h 0) refl
+  where
+    go : (a : Bool) → eqb l 0 ≡ a → (b : Bool) → eqb h 0 ≡ b → (a && b)
+        ≡ (a && ltb h 16777216 && leb (16 * (l / 65536) + h % 16777216) most && true && b && ltb (h % 16777216) tooLarge)
+    go true e true f = rw (eqb-true l 0 e, eqb-true h 0 f, le-leb (16 * (0 / 65536) + 0 % 16777216) most (omega arith))
+    go true e false f = simp and-false
+    go false e b f = refl
+
+-- four bytes are zero where their number is
+zeros-quad : (s : List ℕ) → ((i : ℕ) → getD s i 0 < 256) → (p : ℕ) → p + 4 ≤ length s → starts (drop p s) (zeros 4) ≡ eqb (number (part p 4 s)) 0
+unfolding zeros
+zeros-quad s B p h = sym (starts-zeros p 4 s) ∙ same-part-low p 4 s 0 h B (lit≤ tt)
+
+module _ (s : List ℕ) (B : (i : ℕ) → getD s i 0 < 256) (at : ℕ) (fit : at + 8 ≤ length s) where
+  abbrev lo : ℕ
+  lo = number (part at 4 s)
+
+  abbrev hi : ℕ
+  hi = number (part (at + 4) 4 s)
+
+  -- the fields of the record in the two numbers
+  low-tag : lo % 256 ≡ getD s at 0
+  low-tag = let e = number-part at 4 s (omega arith) in let b = B at in omega arith
+
+  low-disp : lo / 65536 ≡ number (part (at + 2) 2 s)
+  low-disp =
+      let e = number-part at 4 s (omega arith) in
+      let f = rw add-two at (number-part (at + 2) 2 s (omega arith)) in
+      let b = B at in
+      let b₁ = B (suc at) in
+      rw add-two
+      (omega arith)
+
+  size-small : number (part (at + 4) 3 s) < 16777216
+  size-small =
+      let f = number-part (at + 4) 3 s (omega arith) in
+      let b = B (at + 4) in
+      let b₁ = B (suc (at + 4)) in
+      let b₂ = B (suc (suc (at + 4))) in
+      omega arith
+
+  high-split : hi ≡ number (part (at + 4) 3 s) + 16777216 * getD s (at + 7) 0
+  high-split =
+      let e = number-part (at + 4) 4 s (omega arith) in
+      let f = number-part (at + 4) 3 s (omega arith) in
+      let p : at + 7 ≡ suc (suc (suc (at + 4))) = omega arith in
+      rw p
+      (omega arith)
+
+  high-size : hi % 16777216 ≡ number (part (at + 4) 3 s)
+  high-size = omega (arith, high-split, size-small)
+
+  high-top : ltb hi 16777216 ≡ eqb (getD s (at + 7) 0) 0
+  high-top =
+      same-test (ltb hi 16777216) (eqb (getD s (at + 7) 0) 0)
+      (λ t. eq→eqb (getD s (at + 7) 0) 0 (omega (arith, ltb→lt hi 16777216 t, high-split)))
+      (λ t. lt→ltb hi 16777216 (omega (arith, eqb→eq (getD s (at + 7) 0) 0 t, high-split, size-small)))
+
+  zeros-high : same (part (at + 4) 4 s) (zeros 4) ≡ eqb hi 0
+  zeros-high = starts-zeros (at + 4) 4 s ∙ zeros-quad s B (at + 4) (omega arith)
+
+  zeros-both : same (part at 8 s) (zeros 8) ≡ (eqb lo 0 && eqb hi 0)
+  zeros-both =
+      starts-zeros at 8 s
+      ∙ rw (zeros-add 4 4) (starts-from s at 4 (at + 4) (zeros 4) (zeros 4) (zeros-length 4) refl)
+      ∙ ap₂ _&&_ (zeros-quad s B at (omega arith)) (zeros-quad s B (at + 4) (omega arith))
+
+  module _ (most least : ℕ) where
+    waiting-law : slotChecked most least false true (drop at s) ≡ recordChecked most least false true lo hi
+    unfolding recordChecked
+    waiting-law =
+        idle-law s B at fit most least
+        ∙ rw (low-tag, low-disp, zeros-high, or-false (eqb (getD s at 0) 1))
+        (idle-order most (eqb (getD s at 0) 1) (number (part (at + 2) 2 s)) hi)
+
+    ready-case : (b : Bool) → eqb (getD s at 0) 0 ≡ b → slotChecked most least true false (drop at s) ≡ recordChecked most least true false lo hi
+    unfolding recordChecked
+    ready-case true e =
+        let z = eqb-true (getD s at 0) 0 e in
+        fresh-law s B at fit most least z ∙ zeros-both ∙ rw (low-tag, z) (fresh-order most lo hi)
+    ready-case false e =
+        let f : eqb lo 0 ≡ false = ne-eqb lo 0 (λ q. omega (arith, low-tag, eqb-false (getD s at 0) 0 e)) in
+        ready-law s B at fit most least (eqb-false (getD s at 0) 0 e)
+        ∙ idle-law s B at fit most 0
+        ∙ rw (f, low-tag, low-disp, zeros-high, or-false (eqb (getD s at 0) 1))
+        (idle-order most (eqb (getD s at 0) 1) (number (part (at + 2) 2 s)) hi)
+
+    pub record-law : (r w : Bool) → slotChecked most least r w (drop at s) ≡ recordChecked most least r w lo hi
+    unfolding recordChecked slotChecked
+    record-law true true = refl
+    record-law true false = ready-case (eqb (getD s at 0) 0) refl
+    record-law false true = waiting-law
+    record-law false false =
+        live-law s B at fit most least
+        ∙ rw (low-tag, low-disp, high-size, high-top)
+        (live-order (eqb (getD s at 0) 1) (eqb (getD s (at + 7) 0) 0) (leb (16 * number (part (at + 2) 2 s) + number (part (at + 4) 3 s)) most)
+        (ltb least (number (part (at + 4) 3 s) + 4)) (ltb (number (part (at + 4) 3 s)) tooLarge) (eqb hi 0))
+
+-- ---- the loop
+
+half : (m i : ℕ) → m / 2 ^ i / 2 ≡ m / 2 ^ (i + 1)
+half m i = div-div-eq-div-mul m (2 ^ i) 2 ∙ ap (λ (p : ℕ). m / p) (sym (rw (add-one i) (pow-suc 2 i)))
+
+module _ (s : List ℕ) (B : (i : ℕ) → getD s i 0 < 256) (most least at n i ready waiting : ℕ) (left : i < n) (fit : at + 8 * n ≤ length s) where
+  abbrev p : ℕ
+  p = at + 8 * i
+
+  -- what is left is the next record, and what is left after it
+  pub walk-turn : slotsChecked most least (n - i) (ready / 2 ^ i) (waiting / 2 ^ i) (drop p s)
+      ≡ (recordChecked most least (eqb (ready / 2 ^ i % 2) 1) (eqb (waiting / 2 ^ i % 2) 1) (number (part p 4 s)) (number (part (p + 4) 4 s))
+      && slotsChecked most least (n - (i + 1)) (ready / 2 ^ (i + 1)) (waiting / 2 ^ (i + 1)) (drop (at + 8 * (i + 1)) s))
+  walk-turn =
+      let e : at + 8 * i + 8 ≡ at + 8 * (i + 1) = omega arith in
+      slots-turn most least n i (ready / 2 ^ i) (waiting / 2 ^ i) (drop p s) left
+      ∙ rw (record-law s B p (omega arith) most least, half ready i, half waiting i, drop-drop 8 p s, e)
+
+  pub sizes-turn : (bytes : ℕ) → bytes + sizesIn (n - i) (drop p s)
+      ≡ bytes + number (part (p + 4) 4 s) % 16777216 + sizesIn (n - (i + 1)) (drop (at + 8 * (i + 1)) s)
+  unfolding sizesIn
+  sizes-turn bytes =
+      let e : n - i ≡ suc (n - (i + 1)) = omega arith in
+      let f : at + 8 * i + 8 ≡ at + 8 * (i + 1) = omega arith in
+      let g : sizesIn (n - i) (drop p s) ≡ number (part (p + 4) 3 s) + sizesIn (n - (i + 1)) (drop (at + 8 * (i + 1)) s) =
+      ap (λ (m : ℕ). sizesIn m (drop p s)) e
+      ∙ ap₂ (λ (l r : List ℕ). number (take 3 l) + sizesIn (n - (i + 1)) r) (drop-drop 4 p s) (drop-drop 8 p s ∙ ap (λ (q : ℕ). drop q s) f) in
+      omega (arith, high-size s B p (omega arith))
+
+pub walk-end : (most least n i ready waiting : ℕ) (t : List ℕ) → i ≡ n
+    → slotsChecked most least (n - i) (ready / 2 ^ i) (waiting / 2 ^ i) t ≡ (eqb (ready / 2 ^ n) 0 && eqb (waiting / 2 ^ n) 0)
+walk-end most least n i ready waiting t e = rw e (slots-end most least (n - n) (ready / 2 ^ n) (waiting / 2 ^ n) t (omega arith))
+
+pub sizes-end : (k : ℕ) (t : List ℕ) → k ≡ 0 → sizesIn k t ≡ 0
+unfolding sizesIn
+sizes-end k t e = rw e
+
+-- ---- the records past the slots
+
+pub rest-turn : (s : List ℕ) → ((i : ℕ) → getD s i 0 < 256) → (at i : ℕ) → i < 31 → at + 248 ≤ length s
+    → same (part (at + 8 * i) (8 * (31 - i)) s) (zeros (8 * (31 - i)))
+    ≡ (eqb (number (part (at + 8 * i) 4 s)) 0 && eqb (number (part (at + 8 * i + 4) 4 s)) 0
+    && same (part (at + 8 * (i + 1)) (8 * (31 - (i + 1))) s) (zeros (8 * (31 - (i + 1)))))
+rest-turn s B at i h f =
+    let m = 8 * (31 - (i + 1)) in
+    let p = at + 8 * i in
+    let e : 8 * (31 - i) ≡ 4 + (4 + m) = omega arith in
+    starts-zeros p (8 * (31 - i)) s
+    ∙ ap (λ (k : ℕ). starts (drop p s) (zeros k)) e
+    ∙ rw (zeros-add 4 (4 + m), zeros-add 4 m)
+    (starts-from s p 4 (p + 4) (zeros 4) (zeros 4 ++ zeros m) (zeros-length 4) refl
+    ∙ ap₂ _&&_ (zeros-quad s B p (omega arith)) (starts-from s (p + 4) 4 (at + 8 * (i + 1)) (zeros 4) (zeros m) (zeros-length 4) (omega arith)
+    ∙ ap₂ _&&_ (zeros-quad s B (p + 4) (omega arith)) (sym (starts-zeros (at + 8 * (i + 1)) m s))))
+    ∙ sym (and-assoc (eqb (number (part p 4 s)) 0) (eqb (number (part (p + 4) 4 s)) 0) (same (part (at + 8 * (i + 1)) m s) (zeros m)))
+
+pub rest-end : (s : List ℕ) (p k : ℕ) → k ≡ 0 → same (part p k s) (zeros k) ≡ true
+unfolding zeros
+rest-end s p k e = rw e
