@@ -29,34 +29,21 @@ pub enum Refusal {
     NoRoom = 8,
 }
 
-impl Refusal {
-    fn of(number: u32) -> Refusal {
-        match number {
-            1 => Refusal::BadArena,
-            2 => Refusal::Unsound,
-            3 => Refusal::TooLarge,
-            4 => Refusal::NoSuchBlock,
-            5 => Refusal::AlreadyFree,
-            6 => Refusal::HeaderDamaged,
-            7 => Refusal::Overrun,
-            8 => Refusal::NoRoom,
-            _ => unreachable!("the library answers 0 to 8"),
-        }
-    }
-}
+/// Each refusal with its name, in the order of their numbers.
+const REFUSALS: [(Refusal, &str); 8] = [
+    (Refusal::BadArena, "bad arena"),
+    (Refusal::Unsound, "unsound"),
+    (Refusal::TooLarge, "too large"),
+    (Refusal::NoSuchBlock, "no such block"),
+    (Refusal::AlreadyFree, "already free"),
+    (Refusal::HeaderDamaged, "header damaged"),
+    (Refusal::Overrun, "overrun"),
+    (Refusal::NoRoom, "no room"),
+];
 
 impl fmt::Display for Refusal {
     fn fmt(&self, f: &mut fmt::Formatter<'_>) -> fmt::Result {
-        f.write_str(match self {
-            Refusal::BadArena => "bad arena",
-            Refusal::Unsound => "unsound",
-            Refusal::TooLarge => "too large",
-            Refusal::NoSuchBlock => "no such block",
-            Refusal::AlreadyFree => "already free",
-            Refusal::HeaderDamaged => "header damaged",
-            Refusal::Overrun => "overrun",
-            Refusal::NoRoom => "no room",
-        })
+        f.write_str(REFUSALS[*self as usize - 1].1)
     }
 }
 
@@ -109,7 +96,7 @@ fn answer<T>(number: u32, value: T) -> Result<T, Refusal> {
     if number == 0 {
         Ok(value)
     } else {
-        Err(Refusal::of(number))
+        Err(REFUSALS[number as usize - 1].0)
     }
 }
 

@@ -1,45 +1,10 @@
--- Laws of headers, guards and frames: their lengths, and the writes that make them.
-use mathlib.Core.Path.{_≡_, refl, sym, ap, _∙_}
-use mathlib.Core.List.{List, [], _∷_, _++_, append-nil}
-use Prim.Native.Nat.{ℕ, _+_, _*_, _-_, _<_, _≤_}
-use native.Mathlib.Nat.{sub-zero}
-use native.Mathlib.Omega.{arith}
-use borrow.Author.Tests.{le-leb, lt-leb, leb-true}
-use lib.Dec.{leb}
-use lib.ListN.{length, length-append}
-use Rattle.mem.specs.Bytes.{zeros, low, put}
+-- Laws of guards and frames: the writes that make them.
+use Rattle.mem.proofs.Prelude.{_∙_, _≡_, sym, ap, List, _++_, append-nil, _+_, ℕ, _<_, _≤_, _*_, _-_, sub-zero, arith, length}
+use Rattle.mem.specs.Bytes.{zeros, put}
 use Rattle.mem.proofs.Laws.{zeros-length, zeros-add, put-append, put-over, put-at, put-back, put-all}
-use Rattle.mem.proofs.Tests.{choose-case, choose-true, choose-false}
 use Rattle.classes.specs.Classes.{slotBytes}
 use Rattle.model.specs.Blocks.{reserved, header, guard, spare, frame}
-
-pub header-length : (c i d n : ℕ) → length (header c i d n) ≡ 4
-unfolding header
-header-length c i d n = refl
-
--- the guard, if there is one
-pub guard-bytes : (r : ℕ) → 5 ≤ r → guard r ≡ 0 ∷ low 4 r
-unfolding guard
-guard-bytes r h = choose-true (leb 5 r) (0 ∷ low 4 r) [] (le-leb 5 r h)
-
-pub guard-none : (r : ℕ) → r < 5 → guard r ≡ []
-unfolding guard
-guard-none r h = choose-false (leb 5 r) (0 ∷ low 4 r) [] (lt-leb 5 r h)
-
-pub guard-length : (r : ℕ) → 5 ≤ r → length (guard r) ≡ 5
-guard-length r h = ap length (guard-bytes r h)
-
-guard-fits : (r : ℕ) → length (guard r) ≤ r
-unfolding guard
-guard-fits r = choose-case (λ g. length g ≤ r) (leb 5 r) (0 ∷ low 4 r) [] (leb-true 5 r) (λ e. omega arith)
-
-pub spare-length : (r : ℕ) → length (spare r) ≡ r
-unfolding spare
-spare-length r = simp (length-append, zeros-length) (omega (arith, guard-fits r))
-
-pub frame-length : (c i d n : ℕ) → 16 * d + n + 4 ≤ slotBytes c → length (frame c i d n) ≡ slotBytes c
-unfolding frame
-frame-length c i d n h = simp (length-append, zeros-length, header-length, spare-length) (omega arith)
+use Rattle.model.proofs.Blocks.{header-length, guard-none, guard-length, spare-length}
 
 -- too few reserved bytes for a guard are zeros
 pub spare-short : (r : ℕ) → r < 5 → spare r ≡ zeros r

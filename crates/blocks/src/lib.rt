@@ -4,19 +4,13 @@
 // the guard.
 ghost use mathlib.Core.Path.{_≡_};
 ghost use mathlib.Core.List.{_++_};
-ghost use Prim.Native.Nat.{_+_, _*_, _-_, _≤_, _<_, min};
+ghost use Prim.Native.Nat.{_+_, _*_, _-_, _≤_, _<_};
 ghost use lib.ListN.{length};
 ghost use Rattle.mem.specs.Bytes.{zeros, put, part};
 ghost use Rattle.classes.specs.Classes.{slotBytes};
 ghost use Rattle.model.specs.Blocks.{reserved, header, guard, spare, frame, damageIn};
-ghost use Rattle.blocks.specs.Damage.{damageNumber};
-
-// What is found of a block.
-pub enum Damage {
-    Intact,
-    HeaderDamaged,
-    Overrun,
-}
+use model::Damage;
+use model::Refusal;
 
 // The bytes between the requested bytes and the block's end.
 fn reserved(c: usize, d: usize, n: usize) -> usize
@@ -61,12 +55,12 @@ fn guard(r: usize) -> [u8; 5]
 fn inspect(slot: &[u8], c: usize, i: usize, d: usize, n: usize) -> Damage
     requires { ⌜ (c < 48) × (16 * d + n + 4 ≤ slotBytes c) ⌝ }
     requires { ⌜ (i < 32) × (length (now slot) ≡ slotBytes c) ⌝ }
-    ensures { λ r. ⌜ damageNumber r ≡ damageIn c i d n (now (slot .entry)) ⌝ }
+    ensures { λ r. ⌜ r ≡ damageIn c i d n (now (slot .entry)) ⌝ }
 {
     let at = 16 * d;
     let h = header(c, i, d, n);
     if !mem::same_bytes(&slot[at..at + 4], &h) {
-        return Damage::HeaderDamaged;
+        return Damage::Damaged(Refusal::HeaderDamaged);
     }
     let r = reserved(c, d, n);
     if r < 5 {
@@ -75,7 +69,7 @@ fn inspect(slot: &[u8], c: usize, i: usize, d: usize, n: usize) -> Damage
     let g = guard(r);
     let end = slot.len();
     if !mem::same_bytes(&slot[end - 5..end], &g) {
-        return Damage::Overrun;
+        return Damage::Damaged(Refusal::Overrun);
     }
     Damage::Intact
 }
@@ -111,7 +105,8 @@ fn reframe(slot: &mut [u8], c: usize, i: usize, d: usize, kept: usize, n: usize)
     requires { ⌜ (c < 48) × (16 * d + n + 4 ≤ slotBytes c) ⌝ }
     requires { ⌜ (i < 32) × (length (now slot) ≡ slotBytes c) ⌝ }
     requires { ⌜ kept ≤ n ⌝ }
-    ensures { λ _. ⌜ now (slot .exit) ≡ put (16 * d + 4 + kept) (zeros (n - kept) ++ spare (reserved c d n)) (put (16 * d) (header c i d n) (now (slot .entry))) ⌝ }
+    ensures { λ _. ⌜ now (slot .exit) ≡ put (16 * d + 4 + kept) (zeros (n - kept) ++ spare (reserved c d n))
+        (put (16 * d) (header c i d n) (now (slot .entry))) ⌝ }
 {
     let h = header(c, i, d, n);
     mem::copy_in(slot, 16 * d, &h);
@@ -123,7 +118,7 @@ fn reframe(slot: &mut [u8], c: usize, i: usize, d: usize, kept: usize, n: usize)
 pub fn inspect_at(arena: &[u8], at: usize, c: usize, i: usize, d: usize, n: usize) -> Damage
     requires { ⌜ (c < 48) × (16 * d + n + 4 ≤ slotBytes c) ⌝ }
     requires { ⌜ (i < 32) × (at + slotBytes c ≤ length (now arena)) ⌝ }
-    ensures { λ r. ⌜ damageNumber r ≡ damageIn c i d n (part at (slotBytes c) (now (arena .entry))) ⌝ }
+    ensures { λ r. ⌜ r ≡ damageIn c i d n (part at (slotBytes c) (now (arena .entry))) ⌝ }
 {
     let end = at + 16 * classes::units(c);
     inspect(&arena[at..end], c, i, d, n)
@@ -142,7 +137,8 @@ pub fn reframe_at(arena: &mut [u8], at: usize, c: usize, i: usize, d: usize, kep
     requires { ⌜ (c < 48) × (16 * d + n + 4 ≤ slotBytes c) ⌝ }
     requires { ⌜ (i < 32) × (at + slotBytes c ≤ length (now arena)) ⌝ }
     requires { ⌜ kept ≤ n ⌝ }
-    ensures { λ _. ⌜ now (arena .exit) ≡ put (at + (16 * d + 4 + kept)) (zeros (n - kept) ++ spare (reserved c d n)) (put (at + 16 * d) (header c i d n) (now (arena .entry))) ⌝ }
+    ensures { λ _. ⌜ now (arena .exit) ≡ put (at + (16 * d + 4 + kept)) (zeros (n - kept) ++ spare (reserved c d n))
+        (put (at + 16 * d) (header c i d n) (now (arena .entry))) ⌝ }
 {
     let end = at + 16 * classes::units(c);
     reframe(&mut arena[at..end], c, i, d, kept, n);

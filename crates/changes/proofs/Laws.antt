@@ -1,38 +1,36 @@
 -- What the changes of a group are to the pool's state.
-use Prim.Native.Nat.{ℕ, zero, suc, _+_, _*_, _-_, _^_, _≤_, _<_}
-use mathlib.Core.Path.{_≡_, refl, sym, ap, ap₂, subst, _∙_}
-use mathlib.Core.Bool.{Bool, true, false, not, true≢false}
-use mathlib.Core.List.{List, [], _∷_, _++_, map}
-use native.Mathlib.Nat.{zero-add, pow-suc, le-trans, lt-of-lt-of-le, pow-le-pow-right}
-use native.Mathlib.Omega.{arith}
-use lib.Count.{ones}
-use lib.Dec.{T, eqb, lit≤}
-use lib.ListN.{length, getD, take, drop, length-append, length-drop, length-map}
-use lib.Seq.{split-at, length-take-le, getD-at}
-use borrow.Author.Tests.{ne-eqb}
+use Rattle.mem.proofs.Prelude.{_∙_, _≡_, sym, ap, refl, ap₂, subst, true, Bool, false, not, true≢false, List, [], _∷_, _++_, map, _+_, ℕ, _<_, _≤_}
+use Rattle.mem.proofs.Prelude.{_*_, _-_, suc, zero, _^_, zero-add, pow-suc, arith, eq-eqb, ne-eqb, not-false, not-true, T, eqb, lit≤, length, drop}
+use Rattle.mem.proofs.Prelude.{getD, length-append, take, length-drop, length-map, length-take-le, ones}
+use native.Mathlib.Nat.{le-trans, lt-of-lt-of-le, pow-le-pow-right}
+use lib.Seq.{split-at, getD-at}
 use Rattle.mem.specs.Lists.{choose, any, first, sum, join}
 use Rattle.mem.specs.Bytes.{bit, mask, zeros, put}
-use Rattle.mem.proofs.Tests.{any-map, choose-case, choose-true, choose-false}
-use Rattle.mem.proofs.Masks.{mask-below, mask-zero, lowest-first, ones-sum}
+use Rattle.mem.proofs.Tests.{any-map}
+use Rattle.mem.proofs.Masks.{mask-below, mask-zero, mask-pos, lowest-first}
 use Rattle.classes.specs.Classes.{slotsOf, rowsOf}
 use Rattle.classes.proofs.Laws.{slots-small}
 use Rattle.masks.specs.declared.Masks.{Masks}
 use Rattle.masks.specs.Sets.{refilled, lowest, taken, givenBack}
+use Rattle.model.specs.declared.Alloc.{Alloc}
 use Rattle.model.specs.declared.Slot.{Slot}
 use Rattle.model.specs.declared.Slot.the-variants.{Fresh, Idle, Live}
-use Rattle.model.specs.declared.Release.{Release}
-use Rattle.model.specs.State.{Pool, Place, group, isReady, isWaiting, isLive, count, disp, wellFormed, poolOf, become, slotNumber, rows}
-use Rattle.model.specs.Tables.{slotRecord, laterRecords, spanRecords, encode}
-use Rattle.model.specs.Plans.{Plan, Site, turnReady, refill, grantSlot, grantIn, vacant, releaseAt}
-use Rattle.model.proofs.Rooms.{encode-from}
+use Rattle.model.specs.State.{Place, group, isReady, isWaiting, isLive, count, disp, size, poolOf, become, slotNumber, rows}
+use Rattle.model.specs.Tables.{rowAt, roomBytes, byMasks, slotRecord, laterRecords, spanRecords, encode, rowRecordBytes}
+use Rattle.model.specs.Plans.{Site, turnReady, refill, grantSlot, grantIn, vacant, releaseAt}
+use Rattle.model.proofs.Tables.{masks-laws, encode-length}
+use Rattle.model.proofs.Rooms.{rows-append, encode-from}
 use Rattle.model.proofs.Lookup.{Fits, fits}
 use Rattle.model.proofs.Formed.{any-middle}
 use Rattle.model.proofs.Reserve as reserve
-use Rattle.records.specs.Records.{rowAt, masksIn, slotIn, stored}
-use Rattle.records.proofs.Laws.{masksOf, group-first, stored-encode, masks-read-span, slot-read-as, refill-records, dropped-encode}
-use Rattle.changes.specs.declared.Taken.{Taken}
+use Rattle.rows.specs.declared.Block.{Block}
+use Rattle.rows.specs.Rows.{blockOf, Holds, Offers}
+use Rattle.rows.proofs.Rooms.{group-first}
+use Rattle.rows.proofs.Spans.{dropped-encode}
+use Rattle.records.specs.Records.{masksIn, slotIn, stored}
+use Rattle.records.proofs.Laws.{masksOf, mask-ones, three-sets, stored-encode, masks-read-span, slot-read-as, refill-records}
 use Rattle.changes.specs.declared.Left.the-variants.{Kept, Dropped}
-use Rattle.changes.specs.Changes.{slotTaken, stateTaken, takenAs, takenRoom, liveLeft, leftAs, givenRoom}
+use Rattle.changes.specs.Changes.{leftAs, resized}
 
 -- ---- the masks of a group when one slot changes
 
@@ -49,13 +47,13 @@ module _ (f : Slot → Bool) (x y : Slot) (vs : List Slot) where
 live-out : (x : Slot) → T (isLive x) → (isReady x ≡ false) × (isWaiting x ≡ false)
 live-out Fresh t = absurd t
 live-out (Idle r k d) t = absurd t
-live-out (Live k d n) t = (refl, refl)
+live-out (Live a) t = (refl, refl)
 
 ready-in : (x : Slot) → T (isReady x) → (isReady x ≡ true) × (isWaiting x ≡ false)
 ready-in Fresh t = (refl, refl)
 ready-in (Idle true k d) t = (refl, refl)
 ready-in (Idle false k d) t = absurd t
-ready-in (Live k d n) t = absurd t
+ready-in (Live a) t = absurd t
 
 same-masks : {r r′ w w′ : ℕ} → r ≡ r′ → w ≡ w′ → _≡_ {A = Masks} (record { ready = r; waiting = w }) (record { ready = r′; waiting = w′ })
 same-masks e f = cc
@@ -92,21 +90,23 @@ turned-ready [] e = refl
 turned-ready (Fresh ∷ ss) e = absurd (true≢false e)
 turned-ready (Idle true k d ∷ ss) e = absurd (true≢false e)
 turned-ready (Idle false k d ∷ ss) e = ap (λ m. 1 + 2 * m) (turned-ready ss e)
-turned-ready (Live k d n ∷ ss) e = ap (λ m. 0 + 2 * m) (turned-ready ss e)
+turned-ready (Live a ∷ ss) e = ap (λ m. 0 + 2 * m) (turned-ready ss e)
 
 turned-waiting : (ss : List Slot) → mask (map isWaiting (map turnReady ss)) ≡ 0
 turned-waiting [] = refl
 turned-waiting (Fresh ∷ ss) = ap (λ m. 0 + 2 * m) (turned-waiting ss)
 turned-waiting (Idle r k d ∷ ss) = ap (λ m. 0 + 2 * m) (turned-waiting ss)
-turned-waiting (Live k d n ∷ ss) = ap (λ m. 0 + 2 * m) (turned-waiting ss)
+turned-waiting (Live a ∷ ss) = ap (λ m. 0 + 2 * m) (turned-waiting ss)
 
 masks-refilled : (ss : List Slot) → refilled (masksOf ss) ≡ masksOf (refill ss)
 unfolding refilled refill choose
 masks-refilled ss =
-    ap (λ b. choose b (record { ready = mask (map isWaiting ss); waiting = 0 }) (masksOf ss)) (mask-zero (map isReady ss) ∙ ap not (any-map (λ b. b) isReady ss))
+    ap (λ b. choose b (record { ready = mask (map isWaiting ss); waiting = 0 }) (masksOf ss))
+    (mask-zero (map isReady ss) ∙ ap not (any-map (λ b. b) isReady ss))
     ∙ go (any isReady ss) refl
   where
-    go : (b : Bool) → any isReady ss ≡ b → choose (not b) (record { ready = mask (map isWaiting ss); waiting = 0 }) (masksOf ss) ≡ masksOf (choose b ss (map turnReady ss))
+    go : (b : Bool) → any isReady ss ≡ b → choose (not b) (record { ready = mask (map isWaiting ss); waiting = 0 }) (masksOf ss)
+        ≡ masksOf (choose b ss (map turnReady ss))
     go true e = refl
     go false e = same-masks (sym (turned-ready ss e)) (sym (turned-waiting ss))
 
@@ -131,177 +131,216 @@ same-records (x ∷ xs) (y ∷ ys) e h (suc j) =
 
 -- ---- a slot is taken
 
--- the records from a site's group on, and from a place's group on
-abbrev pub siteRecords : ℕ → ℕ → Site → List ℕ
-siteRecords row c s = join (spanRecords row) (group c (s .slots) ∷ s .after)
-
-abbrev pub groupRecords : ℕ → Place → List ℕ
-groupRecords row p = join (spanRecords row) (group (p .cls) (p .lower ++ (p .state ∷ p .upper)) ∷ p .after)
-
-module _ (row : ℕ) (P : Pool) (c n : ℕ) (s : Site) (g : reserve.Ground row P c s) where
+module _ (row i c n : ℕ) (g : Site) (t : List ℕ) (o : Offers byMasks row t i c g) where
   -- the place that is taken, and how
   abbrev q : Place
-  q = grantIn c n s
+  q = grantIn c n g
 
-  k : reserve.Taken c n s q
-  k = reserve.grant-taken c n s (g .room)
+  k : reserve.Taken c n g q
+  k = reserve.grant-taken c n g (o .spare)
 
-  few : length (s .slots) ≤ 31
-  few = omega (arith, g .slots, slots-small c)
+  -- the records from the group on
+  here : List ℕ
+  here = drop (rowAt i) t
 
-  inside : slotNumber q < length (refill (s .slots))
-  inside = omega (arith, k .number, reserve.first-ready (refill (s .slots)) (reserve.refill-ready (s .slots) (g .room)) .0)
+  from : here ≡ join (spanRecords row) (group c (g .slots) ∷ g .after)
+  unfolding here
+  from =
+      ap₂ (λ j l. drop (rowAt j) l) (o .first) (o .bytes)
+      ∙ encode-from masks-laws row (o .pos) (g .before) (group c (g .slots) ∷ g .after) (o .before)
 
-  masks-site : refilled (masksIn (siteRecords row c s)) ≡ masksOf (refill (s .slots))
-  masks-site = ap refilled (masks-read-span row c (s .slots) (s .after) few) ∙ masks-refilled (s .slots)
+  few : length (g .slots) ≤ 31
+  few = omega (arith, o .slots, slots-small c)
 
-  lowest-site : lowest (masksOf (refill (s .slots))) ≡ slotNumber q
-  lowest-site = lowest-ready (refill (s .slots)) (reserve.refill-ready (s .slots) (g .room)) (omega (arith, few, reserve.refill-length (s .slots))) ∙ sym (k .number)
+  inside : slotNumber q < length (refill (g .slots))
+  inside = omega (arith, k .number, reserve.first-ready (refill (g .slots)) (reserve.refill-ready (g .slots) (o .spare)) .0)
 
-  pub taken-number : slotTaken (siteRecords row c s) ≡ slotNumber (grantIn c n s)
-  unfolding slotTaken
-  taken-number = ap lowest masks-site ∙ lowest-site
+  masks-site : refilled (masksIn here) ≡ masksOf (refill (g .slots))
+  masks-site = ap (λ l. refilled (masksIn l)) from ∙ ap refilled (masks-read-span row c (g .slots) (g .after) few) ∙ masks-refilled (g .slots)
 
-  pub taken-below : slotTaken (siteRecords row c s) < 31
-  taken-below = omega (arith, taken-number, inside, reserve.refill-length (s .slots), few)
+  lowest-site : lowest (masksOf (refill (g .slots))) ≡ slotNumber q
+  lowest-site =
+      lowest-ready (refill (g .slots)) (reserve.refill-ready (g .slots) (o .spare)) (omega (arith, few, reserve.refill-length (g .slots))) ∙ sym (k .number)
 
-  slot-site : slotIn (masksOf (refill (s .slots))) (slotNumber q) (siteRecords row c s) ≡ k .old
+  slot-site : slotIn (masksOf (refill (g .slots))) (slotNumber q) here ≡ k .old
   slot-site =
-      ap (slotIn (masksOf (refill (s .slots))) (slotNumber q)) (group-first row c (s .slots) (s .after))
-      ∙ slot-read-as c (s .slots) (laterRecords (rowsOf row c - 1) 1 ++ join (spanRecords row) (s .after)) (slotNumber q) (omega (arith, inside, reserve.refill-length (s .slots)))
-      (refill (s .slots)) (reserve.refill-length (s .slots)) (reserve.refill-sound c (s .slots) (g .sound)) (sym (refill-records (s .slots) (slotNumber q)))
+      ap (slotIn (masksOf (refill (g .slots))) (slotNumber q)) (from ∙ group-first byMasks row c (g .slots) (g .after))
+      ∙ slot-read-as c (g .slots) (laterRecords (rowsOf row c - 1) 1 ++ join (spanRecords row) (g .after)) (slotNumber q)
+      (omega (arith, inside, reserve.refill-length (g .slots)))
+      (refill (g .slots)) (reserve.refill-length (g .slots)) (reserve.refill-sound c (g .slots) (o .sound)) (sym (refill-records (g .slots) (slotNumber q)))
       ∙ ap (λ ss. getD ss (slotNumber q) Fresh) (k .slots) ∙ getD-at (q .lower) (k .old) (q .upper) Fresh (slotNumber q) refl
 
-  state-site : stateTaken c n (siteRecords row c s) ≡ q .state
-  unfolding stateTaken
-  state-site = ap₂ (λ m j. grantSlot c n (slotIn m j (siteRecords row c s))) masks-site taken-number ∙ ap (grantSlot c n) slot-site ∙ sym (k .state)
-
-  pub taken-as : _≡_ {A = Taken} (takenAs c n (siteRecords row c s))
-      (record { slot = slotNumber (grantIn c n s); count = count (grantIn c n s .state); disp = disp (grantIn c n s .state) })
-  taken-as = ap₂ {C = Taken} (λ j x. record { slot = j; count = count x; disp = disp x }) taken-number state-site
-
-  masks-after : taken (masksOf (refill (s .slots))) ≡ masksOf (q .lower ++ (q .state ∷ q .upper))
+  masks-after : taken (masksOf (refill (g .slots))) ≡ masksOf (q .lower ++ (q .state ∷ q .upper))
   masks-after =
       ap (λ ss. taken (masksOf ss)) (k .slots)
       ∙ masks-taken (q .lower) (k .old) (q .state) (q .upper) (k .ready) (subst (λ x. T (isLive x)) (sym (k .state)) (reserve.grant-live c n (k .old)))
       (ap (λ ss. lowest (masksOf ss)) (sym (k .slots)) ∙ lowest-site)
 
-  module _ (pos : 0 < row) where
-    stored-site : stored (rowAt (rows row (s .before))) (masksOf (q .lower ++ (q .state ∷ q .upper))) (slotNumber q) (q .state)
-        (encode row (s .before ++ (group c (s .slots) ∷ s .after))) ≡ encode row (poolOf q)
-    unfolding grantIn
-    stored-site =
-        let ss : List Slot = s .slots in
-        let rs : List Slot = refill ss in
-        let j : ℕ = first isReady rs in
-        let l : length rs ≡ length ss = reserve.refill-length ss in
-        let i : j < length rs = reserve.first-ready rs (reserve.refill-ready ss (g .room)) .0 in
-        let h : (k : ℕ) → slotRecord (getD ss k Fresh) ≡ slotRecord (getD rs k Fresh) = λ k. sym (refill-records ss k) in
-        ap (λ ss. stored (rowAt (rows row (s .before))) (masksOf (q .lower ++ (q .state ∷ q .upper))) (slotNumber q) (q .state) (encode row (s .before ++ (group c ss ∷ s .after))))
-        (split-at ss j Fresh (omega arith))
-        ∙ stored-encode row pos (s .before) c (take j ss) (drop (suc j) ss) (take j rs) (drop (suc j) rs) (q .state) (getD ss j Fresh) (s .after) (g .before)
-        (length-take-le j ss (omega arith) ∙ sym (length-take-le j rs (omega arith))) (omega (arith, length-drop (suc j) ss, length-drop (suc j) rs))
-        (same-records ss rs (sym l) h j .0) (same-records ss rs (sym l) h (suc j) .1)
+  stored-site : stored (rowAt i) (masksOf (q .lower ++ (q .state ∷ q .upper))) (slotNumber q) (q .state) t ≡ encode row (poolOf q)
+  unfolding grantIn
+  stored-site =
+      let ss : List Slot = g .slots in
+      let rs : List Slot = refill ss in
+      let j : ℕ = first isReady rs in
+      let l : length rs ≡ length ss = reserve.refill-length ss in
+      let r : j < length rs = reserve.first-ready rs (reserve.refill-ready ss (o .spare)) .0 in
+      let h : (k : ℕ) → slotRecord (getD ss k Fresh) ≡ slotRecord (getD rs k Fresh) = λ k. sym (refill-records ss k) in
+      ap₂ (λ m u. stored (rowAt m) (masksOf (q .lower ++ (q .state ∷ q .upper))) (slotNumber q) (q .state) u) (o .first)
+      (o .bytes ∙ ap (λ ss. encode row (g .before ++ (group c ss ∷ g .after))) (split-at ss j Fresh (omega arith)))
+      ∙ stored-encode row (o .pos) (g .before) c (take j ss) (drop (suc j) ss) (take j rs) (drop (suc j) rs) (q .state) (getD ss j Fresh) (g .after) (o .before)
+      (length-take-le j ss (omega arith) ∙ sym (length-take-le j rs (omega arith))) (omega (arith, length-drop (suc j) ss, length-drop (suc j) rs))
+      (same-records ss rs (sym l) h j .0) (same-records ss rs (sym l) h (suc j) .1)
 
-    pub taken-encode : takenRoom (rows row (s .before)) c n (encode row (s .before ++ (group c (s .slots) ∷ s .after))) ≡ encode row (poolOf (grantIn c n s))
-    unfolding takenRoom
-    taken-encode =
-        let e : List ℕ = encode row (s .before ++ (group c (s .slots) ∷ s .after)) in
-        ap (λ t. stored (rowAt (rows row (s .before))) (taken (refilled (masksIn t))) (slotTaken t) (stateTaken c n t) e)
-        (encode-from row pos (s .before) (group c (s .slots) ∷ s .after) (g .before))
-        ∙ ap (λ m. stored (rowAt (rows row (s .before))) m (slotTaken (siteRecords row c s)) (stateTaken c n (siteRecords row c s)) e) (ap taken masks-site ∙ masks-after)
-        ∙ ap₂ (λ j x. stored (rowAt (rows row (s .before))) (masksOf (q .lower ++ (q .state ∷ q .upper))) j x e) taken-number state-site
-        ∙ stored-site
+block-taken : (row i c n : ℕ) (g : Site) (j : ℕ) (a : Alloc) → i ≡ rows row (g .before) → j ≡ slotNumber (grantIn c n g) → Live a ≡ grantIn c n g .state
+    → _≡_ {A = Block} (record { first = i; class = c; slot = j; alloc = a }) (blockOf row (grantIn c n g))
+unfolding grantIn
+block-taken row i c n g j a f k e =
+    let z : Place = grantIn c n g in
+    ap₂ {C = Block} (λ f k. record { first = f; class = c; slot = k; alloc = a }) f k
+    ∙ ap {B = Block} (λ x. record {
+      first = rows row (g .before);
+      class = c;
+      slot = slotNumber z;
+      alloc = record { count = count x; disp = disp x; size = size x };
+    }) e
+
+-- over what the calls give: the masks, the slot that is taken, and the room after it
+module _ (i c n : ℕ) (t : List ℕ) (m₀ m : Masks) (e₀ : m₀ ≡ masksIn (drop (rowAt i) t)) (e : m ≡ refilled m₀) where
+  -- what the code needs: a slot is ready, and its number is one of a group
+  pub ready-number : (row : ℕ) (g : Site) → Offers byMasks row t i c g → (0 < m .ready) × (lowest m < 31)
+  unfolding here
+  ready-number row g o =
+      let f : m ≡ masksOf (refill (g .slots)) = e ∙ ap refilled e₀ ∙ masks-site row i c n g t o in
+      let r : T (any isReady (refill (g .slots))) = reserve.refill-ready (g .slots) (o .spare) in (
+        rw f (mask-pos (map isReady (refill (g .slots))) (rw (any-map (λ b. b) isReady (refill (g .slots))) r)),
+        rw f (omega (arith, lowest-site row i c n g t o, inside row i c n g t o, few row i c n g t o, reserve.refill-length (g .slots))),
+      )
+
+  -- the taken slot
+  pub taken-slot : (row : ℕ) (g : Site) → Offers byMasks row t i c g → (j : ℕ) (x₀ : Slot) (a : Alloc) (m′ : Masks) (u : List ℕ) → j ≡ lowest m
+      → x₀ ≡ slotIn m j (drop (rowAt i) t) → Live a ≡ grantSlot c n x₀ → m′ ≡ taken m → u ≡ stored (rowAt i) m′ j (Live a) t
+      → (_≡_ {A = Block} (record { first = i; class = c; slot = j; alloc = a }) (blockOf row (grantIn c n g))) × (u ≡ encode row (poolOf (grantIn c n g)))
+  unfolding here
+  taken-slot row g o j x₀ a m′ u ej ex ea em eu =
+      let z : Place = grantIn c n g in
+      let f : m ≡ masksOf (refill (g .slots)) = e ∙ ap refilled e₀ ∙ masks-site row i c n g t o in
+      let fj : j ≡ slotNumber z = ej ∙ ap lowest f ∙ lowest-site row i c n g t o in
+      let fx : x₀ ≡ k row i c n g t o .old = ex ∙ ap₂ (λ m j. slotIn m j (drop (rowAt i) t)) f fj ∙ slot-site row i c n g t o in
+      let fa : Live a ≡ z .state = ea ∙ ap (grantSlot c n) fx ∙ sym (k row i c n g t o .state) in
+      let fm : m′ ≡ masksOf (z .lower ++ (z .state ∷ z .upper)) = em ∙ ap taken f ∙ masks-after row i c n g t o in (
+        block-taken row i c n g j a (o .first) fj fa,
+        eu ∙ ap₂ (λ m j. stored (rowAt i) m j (Live a) t) fm fj
+            ∙ ap (λ x. stored (rowAt i) (masksOf (z .lower ++ (z .state ∷ z .upper))) (slotNumber z) x t) fa ∙ stored-site row i c n g t o,
+      )
 
 -- ---- a slot is given back
 
--- a slot is ready, waiting or live
-three-sets : (ss : List Slot) → sum bit (map isReady ss) + sum bit (map isWaiting ss) + sum bit (map isLive ss) ≡ length ss
-three-sets [] = refl
-three-sets (Fresh ∷ ss) = omega (arith, three-sets ss)
-three-sets (Idle true k d ∷ ss) = omega (arith, three-sets ss)
-three-sets (Idle false k d ∷ ss) = omega (arith, three-sets ss)
-three-sets (Live k d n ∷ ss) = omega (arith, three-sets ss)
-
-none-live : (ss : List Slot) → eqb (sum bit (map isLive ss)) 0 ≡ not (any isLive ss)
+none-live : (ss : List Slot) → eqb (sum (λ x. bit (isLive x)) ss) 0 ≡ not (any isLive ss)
 none-live [] = refl
 none-live (Fresh ∷ ss) = rw zero-add (none-live ss)
 none-live (Idle r k d ∷ ss) = rw zero-add (none-live ss)
-none-live (Live k d n ∷ ss) = ne-eqb (1 + sum bit (map isLive ss)) 0 (λ e. omega arith)
+none-live (Live a ∷ ss) = ne-eqb (1 + sum (λ x. bit (isLive x)) ss) 0 (λ e. omega arith)
 
-choose-not : {A : Type 0} (b : Bool) (x y : A) → choose (not b) y x ≡ choose b x y
-unfolding choose
-choose-not true x y = refl
-choose-not false x y = refl
+module _ (row : ℕ) (t : List ℕ) (b : Block) (p : Place) (h : Holds byMasks row t b p) where
+  -- the group's slots before and after
+  abbrev held : List Slot
+  held = p .lower ++ (p .state ∷ p .upper)
 
-module _ (row : ℕ) (p : Place) (w : T (wellFormed (poolOf p))) where
-  masks-group : masksIn (groupRecords row p) ≡ masksOf (p .lower ++ (p .state ∷ p .upper))
-  masks-group = masks-read-span row (p .cls) (p .lower ++ (p .state ∷ p .upper)) (p .after) (omega (arith, fits p w .slots, slots-small (p .cls)))
+  abbrev slots : List Slot
+  slots = p .lower ++ (vacant p ∷ p .upper)
 
-  pub given-number : slotNumber p < 31
-  given-number = omega (arith, fits p w .number, slots-small (p .cls))
+  f : Fits p
+  f = fits p (h .formed)
 
-  module _ (l : T (isLive (p .state))) where
-    -- the group's slots afterwards
-    abbrev slots : List Slot
-    slots = p .lower ++ (vacant p ∷ p .upper)
+  first-row : b .first ≡ rows row (p .before)
+  first-row = ap (λ b. b .first) (h .block)
 
-    slots-all : length slots ≡ slotsOf (p .cls)
-    slots-all = omega (arith, fits p w .slots, length-append (p .lower) (p .state ∷ p .upper), length-append (p .lower) (vacant p ∷ p .upper))
+  class : b .class ≡ p .cls
+  class = ap (λ b. b .class) (h .block)
 
-    masks-place : givenBack (masksIn (groupRecords row p)) (slotNumber p) ≡ masksOf slots
-    masks-place = ap (λ m. givenBack m (slotNumber p)) masks-group ∙ masks-given (p .lower) (p .state) (count (p .state)) (disp (p .state)) (p .upper) l
+  slot : b .slot ≡ slotNumber p
+  slot = ap (λ b. b .slot) (h .block)
 
-    pub given-fits : masksIn (groupRecords row p) .waiting + 2 ^ slotNumber p < 4294967296
+  -- the group's rows are in the room, and its slot is one of a group's
+  pub held-rows : (b .class < 48) × (b .slot < 31) × (b .first + rowsOf row (b .class) ≤ 512) × (rowAt (b .first + rowsOf row (b .class)) ≤ length t)
+  unfolding roomBytes
+  held-rows =
+      let a : rows row (poolOf p) ≡ rows row (p .before) + (rowsOf row (p .cls) + rows row (p .after)) = rows-append row (p .before)
+      (group (p .cls) held ∷ p .after) in
+      let r : rowsOf row (b .class) ≡ rowsOf row (p .cls) = ap (rowsOf row) class in (
+        omega (arith, class, f .class),
+        omega (arith, slot, f .number, slots-small (p .cls)),
+        omega (arith, first-row, h .few),
+        omega (arith, first-row, ap length (h .bytes), encode-length masks-laws row (h .pos) (poolOf p) (h .formed)),
+      )
+
+  masks-group : masksIn (drop (rowAt (b .first)) t) ≡ masksOf held
+  masks-group =
+      ap₂ (λ i l. masksIn (drop (rowAt i) l)) first-row (h .bytes)
+      ∙ ap masksIn (encode-from masks-laws row (h .pos) (p .before) (group (p .cls) held ∷ p .after) (f .before))
+      ∙ masks-read-span row (p .cls) held (p .after) (omega (arith, f .slots, slots-small (p .cls)))
+
+  slots-all : length slots ≡ slotsOf (p .cls)
+  slots-all = omega (arith, f .slots, length-append (p .lower) (p .state ∷ p .upper), length-append (p .lower) (vacant p ∷ p .upper))
+
+  -- over what the calls give: the masks of the group, and those with the slot given back
+  module _ (m₀ : Masks) (e₀ : m₀ ≡ masksIn (drop (rowAt (b .first)) t)) where
+    masks-place : givenBack m₀ (b .slot) ≡ masksOf slots
+    masks-place = ap₂ givenBack (e₀ ∙ masks-group) slot ∙ masks-given (p .lower) (p .state) (count (p .state)) (disp (p .state)) (p .upper) (h .live)
+
+    pub given-fits : m₀ .waiting + 2 ^ b .slot < 4294967296
     unfolding givenBack
     given-fits =
-        let e : masksIn (groupRecords row p) .waiting + 2 ^ slotNumber p ≡ mask (map isWaiting slots) = ap (λ m. m .waiting) masks-place in
+        let e : m₀ .waiting + 2 ^ b .slot ≡ mask (map isWaiting slots) = ap (λ m. m .waiting) masks-place in
         let n : length (map isWaiting slots) ≤ 31 = omega (arith, length-map slots isWaiting, slots-all, slots-small (p .cls)) in
         subst (λ m. m < 4294967296) (sym e) (lt-of-lt-of-le (mask-below (map isWaiting slots)) (le-trans (pow-le-pow-right (lit≤ tt) n) (lit≤ {m = 2 ^ 31} tt)))
 
-    ones-place : ones (givenBack (masksIn (groupRecords row p)) (slotNumber p) .ready) + ones (givenBack (masksIn (groupRecords row p)) (slotNumber p) .waiting) + sum bit (map isLive slots) ≡ slotsOf (p .cls)
-    ones-place =
-        subst (λ m. ones (m .ready) + ones (m .waiting) + sum bit (map isLive slots) ≡ slotsOf (p .cls)) (sym masks-place)
-        (omega (arith, ones-sum (map isReady slots), ones-sum (map isWaiting slots), three-sets slots, slots-all))
+    module _ (m : Masks) (e : m ≡ givenBack m₀ (b .slot)) where
+      masks-left : m ≡ masksOf slots
+      masks-left = e ∙ masks-place
 
-    pub given-few : ones (givenBack (masksIn (groupRecords row p)) (slotNumber p) .ready)
-        + ones (givenBack (masksIn (groupRecords row p)) (slotNumber p) .waiting) ≤ slotsOf (p .cls)
-    given-few = omega (arith, ones-place)
+      ones-left : ones (m .ready) + ones (m .waiting) + sum (λ x. bit (isLive x)) slots ≡ slotsOf (b .class)
+      ones-left =
+          subst (λ m. ones (m .ready) + ones (m .waiting) + sum (λ x. bit (isLive x)) slots ≡ slotsOf (b .class)) (sym masks-left)
+          (omega (arith, mask-ones isReady slots, mask-ones isWaiting slots, three-sets slots, slots-all, ap slotsOf class))
 
-    live-place : eqb (liveLeft (p .cls) (slotNumber p) (groupRecords row p)) 0 ≡ not (any isLive (p .lower ++ p .upper))
-    unfolding liveLeft
-    live-place =
-        let e : liveLeft (p .cls) (slotNumber p) (groupRecords row p) ≡ sum bit (map isLive slots) = omega (arith, ones-place) in
-        ap (λ k. eqb k 0) e ∙ none-live slots ∙ ap not (any-middle isLive (p .lower) (vacant p) (p .upper))
+      pub given-few : ones (m .ready) + ones (m .waiting) ≤ slotsOf (b .class)
+      given-few = omega (arith, ones-left)
 
-    pub given-left : leftAs (p .cls) (slotNumber p) (groupRecords row p)
-        ≡ choose (any isLive (p .lower ++ p .upper)) Kept Dropped
-    given-left = ap (λ b. choose b Dropped Kept) live-place ∙ choose-not (any isLive (p .lower ++ p .upper)) Kept Dropped
+      none-left : (k : ℕ) → k ≡ slotsOf (b .class) - (ones (m .ready) + ones (m .waiting)) → eqb k 0 ≡ not (any isLive (p .lower ++ p .upper))
+      none-left k d =
+          let l : k ≡ sum (λ x. bit (isLive x)) slots = omega (arith, ones-left) in
+          ap (λ k. eqb k 0) l ∙ none-live slots ∙ ap not (any-middle isLive (p .lower) (vacant p) (p .upper))
 
-    module _ (pos : 0 < row) where
-      pub given-encode : givenRoom row (rows row (p .before)) (p .cls) (slotNumber p) (count (p .state)) (disp (p .state)) (encode row (poolOf p))
-          ≡ encode row (releaseAt row p .pool)
-      unfolding givenRoom releaseAt
-      given-encode =
-          let X : Pool = p .before in
-          let ss : List Slot = p .lower ++ (p .state ∷ p .upper) in
-          let f : Fits p = fits p w in
-          rw (encode-from row pos X (group (p .cls) ss ∷ p .after) (f .before), masks-place)
-          (choose-case (λ (r : Plan Release). choose (eqb (liveLeft (p .cls) (slotNumber p) (groupRecords row p)) 0) (put (rowAt (rows row X)) (zeros (264 * rowsOf row (p .cls))) (encode row (poolOf p)))
-          (stored (rowAt (rows row X)) (masksOf slots) (slotNumber p) (vacant p) (encode row (poolOf p))) ≡ encode row (r .pool)) (any isLive (p .lower ++ p .upper)) _ _
-          (λ h. choose-false _ _ _ (live-place ∙ ap not h)
-          ∙ stored-encode row pos X (p .cls) (p .lower) (p .upper) (p .lower) (p .upper) (vacant p) (p .state) (p .after) (f .before) refl refl refl refl)
-          (λ h. choose-true _ _ _ (live-place ∙ ap not h)
-          ∙ dropped-encode row pos X (p .cls) ss (p .after) (f .before) (omega (arith, f .slots, slots-small (p .cls)))))
+      module _ (k : ℕ) (d : k ≡ slotsOf (b .class) - (ones (m .ready) + ones (m .waiting))) (u : List ℕ) where
+        -- the group goes
+        pub given-last : k ≡ 0 → (r : ℕ) → r ≡ rowsOf row (b .class) → u ≡ put (rowAt (b .first)) (zeros (rowRecordBytes * r)) t
+            → (Dropped ≡ leftAs p) × (u ≡ encode row (releaseAt row p .pool))
+        unfolding releaseAt choose
+        given-last z r er eu =
+            let a : any isLive (p .lower ++ p .upper) ≡ false = not-true (any isLive (p .lower ++ p .upper)) (sym (none-left k d) ∙ eq-eqb k 0 z) in (
+              rw a,
+              eu ∙ rw (er, class, first-row, h .bytes, a)
+                  (dropped-encode masks-laws row (h .pos) (p .before) (p .cls) held (p .after) (f .before) (omega (arith, f .slots, slots-small (p .cls)))),
+            )
 
-      -- ---- a live slot gets another size
+        -- the group stays
+        pub given-back : (k ≡ 0 → ⊥) → u ≡ stored (rowAt (b .first)) m (b .slot) (Idle false (b .alloc .count) (b .alloc .disp)) t
+            → (Kept ≡ leftAs p) × (u ≡ encode row (releaseAt row p .pool))
+        unfolding releaseAt choose
+        given-back z eu =
+            let a : any isLive (p .lower ++ p .upper) ≡ true = not-false (any isLive (p .lower ++ p .upper)) (sym (none-left k d) ∙ ne-eqb k 0 z) in (
+              rw a,
+              eu ∙ rw (masks-left, first-row, slot, ap (λ b. b .alloc .count) (h .block), ap (λ b. b .alloc .disp) (h .block), h .bytes, a)
+                  (stored-encode row (h .pos) (p .before) (p .cls) (p .lower) (p .upper) (p .lower) (p .upper) (vacant p) (p .state) (p .after) (f .before)
+                  refl refl refl refl),
+            )
 
-      pub resized-encode : (n : ℕ)
-          → stored (rowAt (rows row (p .before))) (masksIn (groupRecords row p)) (slotNumber p)
-          (Live (count (p .state)) (disp (p .state)) n) (encode row (poolOf p))
-          ≡ encode row (poolOf (become p (Live (count (p .state)) (disp (p .state)) n)))
-      resized-encode n =
-          let x : Slot = Live (count (p .state)) (disp (p .state)) n in
-          ap (λ m. stored (rowAt (rows row (p .before))) m (slotNumber p) x (encode row (poolOf p)))
-          (masks-group ∙ masks-resized (p .lower) (p .state) x (p .upper) l tt)
-          ∙ stored-encode row pos (p .before) (p .cls) (p .lower) (p .upper) (p .lower) (p .upper) x (p .state) (p .after) (fits p w .before) refl refl refl refl
+    -- ---- a live slot gets another size
+
+    pub resized-slot : (n : ℕ) (a : Alloc) (u : List ℕ) → Live a ≡ resized p n → u ≡ stored (rowAt (b .first)) m₀ (b .slot) (Live a) t
+        → u ≡ encode row (poolOf (become p (resized p n)))
+    resized-slot n a u ea eu =
+        eu ∙ rw (e₀ ∙ masks-group ∙ masks-resized (p .lower) (p .state) (resized p n) (p .upper) (h .live) tt, first-row, slot, ea, h .bytes)
+        (stored-encode row (h .pos) (p .before) (p .cls) (p .lower) (p .upper) (p .lower) (p .upper) (resized p n) (p .state) (p .after) (f .before) refl
+        refl refl refl)

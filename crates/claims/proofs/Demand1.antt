@@ -1,254 +1,196 @@
 -- Demand 1: every call ends with the number of the first reason that is due, or 0, and a refusal changes no byte.
-use Prim.Native.Nat.{ℕ, _/_, _<_}
-use mathlib.Core.Path.{_≡_, refl, sym, subst, ap, _∙_}
-use mathlib.Core.Bool.{Bool, true, false, not}
-use mathlib.Core.Logic.{inl, inr}
-use mathlib.Core.Option.{Option, none, some}
-use mathlib.Core.List.{List, [], _∷_, _++_}
-use native.Mathlib.Omega.{arith}
-use borrow.Author.Tests.{leb-true, leb-false}
-use lib.Dec.{T, leb, eqb, T-not}
-use lib.ListN.{length}
-use Rattle.mem.specs.Lists.{choose, any}
-use Rattle.mem.specs.Bytes.{zeros}
+use Rattle.mem.proofs.Prelude.{_≡_, sym, ap, refl, subst, true, Bool, false, not, inl, inr, some, none, Option, List, [], _∷_, ℕ, _<_, arith}
+use Rattle.mem.proofs.Prelude.{leb-false, leb-true, T, leb, T-not, length}
+use Rattle.mem.specs.Lists.{choose}
 use Rattle.mem.proofs.Tests.{true-T, choose-case}
-use Rattle.classes.specs.Classes as classes
-use Rattle.classes.specs.Classes.{classOf}
-use Rattle.model.specs.declared.SetUp.{SetUp}
-use Rattle.model.specs.declared.Grant.{Grant}
-use Rattle.model.specs.declared.Release.{Release}
-use Rattle.model.specs.declared.Resize.{Resize}
-use Rattle.model.specs.declared.Measure.{Measure}
+use Rattle.classes.specs.Classes.{tooLarge}
+use Rattle.model.specs.declared.Refusal.{Refusal}
+use Rattle.model.specs.declared.Refusal.the-variants.{BadArena, Unsound, TooLarge, NoSuchBlock, AlreadyFree, HeaderDamaged, Overrun, NoRoom}
+use Rattle.model.specs.declared.Damage.{Damage}
 use Rattle.model.specs.State.{Pool, Place, isLive, granted, wellFormed, poolOf, start}
 use Rattle.model.specs.Blocks.{damageIn}
-use Rattle.model.specs.Answers.{Answer, refusal, setUpAnswer, grantAnswer, releaseAnswer, resizeAnswer, measureAnswer}
-use Rattle.model.specs.Plans.{Plan, Call, setsUp, grants, releases, resizes, measures, reports, freshPool, numbered, refused, plan}
-use Rattle.model.specs.Plans.{reserve, grantAt, lookup, onBlock, releaseAt, inPlace, resizeInPlace, moveTo, resizeAt, measureAt}
-use Rattle.model.specs.Tables.{encode, view, sound}
+use Rattle.model.specs.Answers.{numberOf, refusal}
+use Rattle.model.specs.Plans.{Plan, Call, setsUp, grants, releases, resizes, measures, reports, refused, plan}
+use Rattle.model.specs.Plans.{reserve, grantAt, lookup, onBlock, releaseAt, inPlace, resizeInPlace, resizeMove, moveTo, resizeAt, measureAt}
+use Rattle.model.specs.Tables.{byMasks, view, sound}
 use Rattle.model.specs.Calls as calls
-use Rattle.model.specs.Calls.{Result, keeps, written, carried, setUpRight, setUp, checked, call}
+use Rattle.model.specs.Calls.{Result, keeps, applied, masked, unless, carried, setUpRight, setUp, checked, call, callBy, carriedBy, checkedBy, setUpBy}
 use Rattle.model.proofs.Tables.{Sound, sound-facts}
 use Rattle.model.proofs.Lookup.{lookup-start, lookup-found}
-use Rattle.model.proofs.Reserve.{NoSite, reserve-none, reserve-some}
-use Rattle.claims.specs.Demand1.{Reason, badArena, unsound, tooLarge, noSuchBlock, alreadyFree, headerDamaged, overrun, noRoom}
-use Rattle.claims.specs.Demand1.{order, offsetIn, FirstDue, refusedValues, StartsAt, LiveAt, headerDue, guardDue, NoPlace, Due, Demand1}
-
--- a plan as it is carried out if the block that it names is intact
-abbrev pub applied : ℕ → List ℕ → Plan Answer → Result
-applied row a p = record { answer = p .answer; arena = written a (p .changes); room = encode row (p .pool) }
+use Rattle.model.proofs.Lowest.{reserve-none, reserve-some}
+use Rattle.claims.specs.Demand1.{order, sizeIn, offsetIn, FirstDue, refusedValues, StartsAt, LiveAt, headerDue, guardDue, Due, Demand1}
+use Rattle.claims.proofs.Cases.{release-parts}
 
 -- what is tested of the block at an offset, before other reasons
-abbrev pub blockFirst : List Reason → List Reason
-blockFirst rs = noSuchBlock ∷ alreadyFree ∷ headerDamaged ∷ overrun ∷ rs
+abbrev pub blockFirst : List Refusal → List Refusal
+blockFirst rs = NoSuchBlock ∷ AlreadyFree ∷ HeaderDamaged ∷ Overrun ∷ rs
 
-module _ (row : ℕ) (pos : 0 < row) where
+module _ (row : ℕ) (pos : 0 < row) (P : Pool) (o : ℕ) where
   -- the look-up finds the one granted slot that starts at an offset
-  pub starts-found : (P : Pool) (o : ℕ) (p : Place) → T (wellFormed P) → StartsAt row P o p → lookup row P o ≡ some p
-  starts-found P o p w s =
-      let e : poolOf p ≡ P = s .slotted .pool in
-      subst (λ k. lookup row P k ≡ some p) (s .starts)
-      (subst (λ Q. lookup row Q (start row p) ≡ some p) e (lookup-start row pos p (subst (λ Q. T (wellFormed Q)) (sym e) w) (s .slotted .granted-once)))
+  pub starts-found : (p : Place) → T (wellFormed P) → StartsAt row P o p → lookup row P o ≡ some p
+  starts-found p w s =
+      rw (← s .slotted .pool, ← s .starts) (lookup-start row pos p (subst (λ Q. T (wellFormed Q)) (sym (s .slotted .pool)) w) (s .slotted .granted-once))
 
-  pub starts-once : (P : Pool) (o : ℕ) (p q : Place) → T (wellFormed P) → StartsAt row P o p → StartsAt row P o q → p ≡ q
-  starts-once P o p q w s r =
-      let e : lookup row P o ≡ some p = starts-found P o p w s in
-      let f : lookup row P o ≡ some q = starts-found P o q w r in
-      cc
-
-  pub none-starts : (P : Pool) (o : ℕ) (p : Place) → T (wellFormed P) → lookup row P o ≡ none → StartsAt row P o p → ⊥
-  none-starts P o p w e s =
-      let f : lookup row P o ≡ some p = starts-found P o p w s in
+  pub none-starts : (p : Place) → T (wellFormed P) → lookup row P o ≡ none → StartsAt row P o p → ⊥
+  none-starts p w e s =
+      let f : lookup row P o ≡ some p = starts-found p w s in
       let z : _≡_ {A = ℕ} 0 1 = cc in
       omega arith
 
-  pub found-starts : (P : Pool) (o : ℕ) (p : Place) → lookup row P o ≡ some p → StartsAt row P o p
-  found-starts P o p e =
+  pub found-starts : (p : Place) → lookup row P o ≡ some p → StartsAt row P o p
+  found-starts p e =
       let f : (poolOf p ≡ P) × T (granted (p .state)) × (start row p ≡ o) = lookup-found row pos P o p e in
       record { slotted = record { pool = f .0; granted-once = f .1 }; starts = f .2 }
 
+  pub starts-alike : (M : Place → Bool) (p q : Place) → T (wellFormed P) → StartsAt row P o p → StartsAt row P o q → T (M p) → T (M q)
+  starts-alike M p q w s r m =
+      let e : lookup row P o ≡ some p = starts-found p w s in
+      let f : lookup row P o ≡ some q = starts-found q w r in
+      let z : p ≡ q = cc in
+      subst (λ x. T (M x)) z m
+
 module _ (row : ℕ) (pos : 0 < row) (a t : List ℕ) where
   -- what is claimed of a call, of the reasons that are left to test and a result
-  record Right (c : Call) (rs : List Reason) (r : Result) : Type 0 where
+  record Right (c : Call) (rs : List Refusal) (r : Result) : Type 0 where
     number : FirstDue (Due row a t c) rs (r .answer .number)
     refused : (r .answer .number ≡ 0 → ⊥) → (r .arena ≡ a) × (r .room ≡ t) × (r .answer .values ≡ refusedValues c)
-
-  -- no reason is left
-  done-right : (c : Call) (r : Result) → r .answer .number ≡ 0 → Right c [] r
-  done-right c r e = record { number = e; refused = λ n. absurd (n e) }
-
-  -- a reason that is not due is passed by
-  later-right : (c : Call) (d : Reason) (rs : List Reason) (r : Result) → (Due row a t c d → ⊥) → Right c rs r → Right c (d ∷ rs) r
-  later-right c d rs r n s = record { number = inr (n, s .number); refused = s .refused }
-
-  -- a call on tables that must be sound
-  checked-right : (c : Call) (rs : List Reason) → calls.unsound c ≡ record { number = 2; values = refusedValues c }
-      → (T (sound row (length a) t) → Right c rs (carried row a t (plan row (view row t) c))) → Right c (unsound ∷ rs) (checked row a t c)
-  unfolding checked
-  checked-right c rs u f =
-      choose-case (Right c (unsound ∷ rs)) (sound row (length a) t) (carried row a t (plan row (view row t) c)) (keeps (calls.unsound c) a t)
-      (λ e. let s : T (sound row (length a) t) = true-T (sound row (length a) t) e in later-right c unsound rs _ (λ d. T-not (sound row (length a) t) d s) (f s))
-      (λ e. record { number = inl (ap (λ r. r .number) u, rw e tt); refused = λ n. (refl, refl, ap (λ r. r .values) u) })
-
-  set-up-right : Right setsUp (badArena ∷ []) (setUp row a t)
-  unfolding setUp choose
-  set-up-right = go (setUpRight row a t) refl
-    where
-      go : (b : Bool) → setUpRight row a t ≡ b
-          → Right setsUp (badArena ∷ [])
-          (choose b (record { answer = setUpAnswer SetUp.Done; arena = zeros (length a); room = encode row (freshPool (length a / row)) })
-          (keeps (setUpAnswer SetUp.BadArena) a t))
-      go true e = later-right setsUp badArena [] _ (λ d. T-not (setUpRight row a t) d (true-T (setUpRight row a t) e)) (done-right setsUp _ refl)
-      go false e = record { number = inl (refl, rw e tt); refused = λ n. (refl, refl, refl) }
 
   abbrev P : Pool
   P = view row t
 
-  -- on sound tables
-  module _ (s : Sound row (length a) t) where
-    no-place : (n : ℕ) → NoSite row P (classOf n) → NoPlace row P n
-    no-place n x = record { all-live = x .full; no-run = x .run }
+  module _ (c : Call) where
+    -- no reason is left
+    done-right : (r : Result) → r .answer .number ≡ 0 → Right c [] r
+    done-right r e = record { number = e; refused = λ n. absurd (n e) }
 
-    grants-right : (n : ℕ) → Right (grants n) (tooLarge ∷ noRoom ∷ []) (carried row a t (plan row P (grants n)))
-    unfolding plan carried choose
-    grants-right n = small (leb classes.tooLarge n) refl
+    -- a reason that is not due is passed by
+    later-right : (d : Refusal) (rs : List Refusal) (r : Result) → (Due row a t c d → ⊥) → Right c rs r → Right c (d ∷ rs) r
+    later-right d rs r n s = record { number = inr (n, s .number); refused = s .refused }
+
+    -- one that is due is given
+    due-right : (d : Refusal) (rs : List Refusal) {vs u : List ℕ} → vs ≡ refusedValues c → u ≡ t → Due row a t c d
+        → Right c (d ∷ rs) (keeps (record { number = numberOf d; values = vs }) a u)
+    due-right d rs v e x = record { number = inl (refl, x); refused = λ n. (refl, e, v) }
+
+  -- a call on tables that must be sound
+  checked-right : (c : Call) (rs : List Refusal) → calls.unsound c ≡ record { number = numberOf Unsound; values = refusedValues c }
+      → (Sound byMasks row (length a) t → Right c rs (carried row a t (plan row P c))) → Right c (Unsound ∷ rs) (checked row a t c)
+  unfolding checkedBy
+  checked-right c rs u f =
+      choose-case (Right c (Unsound ∷ rs)) (sound row (length a) t) (carried row a t (plan row P c)) (keeps (calls.unsound c) a t)
+      (λ e.
+      let s : T (sound row (length a) t) = true-T (sound row (length a) t) e in
+      later-right c Unsound rs _ (λ d. T-not (sound row (length a) t) d s) (f (sound-facts byMasks row (length a) t s)))
+      (λ e. subst (λ r. Right c (Unsound ∷ rs) (keeps r a t)) (sym u) (due-right c Unsound rs refl refl (rw e tt)))
+
+  set-up-right : Right setsUp (BadArena ∷ []) (setUp row a t)
+  unfolding setUpBy
+  set-up-right =
+      choose-case (Right setsUp (BadArena ∷ [])) (setUpRight row a t) _ (keeps (refusal BadArena) a t)
+      (λ e. later-right setsUp BadArena [] _ (λ d. T-not (setUpRight row a t) d (true-T (setUpRight row a t) e)) (done-right setsUp _ refl))
+      (λ e. due-right setsUp BadArena [] refl refl (rw e tt))
+
+  -- a call on sound tables that gives one value
+  module _ (s : Sound byMasks row (length a) t) (c : Call) (v : refusedValues c ≡ 0 ∷ []) where
+    refused-right : (d : Refusal) (rs : List Refusal) → Due row a t c d → Right c (d ∷ rs) (carried row a t (refused d P))
+    unfolding carriedBy unless
+    refused-right d rs x = due-right c d rs (sym v) (sym (s .form)) x
+
+    -- the size is tested first
+    small-right : (rs : List Refusal) (p : Plan) → Right c rs (carried row a t p)
+        → Right c (TooLarge ∷ rs) (carried row a t (choose (leb tooLarge (sizeIn c)) (refused TooLarge P) p))
+    small-right rs p r =
+        choose-case (λ p. Right c (TooLarge ∷ rs) (carried row a t p)) (leb tooLarge (sizeIn c)) (refused TooLarge P) p
+        (λ e. refused-right TooLarge rs (leb-true tooLarge (sizeIn c) e))
+        (λ e. later-right c TooLarge rs _ (λ d. omega (arith, d, leb-false tooLarge (sizeIn c) e)) r)
+
+    -- then a live block's header and guard
+    intact-right : (rs : List Refusal) (p : Place) (f : Plan) → f .checks ≡ some p → LiveAt row P (offsetIn c) p
+        → Right c rs (applied (masked row) a f) → Right c (HeaderDamaged ∷ Overrun ∷ rs) (carried row a t f)
+    unfolding carriedBy unless damageIn
+    intact-right rs p f k l r =
+        rw k
+        (choose-case (M (HeaderDamaged ∷ Overrun ∷ rs)) (headerDue row a p) _ _
+        (λ e. later-right c HeaderDamaged (Overrun ∷ rs) _ (λ (q, m, d). T-not (headerDue row a q) d (alike (headerDue row a) q m e))
+        (choose-case (M (Overrun ∷ rs)) (guardDue row a p) _ _
+        (λ g. later-right c Overrun rs _ (λ (q, m, _, d). T-not (guardDue row a q) d (alike (guardDue row a) q m g)) r)
+        (λ g. due-right c Overrun rs (sym v) refl (p, l, true-T (headerDue row a p) e, rw g tt))))
+        (λ e. due-right c HeaderDamaged (Overrun ∷ rs) (sym v) refl (p, l, rw e tt)))
       where
-        room : (r : Option Place) → reserve row P n ≡ r → Right (grants n) (noRoom ∷ []) (carried row a t (numbered grantAnswer (grantAt row P r)))
-        room none e = record { number = inl (refl, no-place n (reserve-none row pos P n e)); refused = λ n. (refl, sym (s .form), refl) }
-        room (some q) e = later-right (grants n) noRoom [] _ (λ d. reserve-some row P n q e (record { full = d .all-live; run = d .no-run })) (done-right (grants n) _ refl)
+        M : List Refusal → Damage → Type 0
+        M rs d = Right c rs (unless d (applied (masked row) a f) (λ r. keeps (refusal r) a t))
 
-        small : (b : Bool) → leb classes.tooLarge n ≡ b
-            → Right (grants n) (tooLarge ∷ noRoom ∷ []) (carried row a t (numbered grantAnswer (choose b (refused Grant.TooLarge P) (grantAt row P (reserve row P n)))))
-        small true e = record { number = inl (refl, leb-true classes.tooLarge n e); refused = λ n. (refl, sym (s .form), refl) }
-        small false e =
-            later-right (grants n) tooLarge (noRoom ∷ []) _ (λ d. let l : n < classes.tooLarge = leb-false classes.tooLarge n e in omega arith) (room (reserve row P n) refl)
+        alike : (M : Place → Bool) (q : Place) → LiveAt row P (offsetIn c) q → M p ≡ true → T (M q)
+        alike M q m e = starts-alike row pos P (offsetIn c) M p q (s .formed) (l .here) (m .here) (true-T (M p) e)
 
-    reports-right : Right reports [] (carried row a t (plan row P reports))
-    unfolding plan carried choose
-    reports-right = done-right reports _ refl
+    -- what is done with the block at an offset
+    block-right : (rs : List Refusal) (f : Place → Plan)
+        → ((p : Place) → (f p .checks ≡ some p) × (LiveAt row P (offsetIn c) p → Right c rs (applied (masked row) a (f p))))
+        → Right c (blockFirst rs) (carried row a t (onBlock P f (lookup row P (offsetIn c))))
+    block-right rs f k = found (lookup row P (offsetIn c)) refl
+      where
+        found : (o : Option Place) → lookup row P (offsetIn c) ≡ o → Right c (blockFirst rs) (carried row a t (onBlock P f o))
+        found none e = refused-right NoSuchBlock _ (λ p h. none-starts row pos P (offsetIn c) p (s .formed) e h)
+        found (some p) e =
+            let h : StartsAt row P (offsetIn c) p = found-starts row pos P (offsetIn c) p e in
+            later-right c NoSuchBlock (AlreadyFree ∷ HeaderDamaged ∷ Overrun ∷ rs) _ (λ d. d p h)
+            (choose-case (λ z. Right c (AlreadyFree ∷ HeaderDamaged ∷ Overrun ∷ rs) (carried row a t z)) (isLive (p .state)) (f p) (refused AlreadyFree P)
+            (λ e.
+            let l : T (isLive (p .state)) = true-T (isLive (p .state)) e in
+            let m : LiveAt row P (offsetIn c) p = record { here = h; live = l } in
+            later-right c AlreadyFree (HeaderDamaged ∷ Overrun ∷ rs) _
+            (λ (q, g, d). T-not (isLive (q .state)) d (starts-alike row pos P (offsetIn c) (λ z. isLive (z .state)) p q (s .formed) h g l))
+            (intact-right rs p (f p) (k p .0) m (k p .1 m)))
+            (λ e. refused-right AlreadyFree (HeaderDamaged ∷ Overrun ∷ rs) (p, h, rw e tt)))
 
-    -- a call on the block at an offset, with the plan f for a live block
-    module _ {A : Type 0} (ans : A → Answer) (absent freed : A) (f : Place → Plan A) (c : Call) (rs : List Reason) where
-      -- what a live block's header and guard decide
-      intact-right : (p : Place) → f p .checks ≡ some p → LiveAt row P (offsetIn c) p → refusedValues c ≡ 0 ∷ []
-          → Right c rs (applied row a (numbered ans (f p))) → Right c (headerDamaged ∷ overrun ∷ rs) (carried row a t (numbered ans (f p)))
-      unfolding carried choose damageIn
-      intact-right p k l v r = rw k (header (headerDue row a p) refl)
-        where
-          outcome : ℕ → Result
-          outcome k = choose (eqb k 0) (applied row a (numbered ans (f p))) (keeps (refusal k) a t)
+  module _ (s : Sound byMasks row (length a) t) where
+    grants-right : (n : ℕ) → Right (grants n) (TooLarge ∷ NoRoom ∷ []) (carried row a t (plan row P (grants n)))
+    unfolding plan carriedBy unless
+    grants-right n = small-right s (grants n) refl (NoRoom ∷ []) _ (room (reserve row P n) refl)
+      where
+        room : (r : Option Place) → reserve row P n ≡ r → Right (grants n) (NoRoom ∷ []) (carried row a t (grantAt row P r))
+        room none e = refused-right s (grants n) refl NoRoom [] (reserve-none row pos P n e)
+        room (some q) e = later-right (grants n) NoRoom [] _ (reserve-some row P n q e) (done-right (grants n) _ refl)
 
-          same : (q : Place) → LiveAt row P (offsetIn c) q → p ≡ q
-          same q m = starts-once row pos P (offsetIn c) p q (s .formed) (l .here) (m .here)
-
-          guard : (b : Bool) → guardDue row a p ≡ b → T (headerDue row a p) → Right c (overrun ∷ rs) (outcome (choose b 0 7))
-          guard true e h =
-              later-right c overrun rs _ (λ (q, m, _, d). T-not (guardDue row a q) d (subst (λ z. T (guardDue row a z)) (same q m) (true-T (guardDue row a p) e))) r
-          guard false e h = record { number = inl (refl, (p, l, h, rw e tt)); refused = λ n. (refl, refl, sym v) }
-
-          header : (b : Bool) → headerDue row a p ≡ b → Right c (headerDamaged ∷ overrun ∷ rs) (outcome (choose b (choose (guardDue row a p) 0 7) 6))
-          header true e =
-              let h : T (headerDue row a p) = true-T (headerDue row a p) e in
-              later-right c headerDamaged (overrun ∷ rs) _ (λ (q, m, d). T-not (headerDue row a q) d (subst (λ z. T (headerDue row a z)) (same q m) h))
-              (guard (guardDue row a p) refl h)
-          header false e = record { number = inl (refl, (p, l, rw e tt)); refused = λ n. (refl, refl, sym v) }
-
-      -- what the look-up and the slot's state decide before
-      block-right : ans absent ≡ refusal 4 → ans freed ≡ refusal 5 → refusedValues c ≡ 0 ∷ [] → ((p : Place) → f p .checks ≡ some p)
-          → ((p : Place) → LiveAt row P (offsetIn c) p → Right c rs (applied row a (numbered ans (f p))))
-          → Right c (blockFirst rs) (carried row a t (numbered ans (onBlock absent freed P f (lookup row P (offsetIn c)))))
-      unfolding carried choose
-      block-right e₄ e₅ v k r = found (lookup row P (offsetIn c)) refl
-        where
-          live : (p : Place) (b : Bool) → isLive (p .state) ≡ b → StartsAt row P (offsetIn c) p
-              → Right c (alreadyFree ∷ headerDamaged ∷ overrun ∷ rs) (carried row a t (numbered ans (choose b (f p) (refused freed P))))
-          live p true e h =
-              let l : T (isLive (p .state)) = true-T (isLive (p .state)) e in
-              let m : LiveAt row P (offsetIn c) p = record { here = h; live = l } in
-              later-right c alreadyFree (headerDamaged ∷ overrun ∷ rs) _
-              (λ (q, g, d). T-not (isLive (q .state)) d (subst (λ z. T (isLive (z .state))) (starts-once row pos P (offsetIn c) p q (s .formed) h g) l))
-              (intact-right p (k p) m v (r p m))
-          live p false e h = record {
-            number = inl (ap (λ z. z .number) e₅, (p, h, rw e tt));
-            refused = λ n. (refl, sym (s .form), ap (λ z. z .values) e₅ ∙ sym v);
-          }
-
-          found : (o : Option Place) → lookup row P (offsetIn c) ≡ o
-              → Right c (blockFirst rs) (carried row a t (numbered ans (onBlock absent freed P f o)))
-          found none e = record {
-            number = inl (ap (λ z. z .number) e₄, λ p h. none-starts row pos P (offsetIn c) p (s .formed) e h);
-            refused = λ n. (refl, sym (s .form), ap (λ z. z .values) e₄ ∙ sym v);
-          }
-          found (some p) e =
-              let h : StartsAt row P (offsetIn c) p = found-starts row pos P (offsetIn c) p e in
-              later-right c noSuchBlock (alreadyFree ∷ headerDamaged ∷ overrun ∷ rs) _ (λ d. d p h) (live p (isLive (p .state)) refl h)
-
-    releases-right : (o : ℕ) → Right (releases o) (blockFirst []) (carried row a t (plan row P (releases o)))
+    resizes-right : (o n : ℕ) → Right (resizes o n) (TooLarge ∷ blockFirst (NoRoom ∷ [])) (carried row a t (plan row P (resizes o n)))
     unfolding plan
-    releases-right o =
-        block-right releaseAnswer Release.NoSuchBlock Release.AlreadyFree (releaseAt row) (releases o) [] refl refl refl
-        (λ p. choose-case {A = Plan Release} (λ z. z .checks ≡ some p) (any isLive (p .lower ++ p .upper)) _ _ (λ e. refl) (λ e. refl))
-        (λ p l. done-right (releases o) _ (choose-case {A = Plan Release} (λ z. releaseAnswer (z .answer) .number ≡ 0) (any isLive (p .lower ++ p .upper)) _ _ (λ e. refl) (λ e. refl)))
-
-    measures-right : (o : ℕ) → Right (measures o) (blockFirst []) (carried row a t (plan row P (measures o)))
-    unfolding plan
-    measures-right o =
-        block-right measureAnswer Measure.NoSuchBlock Measure.AlreadyFree (measureAt row P) (measures o) [] refl refl refl (λ p. refl) (λ p l. done-right (measures o) _ refl)
-
-    resizes-right : (o n : ℕ) → Right (resizes o n) (tooLarge ∷ blockFirst (noRoom ∷ [])) (carried row a t (plan row P (resizes o n)))
-    unfolding plan carried choose
-    resizes-right o n = small (leb classes.tooLarge n) refl
+    resizes-right o n =
+        small-right s c refl (blockFirst (NoRoom ∷ [])) _
+        (block-right s c refl (NoRoom ∷ []) (resizeAt row P n)
+        (λ p. choose-case (M p) (inPlace p n) (resizeInPlace row p n) (resizeMove row P p n)
+        (λ e. (refl, λ l. later-right c NoRoom [] _ (λ d. T-not (inPlace p n) (d .0 p l) (true-T (inPlace p n) e)) (done-right c _ refl)))
+        (λ e. room p e (reserve row P n) refl)))
       where
         c : Call
         c = resizes o n
 
-        -- the plan of a live block, whether it is changed in place, and whether there is room for another
-        at : Place → Bool → Option Place → Plan Resize
-        at p b r = choose b (resizeInPlace row p n) (moveTo row P p n r)
+        M : Place → Plan → Type 0
+        M p z = (z .checks ≡ some p) × (LiveAt row P o p → Right c (NoRoom ∷ []) (applied (masked row) a z))
 
-        checks : (p : Place) (b : Bool) (r : Option Place) → at p b r .checks ≡ some p
-        checks p true r = refl
-        checks p false none = refl
-        checks p false (some q) = refl
-
-        room : (p : Place) (b : Bool) (r : Option Place) → inPlace p n ≡ b → reserve row P n ≡ r → LiveAt row P o p
-            → Right c (noRoom ∷ []) (applied row a (numbered resizeAnswer (at p b r)))
-        room p true r e f l = later-right c noRoom [] _ (λ d. T-not (inPlace p n) (d .0 p l) (true-T (inPlace p n) e)) (done-right c _ refl)
-        room p false none e f l = record {
-          number =
-              inl (
-                refl,
-                (
-                  λ q m. subst (λ z. T (not (inPlace z n))) (starts-once row pos P o p q (s .formed) (l .here) (m .here)) (rw e tt),
-                  no-place n (reserve-none row pos P n f),
-                ),
-              );
-          refused = λ k. (refl, sym (s .form), refl);
-        }
-        room p false (some q) e f l =
-            later-right c noRoom [] _ (λ d. reserve-some row P n q f (record { full = d .1 .all-live; run = d .1 .no-run })) (done-right c _ refl)
-
-        small : (b : Bool) → leb classes.tooLarge n ≡ b
-            → Right c (tooLarge ∷ blockFirst (noRoom ∷ []))
-            (carried row a t (numbered resizeAnswer (choose b (refused Resize.TooLarge P) (onBlock Resize.NoSuchBlock Resize.AlreadyFree P (resizeAt row P n) (lookup row P o)))))
-        small true e = record { number = inl (refl, leb-true classes.tooLarge n e); refused = λ k. (refl, sym (s .form), refl) }
-        small false e =
-            later-right c tooLarge (blockFirst (noRoom ∷ [])) _
-            (λ d. let l : n < classes.tooLarge = leb-false classes.tooLarge n e in omega arith)
-            (block-right resizeAnswer Resize.NoSuchBlock Resize.AlreadyFree (resizeAt row P n) c (noRoom ∷ []) refl refl refl
-            (λ p. checks p (inPlace p n) (reserve row P n)) (λ p l. room p (inPlace p n) (reserve row P n) refl refl l))
+        room : (p : Place) → inPlace p n ≡ false → (r : Option Place) → reserve row P n ≡ r → M p (moveTo row P p n r)
+        room p e none f = (
+          refl,
+          λ l. due-right c NoRoom [] refl (sym (s .form)) (
+            λ q m. starts-alike row pos P o (λ z. not (inPlace z n)) p q (s .formed) (l .here) (m .here) (rw e tt),
+            reserve-none row pos P n f,
+          ),
+        )
+        room p e (some q) f = (refl, λ l. later-right c NoRoom [] _ (λ d. reserve-some row P n q f (d .1)) (done-right c _ refl))
 
   call-right : (c : Call) → Right c (order c) (call row a t c)
-  unfolding call
+  unfolding callBy plan carriedBy unless
   call-right setsUp = set-up-right
-  call-right (grants n) = checked-right (grants n) (tooLarge ∷ noRoom ∷ []) refl (λ s. grants-right (sound-facts row (length a) t s) n)
+  call-right (grants n) = checked-right (grants n) _ refl (λ s. grants-right s n)
   call-right (releases o) =
-      checked-right (releases o) (blockFirst []) refl (λ s. releases-right (sound-facts row (length a) t s) o)
-  call-right (resizes o n) =
-      checked-right (resizes o n) (tooLarge ∷ blockFirst (noRoom ∷ [])) refl
-      (λ s. resizes-right (sound-facts row (length a) t s) o n)
+      checked-right (releases o) _ refl
+      (λ s. block-right s (releases o) refl [] (releaseAt row)
+      (λ p. (release-parts row p .0, λ l. done-right (releases o) _ (ap (λ r. r .number) (release-parts row p .1)))))
+  call-right (resizes o n) = checked-right (resizes o n) _ refl (λ s. resizes-right s o n)
   call-right (measures o) =
-      checked-right (measures o) (blockFirst []) refl (λ s. measures-right (sound-facts row (length a) t s) o)
-  call-right reports = checked-right reports [] refl (λ s. reports-right (sound-facts row (length a) t s))
+      checked-right (measures o) _ refl
+      (λ s. block-right s (measures o) refl [] (measureAt row P) (λ p. (refl, λ l. done-right (measures o) _ refl)))
+  call-right reports = checked-right reports [] refl (λ s. done-right reports _ refl)
 
 pub demand1 : (row : ℕ) → 0 < row → Demand1 row
-demand1 row pos a t c = let r : Right row pos a t c (order c) (call row a t c) = call-right row pos a t c in record { number = r .number; refused = r .refused }
+demand1 row pos a t c =
+    let r : Right row pos a t c (order c) (call row a t c) = call-right row pos a t c in record { number = r .number; refused = r .refused }

@@ -1,62 +1,47 @@
 -- Packet contents steer nothing: demand 3, for rows of every size.
-use Prim.Native.Nat.{ℕ, _*_, _/_, _<_}
-use mathlib.Core.Path.{_≡_, refl, sym, subst, ap, ap₂, _∙_}
-use mathlib.Core.Bool.{Bool, true, false, not}
-use mathlib.Core.List.{List, [], _∷_, map}
-use native.Mathlib.Nat.{mul-div-cancel-left}
-use lib.Dec.{T, eqb}
-use lib.ListN.{length, length-set}
+use Rattle.mem.proofs.Prelude.{_∙_, _≡_, sym, ap, refl, ap₂, subst, not, List, [], _∷_, map, ℕ, _<_, _*_, _/_, mul-div-cancel-left, T, T-not, length}
+use Rattle.mem.proofs.Prelude.{length-set}
 use lib.Seq.{getD-set-other}
 use Rattle.mem.specs.Bytes.{zeros, put}
-use Rattle.mem.proofs.Tests.{and-both, T-true, choose-true, eq→eqb}
+use Rattle.mem.proofs.Tests.{T-true}
 use Rattle.mem.proofs.Laws.{zeros-length}
 use Rattle.model.specs.State.{Pool, wellFormed, rows}
-use Rattle.model.specs.Answers.{Answer}
-use Rattle.model.specs.Plans.{Plan, Call, setsUp, grants, releases, resizes, measures, reports, plan, totals, freshPool}
-use Rattle.model.specs.Tables.{encode, view, sound, arenaRight, roomBytes}
-use Rattle.model.specs.Calls.{Result, written, damaged, carried, checked, setUp, setUpRight, call}
-use Rattle.model.proofs.Tables.{view-encode, encode-sound, encode-length}
+use Rattle.model.specs.Plans.{Plan, Call, setsUp, plan, totals, freshPool}
+use Rattle.model.specs.Tables.{byMasks, encode, view, sound, arenaRight}
+use Rattle.model.specs.Calls.{Result, Stands, masked, applied, written, carried, setUp, setUpRight, call}
+use Rattle.model.proofs.Tables.{masks-laws, view-encode, encode-sound}
 use Rattle.model.proofs.Fresh.{fresh-formed, whole-rows, set-up-lawful, set-up-done}
 use Rattle.model.proofs.Formed.{Formed, plan-formed}
+use Rattle.model.proofs.Calls.{call-sound, carried-whole}
+use Rattle.model.proofs.Forms.{layout-lawful, call-step}
 use Rattle.claims.specs.Demand3.{Turn, model, requested, ran, EngineOnly, AllCleared, AsModelled, SteersNothing, StoresAdmitted}
+use Rattle.claims.proofs.Cases.{by-call}
 use Rattle.claims.proofs.Cells.{cells, Agrees}
 use Rattle.claims.proofs.Steps.{fresh-agrees, arena-length, set-up-zero, plan-kept}
 use Rattle.claims.proofs.Requested.{engine-keeps, outside}
-use Rattle.claims.proofs.Cleared.{plan-cleared}
 
 -- ---- one call
 
 module _ (row : ℕ) (pos : 0 < row) where
-  -- a plan carried out, where the block that it names is undamaged
-  carried-out : List ℕ → Plan Answer → Result
-  carried-out a p = record { answer = p .answer; arena = written a (p .changes); room = encode row (p .pool) }
-
   module _ (P : Pool) (w : T (wellFormed P)) (a : List ℕ) (h : T (arenaRight row (length a))) (g : Agrees (cells row P) a) where
-    checked-follows : (c : Call) → checked row a (encode row P) c ≡ carried-out a (plan row P c)
-    unfolding checked carried carried-out
-    checked-follows c =
-        choose-true (sound row (length a) (encode row P)) _ _ (T-true _ (encode-sound row pos P (length a) w h (arena-length row pos P w a g)))
-        ∙ ap (λ Q. carried row a (encode row P) (plan row Q c)) (view-encode row pos P w)
-        ∙ choose-true (eqb (damaged row a (plan row P c .checks)) 0) _ _ (T-true _ (eq→eqb _ 0 (plan-kept row pos P w a g c .whole)))
+    l : length a ≡ row * rows row P
+    l = arena-length row pos P w a g
 
-    set-up-follows : setUp row a (encode row P) ≡ carried-out a (plan row P setsUp)
-    unfolding setUpRight plan carried-out
+    set-up-follows : call row a (encode row P) setsUp ≡ applied (masked row) a (plan row P setsUp)
+    unfolding plan
     set-up-follows =
-        let l : length a ≡ row * rows row P = arena-length row pos P w a g in
+        let s : Stands row (length a) P = record { lawful = h; long = l; formed = w } in
         let q : length a / row ≡ rows row P = ap (λ n. n / row) l ∙ mul-div-cancel-left (rows row P) pos in
-        let t : T (eqb (length (encode row P)) (roomBytes (length a / row))) = eq→eqb _ _ (encode-length row pos P w ∙ ap roomBytes (sym q)) in
         let e : zeros (length a) ≡ put 0 (zeros (row * rows row P)) a = ap zeros l ∙ sym (set-up-zero row pos P w a g) in
-        set-up-done row a (encode row P) (and-both (arenaRight row (length a)) (eqb (length (encode row P)) (roomBytes (length a / row))) h t) ∙ cc
+        call-step row (masked row) (layout-lawful byMasks masks-laws row pos) a P s setsUp ∙ cc
 
     -- a call on an arena that agrees with the tables does what the model does
-    call-follows : (c : Call) → call row a (encode row P) c ≡ carried-out a (plan row P c)
-    unfolding call
-    call-follows setsUp = set-up-follows
-    call-follows (grants n) = checked-follows (grants n)
-    call-follows (releases o) = checked-follows (releases o)
-    call-follows (resizes o n) = checked-follows (resizes o n)
-    call-follows (measures o) = checked-follows (measures o)
-    call-follows reports = checked-follows reports
+    call-follows : (c : Call) → call row a (encode row P) c ≡ applied (masked row) a (plan row P c)
+    call-follows =
+        by-call (λ c. call row a (encode row P) c ≡ applied (masked row) a (plan row P c)) set-up-follows
+        (λ c k. call-sound row a (encode row P) (T-true (sound row (length a) (encode row P)) (encode-sound masks-laws row pos P (length a) w h l)) c k
+        ∙ ap (λ Q. carried row a (encode row P) (plan row Q c)) (view-encode masks-laws row pos P w)
+        ∙ carried-whole row a (encode row P) (plan row P c) (plan-kept row pos P w a g c .whole))
 
   -- ---- one run
 
@@ -69,21 +54,18 @@ module _ (row : ℕ) (pos : 0 < row) where
     formed : T (wellFormed (model row P (calls us) .pool))
     agrees : Agrees (cells row (model row P (calls us) .pool)) (ran row a t us .arena)
 
-  totals-of : (P : Pool) (t : List ℕ) → T (wellFormed P) → t ≡ encode row P → totals row (view row t) ≡ totals row P
-  totals-of P t w e = ap (λ s. totals row (view row s)) e ∙ ap (totals row) (view-encode row pos P w)
-
-  follows : (P : Pool) (a : List ℕ) (us : List Turn) → T (wellFormed P) → T (arenaRight row (length a)) → Agrees (cells row P) a → EngineOnly row P a (encode row P) us
-      → Follows P a (encode row P) us
-  unfolding EngineOnly AllCleared ran model carried-out
+  follows : (P : Pool) (a : List ℕ) (us : List Turn) → T (wellFormed P) → T (arenaRight row (length a)) → Agrees (cells row P) a
+      → EngineOnly row P a (encode row P) us → Follows P a (encode row P) us
+  unfolding EngineOnly AllCleared ran model
   follows P a [] w h g t = record {
-    modelled = record { answers = refl; tables = refl; counted = totals-of P (encode row P) w refl; cleared = tt };
+    modelled = record { answers = refl; tables = refl; counted = ap (totals row) (view-encode masks-laws row pos P w); cleared = tt };
     formed = w;
     agrees = g;
   }
   follows P a (u ∷ us) w h g t =
       let b : List ℕ = u .arena in
       let c : Call = u .asks in
-      let p : Plan Answer = plan row P c in
+      let p : Plan = plan row P c in
       let x : List ℕ = written b (p .changes) in
       let m : Formed row P (p .pool) = plan-formed row pos P c w in
       let g₁ : Agrees (cells row P) b = engine-keeps row pos P w a b (t .0) g in
@@ -91,22 +73,25 @@ module _ (row : ℕ) (pos : 0 < row) where
       let g₂ : Agrees (cells row (p .pool)) x = plan-kept row pos P w b g₁ c .agrees in
       let l : length b ≡ length x =
       arena-length row pos P w b g₁ ∙ ap (λ n. row * n) (sym (m .long)) ∙ sym (arena-length row pos (p .pool) (m .formed) x g₂) in
-      let e : call row b (encode row P) c ≡ carried-out b p = call-follows P w b h₁ g₁ c in
+      let e : call row b (encode row P) c ≡ applied (masked row) b p = call-follows P w b h₁ g₁ c in
       let r : Follows (p .pool) x (encode row (p .pool)) us =
-      follows (p .pool) x us (m .formed) (subst (λ n. T (arenaRight row n)) l h₁) g₂ (subst (λ r. EngineOnly row (p .pool) (r .arena) (r .room) us) e (t .1)) in
+      follows (p .pool) x us (m .formed) (subst (λ n. T (arenaRight row n)) l h₁) g₂
+      (subst (λ r. EngineOnly row (p .pool) (r .arena) (r .room) us) e (t .1)) in
       record {
         modelled = record {
           answers = rw e (ap (λ l. p .answer ∷ l) (r .modelled .answers));
           tables = ap (λ (z : Result). ran row (z .arena) (z .room) us .room) e ∙ r .modelled .tables;
           counted = ap (λ (z : Result). totals row (view row (ran row (z .arena) (z .room) us .room))) e ∙ r .modelled .counted;
-          cleared = rw e (plan-cleared row pos P w b c, r .modelled .cleared);
+          cleared = rw e (plan-kept row pos P w b g₁ c .cleared, r .modelled .cleared);
         };
         formed = r .formed;
-        agrees = subst (λ (z : Result). Agrees (cells row (model row (p .pool) (calls us) .pool)) (ran row (z .arena) (z .room) us .arena)) (sym e) (r .agrees);
+        agrees =
+            subst (λ (z : Result). Agrees (cells row (model row (p .pool) (calls us) .pool)) (ran row (z .arena) (z .room) us .arena)) (sym e) (r .agrees);
       }
 
   -- from a fresh pool
-  run-follows : (a t : List ℕ) (us : List Turn) → T (setUpRight row a t) → EngineOnly row (freshPool (length a / row)) (setUp row a t .arena) (setUp row a t .room) us
+  run-follows : (a t : List ℕ) (us : List Turn) → T (setUpRight row a t)
+      → EngineOnly row (freshPool (length a / row)) (setUp row a t .arena) (setUp row a t .room) us
       → Follows (freshPool (length a / row)) (setUp row a t .arena) (setUp row a t .room) us
   run-follows a t us h s =
       let P : Pool = freshPool (length a / row) in
@@ -125,7 +110,8 @@ module _ (row : ℕ) (pos : 0 < row) where
       let e : model row (freshPool (length a₂ / row)) (calls us₂) .pool ≡ P = sym (ap₂ (λ n cs. model row (freshPool (n / row)) cs .pool) l same) in (
         r₁ .modelled,
         r₂ .modelled,
-        outside row pos P (r₁ .formed) _ _ (r₁ .agrees) (subst (λ Q. Agrees (cells row Q) (ran row (setUp row a₂ t₂ .arena) (setUp row a₂ t₂ .room) us₂ .arena)) e (r₂ .agrees)),
+        outside row pos P (r₁ .formed) _ _ (r₁ .agrees)
+            (subst (λ Q. Agrees (cells row Q) (ran row (setUp row a₂ t₂ .arena) (setUp row a₂ t₂ .room) us₂ .arena)) e (r₂ .agrees)),
       )
 
 -- ---- the premise
@@ -133,9 +119,5 @@ module _ (row : ℕ) (pos : 0 < row) where
 pub stores-admitted : (row : ℕ) → StoresAdmitted row
 stores-admitted row P a i v t = record {
   long = length-set a i v;
-  bytes = λ j n. getD-set-other a i j v 0 (λ e. not-both (requested row P i) t (subst (λ k. T (not (requested row P k))) e n));
+  bytes = λ j n. getD-set-other a i j v 0 (λ e. T-not (requested row P i) (subst (λ k. T (not (requested row P k))) e n) t);
 }
-  where
-    not-both : (b : Bool) → T b → T (not b) → ⊥
-    not-both true s t = t
-    not-both false s t = s

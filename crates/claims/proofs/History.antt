@@ -1,74 +1,52 @@
 -- The history of report: what the tables count to is what the calls since the last set up come to.
-use Prim.Native.Nat.{ℕ, zero, suc, _+_, _*_, _/_, _≤_, _<_}
-use mathlib.Core.Path.{_≡_, refl, sym, subst, ap, ap₂, _∙_}
-use mathlib.Core.Bool.{Bool, true, false, _&&_, not, true≢false}
-use mathlib.Core.Logic.{⊎-elim}
-use mathlib.Core.Option.{Option, none, some}
-use mathlib.Core.List.{List, [], _∷_, _++_, map, append-assoc}
-use native.Mathlib.Nat.{zero-add, add-zero, add-assoc, mul-div-cancel-left}
-use native.Mathlib.Omega.{arith}
-use borrow.Author.Tests.{leb-false, eqb-true, eqb-false}
-use lib.Dec.{T, leb, eqb, eqb→eq, eqb-refl}
-use lib.ListN.{length, getD, replicate, length-append}
+use Rattle.mem.proofs.Prelude.{_∙_, _≡_, sym, ap, refl, ap₂, subst, true, Bool, false, _&&_, not, true≢false, some, List, [], _∷_, _++_, append-assoc}
+use Rattle.mem.proofs.Prelude.{map, _+_, ℕ, _<_, _≤_, _*_, suc, _/_, zero, add-zero, zero-add, add-assoc, mul-div-cancel-left, arith, eqb-false}
+use Rattle.mem.proofs.Prelude.{eqb-true, T, eqb, eqb→eq, eqb-refl, length, getD, length-append, replicate}
 use Rattle.mem.specs.Lists.{choose, any, sum}
 use Rattle.mem.specs.Bytes.{bit}
-use Rattle.mem.proofs.Tests.{and-right, T-true, choose-case, eq→eqb}
-use Rattle.classes.specs.Classes.{slotBytes, classOf, slotsOf, rowsOf, tooLarge}
+use Rattle.mem.proofs.Tests.{T-true, true-T, choose-true, choose-case, and-right, eq→eqb}
+use Rattle.classes.specs.Classes.{slotBytes, slotsOf, rowsOf, tooLarge}
 use Rattle.model.specs.declared.Slot.{Slot}
 use Rattle.model.specs.declared.Slot.the-variants.{Fresh, Idle, Live}
-use Rattle.model.specs.declared.Release.{Release}
-use Rattle.model.specs.declared.Resize.{Resize}
-use Rattle.model.specs.State.{Span, Pool, Place, free, group, isLive, isReady, granted, count, disp, size, wellFormed, poolOf, become, slotNumber, rowsIn, rows, beginning, start}
-use Rattle.model.specs.Answers.{Answer, grantAnswer, releaseAnswer, resizeAnswer, measureAnswer}
-use Rattle.model.specs.Plans.{Plan, Site, turnReady, refill, grantSlot, grantIn, site, reserve, grantAt, grant, vacant, onBlock, releaseAt, release}
-use Rattle.model.specs.Plans.{inPlace, resizeInPlace, moveTo, resizeMove, resizeAt, resize, measureAt, measure, slotSum, freeRow, heldRows, totals, report, freshPool}
-use Rattle.model.specs.Plans.{Call, setsUp, grants, releases, resizes, measures, reports, plan}
-use Rattle.model.specs.Tables.{encode, view, sound, roomBytes}
-use Rattle.model.specs.Calls.{Result, call, setUp, setUpRight}
-use Rattle.model.proofs.Tables.{Sound, sound-facts, view-encode, encode-length}
+use Rattle.model.specs.declared.Refusal.{Refusal}
+use Rattle.model.specs.State.{Span, Pool, Place, free, group, isLive, isReady, disp, size, wellFormed, poolOf, become, slotNumber, rowsIn, rows, beginning}
+use Rattle.model.specs.State.{start, granted, count}
+use Rattle.model.specs.Plans.{Plan, turnReady, refill, reserve, vacant, releaseAt, freshPool, refused, onBlock, release, resizeInPlace, moveTo, measureAt}
+use Rattle.model.specs.Plans.{measure, slotSum, freeRow, heldRows, totals, report, Call, setsUp, grants, releases, resizes, measures, reports, plan}
+use Rattle.model.specs.Tables.{byMasks, encode, view, sound, roomBytes}
+use Rattle.model.specs.Calls.{Result, call, setUp, setUpRight, callBy, setUpRightBy}
 use Rattle.model.proofs.Rooms.{rows-append}
 use Rattle.model.proofs.Fresh.{fresh-rows, fresh-formed, whole-rows, set-up-lawful, set-up-done, set-up-sound}
-use Rattle.model.proofs.Lookup.{placed, place-unique, lookup-found}
-use Rattle.model.proofs.Reserve.{Open, New, site-found, Served, served, grant-live, reserve-formed, Stays, reserve-keeps, groupOf}
-use Rattle.model.proofs.Formed.{any-middle, on-block, Formed, plan-formed}
+use Rattle.model.proofs.Lookup.{placed, place-unique, lookup-start, lookup-found}
+use Rattle.model.proofs.Reserve.{Served, served, reserve-size, groupOf, reserve-formed, reserve-keeps}
+use Rattle.model.proofs.Formed.{any-middle, plan-formed}
+use Rattle.model.proofs.Tables.{masks-laws, Sound, sound-facts, view-encode, encode-length}
 use Rattle.model.proofs.Calls.{Asks, on-live}
 use Rattle.claims.specs.History.{Entry, Ledger, opening, without, entered, Asked, booked, kept, Counts, History}
-use Rattle.claims.proofs.Demand1.{starts-found, demand1}
-use Rattle.claims.proofs.Demand2.{Accepted, accepted, set-up-accepted, accepted-leaves}
+use Rattle.claims.proofs.Cases.{reserve-live, taken-same, refuses, by-call, Named, on-named, on-grant, on-resize}
+use Rattle.claims.proofs.Demand1.{demand1}
+use Rattle.claims.proofs.Demand2.{Accepted, accepted, set-up-accepted, sound-leaves}
 
--- ---- what a pool weighs: each live block as much as f says of its start and size. That the blocks of a ledger and of a pool are the
--- same, in whatever order, is said so: whatever f says, they weigh the same.
+-- ---- What a pool weighs: each live block as much as f says of its start and size. That the blocks of a ledger and of a pool are the same,
+-- in whatever order, is said so: whatever f says, they weigh the same.
 
 -- a slot that begins at b
-abbrev weight : (Entry → ℕ) → ℕ → Slot → ℕ
-weight f b Fresh = 0
-weight f b (Idle r k d) = 0
-weight f b (Live k d n) = f (record { start = b + 16 * d; size = n })
+unfoldable weight : (Entry → ℕ) → ℕ → Slot → ℕ
+weight f b x = choose (isLive x) (f (record { start = b + 16 * disp x; size = size x })) 0
 
 -- a live block
 abbrev entry : ℕ → Place → Entry
 entry row p = record { start = start row p; size = size (p .state) }
 
-weight-live : (row : ℕ) (f : Entry → ℕ) (p : Place) → T (isLive (p .state)) → weight f (beginning row p) (p .state) ≡ f (entry row p)
-weight-live row f p l = go (p .state) l
-  where
-    go : (x : Slot) → T (isLive x) → weight f (beginning row p) x ≡ f (entry row (become p x))
-    go Fresh l = absurd l
-    go (Idle r k d) l = absurd l
-    go (Live k d n) l = refl
-
 ready-weight : (f : Entry → ℕ) (b : ℕ) (x : Slot) → T (isReady x) → weight f b x ≡ 0
+unfolding weight choose
 ready-weight f b Fresh t = refl
 ready-weight f b (Idle r k d) t = refl
-ready-weight f b (Live k d n) t = absurd t
+ready-weight f b (Live a) t = absurd t
 
-weight-zero : (row : ℕ) (f : Entry → ℕ) (p : Place) → (T (isLive (p .state)) → f (entry row p) ≡ 0) → weight f (beginning row p) (p .state) ≡ 0
-weight-zero row f p h = go (p .state) h
-  where
-    go : (x : Slot) → (T (isLive x) → f (entry row (become p x)) ≡ 0) → weight f (beginning row p) x ≡ 0
-    go Fresh h = refl
-    go (Idle r k d) h = refl
-    go (Live k d n) h = h tt
+fresh-idle : (n : ℕ) → any isLive (replicate n Fresh) ≡ false
+fresh-idle zero = refl
+fresh-idle (suc n) = fresh-idle n
 
 module _ (row : ℕ) (f : Entry → ℕ) where
   -- slots of a group of class c whose first row is r, from number i on
@@ -100,131 +78,109 @@ module _ (row : ℕ) (f : Entry → ℕ) where
   fresh-weigh r zero = refl
   fresh-weigh r (suc n) = omega (arith, fresh-weigh (r + 1) n)
 
-  -- what follows X, and a gap of k free rows
+  -- what follows X
   behind : (X Y : Pool) → weigh 0 (X ++ Y) ≡ weigh 0 X + weigh (rows row X) Y
   behind X Y = omega (arith, weigh-append 0 X Y, ap (λ k. weigh k Y) (zero-add (rows row X)))
 
-  gap-weigh : (X Y : Pool) (k : ℕ) → weigh 0 (X ++ (freshPool k ++ Y)) ≡ weigh 0 X + weigh (rows row X + k) Y
-  gap-weigh X Y k =
-      omega (
-        arith,
-        behind X (freshPool k ++ Y),
-        weigh-append (rows row X) (freshPool k) Y,
-        fresh-weigh (rows row X) k,
-        ap (λ j. weigh (rows row X + j) Y) (fresh-rows row k),
-      )
-
-  -- slots that are not live
   none-live : (r c i : ℕ) (ss : List Slot) → any isLive ss ≡ false → weighSlots r c i ss ≡ 0
+  unfolding weight choose
   none-live r c i [] e = refl
   none-live r c i (Fresh ∷ ss) e = omega (arith, none-live r c (suc i) ss e)
   none-live r c i (Idle b k d ∷ ss) e = omega (arith, none-live r c (suc i) ss e)
-  none-live r c i (Live k d n ∷ ss) e = absurd (true≢false e)
+  none-live r c i (Live a ∷ ss) e = absurd (true≢false e)
 
-  fresh-slots-weigh : (r c i n : ℕ) → weighSlots r c i (replicate n Fresh) ≡ 0
-  fresh-slots-weigh r c i zero = refl
-  fresh-slots-weigh r c i (suc n) = omega (arith, fresh-slots-weigh r c (suc i) n)
+  -- a group with no live slot weighs what free rows do
+  idle-weigh : (X : Pool) (c : ℕ) (ss : List Slot) (Y : Pool) → any isLive ss ≡ false
+      → weigh 0 (X ++ (group c ss ∷ Y)) ≡ weigh 0 (X ++ (freshPool (rowsOf row c) ++ Y))
+  idle-weigh X c ss Y e =
+      let F : Pool = freshPool (rowsOf row c) in
+      omega (
+        arith,
+        behind X (group c ss ∷ Y),
+        none-live (rows row X) c 0 ss e,
+        behind X (F ++ Y),
+        weigh-append (rows row X) F Y,
+        fresh-weigh (rows row X) (rowsOf row c),
+        ap (λ j. weigh (rows row X + j) Y) (fresh-rows row (rowsOf row c)),
+      )
 
   turned-weigh : (r c i : ℕ) (ss : List Slot) → weighSlots r c i (map turnReady ss) ≡ weighSlots r c i ss
+  unfolding weight choose
   turned-weigh r c i [] = refl
   turned-weigh r c i (Fresh ∷ ss) = omega (arith, turned-weigh r c (suc i) ss)
   turned-weigh r c i (Idle b k d ∷ ss) = omega (arith, turned-weigh r c (suc i) ss)
-  turned-weigh r c i (Live k d n ∷ ss) = omega (arith, turned-weigh r c (suc i) ss)
+  turned-weigh r c i (Live a ∷ ss) = omega (arith, turned-weigh r c (suc i) ss)
 
   refill-weigh : (r c : ℕ) (ss : List Slot) → weighSlots r c 0 (refill ss) ≡ weighSlots r c 0 ss
   unfolding refill
-  refill-weigh r c ss = choose-case (λ l. weighSlots r c 0 l ≡ weighSlots r c 0 ss) (any isReady ss) _ _ (λ e. refl) (λ e. turned-weigh r c 0 ss)
+  refill-weigh r c ss =
+      choose-case (λ l. weighSlots r c 0 l ≡ weighSlots r c 0 ss) (any isReady ss) _ _ (λ e. refl) (λ e. turned-weigh r c 0 ss)
 
   -- ---- a pool with one slot in another state
 
   -- all but the slot of a place
-  rest : Place → ℕ
+  unfoldable rest : Place → ℕ
   rest p =
       let r : ℕ = rows row (p .before) in
-      weigh 0 (p .before) + (weighSlots r (p .cls) 0 (p .lower) + weighSlots r (p .cls) (suc (slotNumber p)) (p .upper)) + weigh (r + rowsOf row (p .cls)) (p .after)
+      weigh 0 (p .before) + (weighSlots r (p .cls) 0 (p .lower) + weighSlots r (p .cls) (suc (slotNumber p)) (p .upper))
+      + weigh (r + rowsOf row (p .cls)) (p .after)
 
   place-weigh : (p : Place) → weigh 0 (poolOf p) ≡ rest p + weight f (beginning row p) (p .state)
   unfolding rest
   place-weigh p =
       let r : ℕ = rows row (p .before) in
-      let g : weighSlots r (p .cls) 0 (p .lower ++ (p .state ∷ p .upper)) ≡ weighSlots r (p .cls) 0 (p .lower) + weighSlots r (p .cls) (slotNumber p) (p .state ∷ p .upper) =
-      slots-append r (p .cls) 0 (p .lower) (p .state ∷ p .upper) ∙ ap (λ j. weighSlots r (p .cls) 0 (p .lower) + weighSlots r (p .cls) j (p .state ∷ p .upper)) (zero-add (slotNumber p)) in
-      omega (arith, behind (p .before) (groupOf p ∷ p .after))
-
-  live-weigh : (p : Place) → T (isLive (p .state)) → weigh 0 (poolOf p) ≡ rest p + f (entry row p)
-  live-weigh p l = place-weigh p ∙ ap (λ k. rest p + k) (weight-live row f p l)
-
-  released-weigh : (p : Place) → weigh 0 (releaseAt row p .pool) ≡ rest p
-  unfolding releaseAt rest
-  released-weigh p =
-      choose-case (λ (r : Plan Release). weigh 0 (r .pool) ≡ rest p) (any isLive (p .lower ++ p .upper)) _ _ (λ e. omega (arith, place-weigh (become p (vacant p))))
-      (λ e.
-      let g : weighSlots (rows row (p .before)) (p .cls) 0 (p .lower ++ (vacant p ∷ p .upper)) ≡ 0 =
-      none-live (rows row (p .before)) (p .cls) 0 (p .lower ++ (vacant p ∷ p .upper)) (any-middle isLive (p .lower) (vacant p) (p .upper) ∙ e) in
       omega (
         arith,
+        slots-append r (p .cls) 0 (p .lower) (p .state ∷ p .upper),
+        ap (λ j. weighSlots r (p .cls) j (p .state ∷ p .upper)) (zero-add (slotNumber p)),
+        behind (p .before) (groupOf p ∷ p .after),
+      )
+
+  live-weigh : (p : Place) → T (isLive (p .state)) → weigh 0 (poolOf p) ≡ rest p + f (entry row p)
+  unfolding weight
+  live-weigh p l = place-weigh p ∙ ap (λ k. rest p + k) (choose-true (isLive (p .state)) _ 0 (T-true (isLive (p .state)) l))
+
+  released-weigh : (p : Place) → weigh 0 (releaseAt row p .pool) ≡ rest p
+  unfolding releaseAt rest weight choose
+  released-weigh p =
+      choose-case (λ (r : Plan). weigh 0 (r .pool) ≡ rest p) (any isLive (p .lower ++ p .upper)) _ _ (λ e. omega (arith, place-weigh (become p (vacant p))))
+      (λ e. omega (
+        arith,
+        idle-weigh (p .before) (p .cls) (p .lower ++ (vacant p ∷ p .upper)) (p .after) (any-middle isLive (p .lower) (vacant p) (p .upper) ∙ e),
         place-weigh (become p (vacant p)),
-        behind (p .before) (groupOf (become p (vacant p)) ∷ p .after),
-        gap-weigh (p .before) (p .after) (rowsOf row (p .cls)),
       ))
 
   -- the slot that a grant takes
-  site-weigh : (P : Pool) (c : ℕ) (s : Site) → site row P c ≡ some s → weigh 0 (s .before ++ (group c (refill (s .slots)) ∷ s .after)) ≡ weigh 0 P
-  site-weigh P c s e = omega (arith, behind (s .before) (group c (refill (s .slots)) ∷ s .after), refill-weigh (rows row (s .before)) c (s .slots), ⊎-elim opened made (site-found row P c s e))
-    where
-      r : ℕ
-      r = rows row (s .before)
-
-      Whole : Type 0
-      Whole = weigh 0 P ≡ weigh 0 (s .before) + (weighSlots r c 0 (s .slots) + weigh (r + rowsOf row c) (s .after))
-
-      opened : Open P c s → Whole
-      opened o = ap (weigh 0) (o .split) ∙ behind (s .before) (group c (s .slots) ∷ s .after)
-
-      made : New row P c s → Whole
-      made m =
-          omega (
-            arith,
-            ap (weigh 0) (m .split),
-            gap-weigh (s .before) (s .after) (rowsOf row c),
-            ap (weighSlots r c 0) (m .slots),
-            fresh-slots-weigh r c 0 (slotsOf c),
-          )
-
-  reserve-weigh : (P : Pool) (n : ℕ) (q : Place) → T (wellFormed P) → reserve row P n ≡ some q → weigh 0 (poolOf q) ≡ f (record { start = start row q; size = n }) + weigh 0 P
-  unfolding rest grantIn grantSlot
+  reserve-weigh : (P : Pool) (n : ℕ) (q : Place) → T (wellFormed P) → reserve row P n ≡ some q
+      → weigh 0 (poolOf q) ≡ f (record { start = start row q; size = n }) + weigh 0 P
+  unfolding rest
   reserve-weigh P n q w e =
       let v : Served row P n q = served row P n q w e in
-      let s : Site = v .at in
-      let c : ℕ = classOf n in
       let x : Slot = v .taken .old in
-      let b : q .before ≡ s .before = ap (λ p. p .before) (v .place) in
-      let a : q .after ≡ s .after = ap (λ p. p .after) (v .place) in
-      let j : q .cls ≡ c = ap (λ p. p .cls) (v .place) in
-      let k : q .lower ++ (x ∷ q .upper) ≡ refill (s .slots) = sym (v .taken .slots) in
-      let p : poolOf (become q x) ≡ s .before ++ (group c (refill (s .slots)) ∷ s .after) = cc in
-      let l : T (isLive (q .state)) = subst (λ y. T (isLive y)) (sym (v .taken .state)) (grant-live c n x) in
       omega (
         arith,
-        live-weigh q l,
-        ap (λ m. f (record { start = start row q; size = m })) (ap size (v .taken .state)),
+        live-weigh q (reserve-live row P n q v),
+        ap (λ m. f (record { start = start row q; size = m })) (reserve-size row P n q w e),
         place-weigh (become q x),
         ready-weight f (beginning row q) x (v .taken .ready),
-        ap (weigh 0) p,
-        site-weigh P c s (v .found),
+        taken-same row (weigh 0)
+            (λ X c ss Y. omega (arith, behind X (group c (refill ss) ∷ Y), behind X (group c ss ∷ Y), refill-weigh (rows row X) c ss))
+            (λ X c Y. idle-weigh X c (replicate (slotsOf c) Fresh) Y (fresh-idle (slotsOf c)))
+            P n q v,
       )
 
   -- ---- a pool weighs nothing where no live block does
 
   slots-zero : (X : Pool) (c : ℕ) (us xs : List Slot) (Y : Pool)
       → ((p : Place) → poolOf p ≡ X ++ (group c (us ++ xs) ∷ Y) → T (isLive (p .state)) → f (entry row p) ≡ 0) → weighSlots (rows row X) c (length us) xs ≡ 0
+  unfolding weight
   slots-zero X c us [] Y h = refl
   slots-zero X c us (x ∷ xs) Y h =
       let l : length (us ++ (x ∷ [])) ≡ suc (length us) = omega (arith, length-append us (x ∷ [])) in
       let p : Place = placed X c us x xs Y in
       omega (
         arith,
-        weight-zero row f p (h p refl),
+        choose-case (λ k. k ≡ 0) (isLive x) (f (entry row p)) 0 (λ e. h p refl (true-T (isLive x) e)) (λ e. refl),
         slots-zero X c (us ++ (x ∷ [])) xs Y (λ q e. h q (e ∙ ap (λ l. X ++ (group c l ∷ Y)) (append-assoc us (x ∷ []) xs))),
         ap (λ j. weighSlots (rows row X) c j xs) l,
       )
@@ -254,42 +210,31 @@ module _ (b : Entry) where
   strays e = bit (eqb (e .start) (b .start) && not (eqb (e .size) (b .size)))
 
   without-sum : (f : Entry → ℕ) (es : List Entry) → sum strays es ≡ 0 → 1 ≤ sum meets es → sum f (without (b .start) es) + f b ≡ sum f es
-  unfolding choose
   without-sum f [] h k = absurd (omega arith)
-  without-sum f (e ∷ es) h k = go (eqb (e .start) (b .start)) refl h k (λ h k. without-sum f es h k)
+  without-sum f (e ∷ es) h k =
+      choose-case (λ l. sum f l + f b ≡ f e + sum f es) (eqb (e .start) (b .start)) es (e ∷ without (b .start) es)
+      (λ q.
+      let m : e .size ≡ b .size = same (eqb (e .size) (b .size)) refl (rw q at h) in
+      let n : e .start ≡ b .start = eqb-true (e .start) (b .start) q in
+      omega (arith, ap₂ (λ x y. f (record { start = x; size = y })) n m))
+      (λ q. omega (arith, without-sum f es (omega (arith, rw q at h)) (omega (arith, rw q at k))))
     where
       same : (c : Bool) → eqb (e .size) (b .size) ≡ c → bit (not c) + sum strays es ≡ 0 → e .size ≡ b .size
       same true q h = eqb-true (e .size) (b .size) q
       same false q h = absurd (omega arith)
 
-      go : (c : Bool) → eqb (e .start) (b .start) ≡ c → bit (c && not (eqb (e .size) (b .size))) + sum strays es ≡ 0 → 1 ≤ bit c + sum meets es
-          → (sum strays es ≡ 0 → 1 ≤ sum meets es → sum f (without (b .start) es) + f b ≡ sum f es)
-          → sum f (choose c es (e ∷ without (b .start) es)) + f b ≡ f e + sum f es
-      go true q h k r =
-          let m : e .size ≡ b .size = same (eqb (e .size) (b .size)) refl h in
-          let n : e .start ≡ b .start = eqb-true (e .start) (b .start) q in
-          let z : e ≡ b = ap₂ (λ x y. record { start = x; size = y }) n m in
-          omega (arith, ap f z)
-      go false q h k r = omega (arith, r (omega arith) (omega arith))
-
 -- ---- calls on a pool whose live blocks are those of a ledger
 
-stays-start : (row : ℕ) (p q : Place) → Stays row p q → start row q ≡ start row p
-stays-start row p q s =
-    omega (arith, ap (λ r. row * r) (s .first), ap₂ (λ i c. i * slotBytes c) (s .number) (s .cls), ap disp (s .state))
-
 -- a live block is released by its start
-release-found : (row : ℕ) → 0 < row → (P : Pool) (p : Place) → T (wellFormed P) → poolOf p ≡ P → T (isLive (p .state)) → release row P (start row p) ≡ releaseAt row p
+release-found : (row : ℕ) → 0 < row → (p : Place) → T (wellFormed (poolOf p)) → T (isLive (p .state)) → release row (poolOf p) (start row p) ≡ releaseAt row p
 unfolding release
-release-found row pos P p w e l =
-    ap (onBlock _ _ P (releaseAt row))
-    (starts-found row pos P (start row p) p w (record { slotted = record { pool = e; granted-once = live-granted (p .state) l }; starts = refl }))
-    ∙ on-live Release.NoSuchBlock _ P (releaseAt row) p l
+release-found row pos p w l =
+    ap (onBlock (poolOf p) (releaseAt row)) (lookup-start row pos p w (live-granted (p .state) l)) ∙ on-live (poolOf p) (releaseAt row) p l
   where
     live-granted : (x : Slot) → T (isLive x) → T (granted x)
     live-granted Fresh l = absurd l
     live-granted (Idle r k d) l = absurd l
-    live-granted (Live k d n) l = tt
+    live-granted (Live a) l = tt
 
 module _ (row : ℕ) where
   -- the ledger's blocks are the pool's live ones, and they are as many as its grants less its releases
@@ -302,111 +247,95 @@ module _ (row : ℕ) where
 
   module _ (pos : 0 < row) (P : Pool) (w : T (wellFormed P)) (l : Ledger) (t : Tallies l P) where
     -- the ledger's block that starts where a live block of the pool does is that one
-    abbrev Struck : ℕ → Place → Type 0
-    Struck o p = (f : Entry → ℕ) → sum f (without o (l .blocks)) + f (entry row p) ≡ sum f (l .blocks)
-
-    struck : (p : Place) (o : ℕ) → poolOf p ≡ P → T (isLive (p .state)) → start row p ≡ o → Struck o p
-    struck p o e h s f =
-        subst (λ k. sum f (without k (l .blocks)) + f b ≡ sum f (l .blocks)) s
+    struck : (p : Place) (o : ℕ) → Named row P o p → (f : Entry → ℕ) → sum f (without o (l .blocks)) + f (entry row p) ≡ sum f (l .blocks)
+    struck p o n f =
+        subst (λ k. sum f (without k (l .blocks)) + f b ≡ sum f (l .blocks)) (lookup-found row pos P o p (n .found) .2)
         (without-sum b f (l .blocks) (t .sums (strays b) ∙ weigh-zero row (strays b) [] P (λ q i _. one q i (eqb (start row q) (start row p)) refl))
-        (omega (arith, t .sums (meets b), ap (weigh row (meets b) 0) e, live-weigh row (meets b) p h, ap bit (T-true (eqb (start row p) (start row p)) (eqb-refl (start row p))))))
+        (omega (
+          arith,
+          t .sums (meets b),
+          ap (weigh row (meets b) 0) (n .pool),
+          live-weigh row (meets b) p (n .live),
+          ap bit (T-true (eqb (start row p) (start row p)) (eqb-refl (start row p))),
+        )))
       where
         b : Entry
         b = entry row p
 
         one : (q : Place) → poolOf q ≡ P → (c : Bool) → eqb (start row q) (start row p) ≡ c → bit (c && not (eqb (size (q .state)) (size (p .state)))) ≡ 0
         one q i true h =
-            let z : q ≡ p = place-unique row pos p q (subst (λ Q. T (wellFormed Q)) (sym e) w) (i ∙ sym e) (eqb-true (start row q) (start row p) h) in
-            ap (λ c. bit (not c)) (T-true (eqb (size (q .state)) (size (p .state))) (eq→eqb (size (q .state)) (size (p .state)) (ap (λ r. size (r .state)) z)))
+            let w′ : T (wellFormed (poolOf p)) = subst (λ Q. T (wellFormed Q)) (sym (n .pool)) w in
+            let z : q ≡ p = place-unique row pos p q w′ (i ∙ sym (n .pool)) (eqb-true (start row q) (start row p) h) in
+            ap (λ c. bit (not c)) (T-true (eqb (size (q .state)) (size (p .state))) (eq→eqb _ _ (ap (λ r. size (r .state)) z)))
         one q i false h = refl
 
     -- the ledger after an accepted plan
-    abbrev Enters : {A : Type 0} → (A → Answer) → Call → Plan A → Type 0
-    Enters ans c r = ans (r .answer) .number ≡ 0 → Tallies (entered l c (getD (ans (r .answer) .values) 0 0)) (r .pool)
+    abbrev Enters : Call → Plan → Type 0
+    Enters c r = r .answer .number ≡ 0 → Tallies (entered l c (getD (r .answer .values) 0 0)) (r .pool)
 
-    grant-enters : (n : ℕ) → Enters grantAnswer (grants n) (grant row P n)
-    unfolding grant
-    grant-enters n = choose-case (Enters grantAnswer (grants n)) (leb tooLarge n) _ _ (λ e z. absurd (omega arith)) (λ e. go (reserve row P n) refl)
-      where
-        go : (r : Option Place) → reserve row P n ≡ r → Enters grantAnswer (grants n) (grantAt row P r)
-        go none e z = absurd (omega arith)
-        go (some q) e z = record {
-          sums = λ f. omega (arith, t .sums f, reserve-weigh row f P n q w e);
-          count = omega (arith, t .count);
+    refused-enters : (c : Call) (r : Refusal) → Enters c (refused r P)
+    refused-enters c r z = absurd (refuses r z)
+
+    release-enters : (o : ℕ) (p : Place) → Named row P o p → Enters (releases o) (releaseAt row p)
+    release-enters o p n z =
+        record {
+          sums = λ g. omega (arith, struck p o n g, t .sums g, ap (weigh row g 0) (n .pool), live-weigh row g p (n .live), released-weigh row g p);
+          count = omega (arith, struck p o n (λ e. 1), t .count);
         }
 
-    release-enters : (o : ℕ) → Enters releaseAnswer (releases o) (release row P o)
-    unfolding release
-    release-enters o =
-        on-block row pos (Enters releaseAnswer (releases o)) _ _ P o (releaseAt row) (λ z. absurd (omega arith)) (λ z. absurd (omega arith))
-        (λ p f e h z.
-        let k : Struck o p = struck p o e h (lookup-found row pos P o p f .2) in
+    in-place-enters : (o m : ℕ) (p : Place) → Named row P o p → Enters (resizes o m) (resizeInPlace row p m)
+    unfolding resizeInPlace rest
+    in-place-enters o m p n z =
+        let q : Place = become p (Live (record { count = count (p .state); disp = disp (p .state); size = m })) in
         record {
-          sums = λ g. omega (arith, k g, t .sums g, ap (weigh row g 0) e, live-weigh row g p h, released-weigh row g p);
-          count = omega (arith, k (λ e. 1), t .count);
-        })
+          sums = λ g. omega (arith, struck p o n g, t .sums g, ap (weigh row g 0) (n .pool), live-weigh row g p (n .live), live-weigh row g q tt);
+          count = omega (arith, struck p o n (λ e. 1), t .count);
+        }
 
-    resize-enters : (o n : ℕ) → Enters resizeAnswer (resizes o n) (resize row P o n)
-    unfolding resize resizeAt resizeInPlace resizeMove rest
-    resize-enters o n =
-        choose-case M (leb tooLarge n) _ _ (λ e z. absurd (omega arith))
-        (λ e. on-block row pos M _ _ P o (resizeAt row P n) (λ z. absurd (omega arith)) (λ z. absurd (omega arith))
-        (λ p f i h.
-        let k : Struck o p = struck p o i h (lookup-found row pos P o p f .2) in
-        choose-case M (inPlace p n) (resizeInPlace row p n) (resizeMove row P p n)
-        (λ _ z. record {
+    -- the old block is where it was when the new one has been granted
+    moved-enters : (o m : ℕ) (p q : Place) → Named row P o p → m < tooLarge → reserve row P m ≡ some q → Enters (resizes o m) (moveTo row P p m (some q))
+    moved-enters o m p q n s e z =
+        let (p′, j, y) = reserve-keeps row P m q w e p (n .pool) (n .live) in
+        let h : T (isLive (p′ .state)) = subst (λ x. T (isLive x)) (sym (y .state)) (n .live) in
+        let i : start row p′ ≡ start row p =
+        omega (arith, ap (λ r. row * r) (y .first), ap₂ (λ i c. i * slotBytes c) (y .number) (y .cls), ap disp (y .state)) in
+        let u : release row (poolOf q) (start row p) ≡ releaseAt row p′ =
+        rw (← j, ← i) (release-found row pos p′ (subst (λ Q. T (wellFormed Q)) (sym j) (reserve-formed row P m q w s e .formed)) h) in
+        record {
           sums = λ g.
-              omega (arith, k g, t .sums g, ap (weigh row g 0) i, live-weigh row g p h, live-weigh row g (become p (Live (count (p .state)) (disp (p .state)) n)) tt);
-          count = omega (arith, k (λ e. 1), t .count);
-        })
-        (λ _. go p i h k (leb-false tooLarge n e) (reserve row P n) refl)))
-      where
-        M : Plan Resize → Type 0
-        M = Enters resizeAnswer (resizes o n)
+              omega (
+                arith,
+                struck p o n g,
+                t .sums g,
+                reserve-weigh row g P m q w e,
+                ap (weigh row g 0) j,
+                live-weigh row g p′ h,
+                ap₂ (λ x y. g (record { start = x; size = y })) i (ap size (y .state)),
+                released-weigh row g p′,
+                ap (λ (r : Plan). weigh row g 0 (r .pool)) u,
+              );
+          count = omega (arith, struck p o n (λ e. 1), t .count);
+        }
 
-        go : (p : Place) → poolOf p ≡ P → T (isLive (p .state)) → Struck o p → n < tooLarge → (r : Option Place) → reserve row P n ≡ r → M (moveTo row P p n r)
-        go p i h k s none e z = absurd (omega arith)
-        -- the old block is where it was when the new one has been granted
-        go p i h k s (some q) e z =
-            let (p′, j, m) = reserve-keeps row P n q w e p i h in
-            let h′ : T (isLive (p′ .state)) = subst (λ x. T (isLive x)) (sym (m .state)) h in
-            let b : entry row p′ ≡ entry row p = ap₂ (λ x y. record { start = x; size = y }) (stays-start row p p′ m) (ap size (m .state)) in
-            let u : release row (poolOf q) (start row p) ≡ releaseAt row p′ =
-            subst (λ k. release row (poolOf q) k ≡ releaseAt row p′) (stays-start row p p′ m) (release-found row pos (poolOf q) p′ (reserve-formed row P n q w s e .formed) j h′) in
-            record {
-              sums = λ g.
-                  omega (
-                    arith,
-                    k g,
-                    t .sums g,
-                    reserve-weigh row g P n q w e,
-                    ap (weigh row g 0) j,
-                    live-weigh row g p′ h′,
-                    ap g b,
-                    released-weigh row g p′,
-                    ap (λ (r : Plan Release). weigh row g 0 (r .pool)) u,
-                  );
-              count = omega (arith, k (λ e. 1), t .count);
-            }
-
-    measure-enters : (o : ℕ) → Enters measureAnswer (measures o) (measure row P o)
-    unfolding measure
-    measure-enters o =
-        on-block row pos (Enters measureAnswer (measures o)) _ _ P o (measureAt row P) (λ z. absurd (omega arith)) (λ z. absurd (omega arith)) (λ p f e h z. t)
-
-    plan-enters : (c : Call) → Enters (λ r. r) c (plan row P c)
-    unfolding plan report
-    plan-enters setsUp z = fresh-tallies (rows row P)
-    plan-enters (grants n) z = grant-enters n z
-    plan-enters (releases o) z = release-enters o z
-    plan-enters (resizes o n) z = resize-enters o n z
-    plan-enters (measures o) z = measure-enters o z
-    plan-enters reports z = t
+    plan-enters : (c : Call) → Enters c (plan row P c)
+    unfolding plan release measure report
+    plan-enters setsUp = λ z. fresh-tallies (rows row P)
+    plan-enters (grants m) =
+        on-grant row pos P (Enters (grants m)) (refused-enters (grants m)) m
+        (λ q h e z. record { sums = λ f. omega (arith, t .sums f, reserve-weigh row f P m q w e); count = omega (arith, t .count) })
+    plan-enters (releases o) =
+        on-named row pos P (Enters (releases o)) (refused-enters (releases o)) o (releaseAt row) (λ p n. release-enters o p n)
+    plan-enters (resizes o m) =
+        on-resize row pos P (Enters (resizes o m)) (refused-enters (resizes o m)) o m (λ p n i. in-place-enters o m p n)
+        (λ p n z. absurd (omega arith)) (λ p q n s e. moved-enters o m p q n s e)
+    plan-enters (measures o) = on-named row pos P (Enters (measures o)) (refused-enters (measures o)) o (measureAt row P) (λ p n z. t)
+    plan-enters reports = λ z. t
 
 -- ---- what report counts
 
 -- a sum over slots of which only the live ones count
-total-weigh : (row : ℕ) (g : Slot → ℕ) (f : Entry → ℕ) → ((b : ℕ) (x : Slot) → g x ≡ weight f b x) → (r : ℕ) (P : Pool) → sum (slotSum g) P ≡ weigh row f r P
+total-weigh : (row : ℕ) (g : Slot → ℕ) (f : Entry → ℕ) → ((b : ℕ) (x : Slot) → g x ≡ weight f b x)
+    → (r : ℕ) (P : Pool) → sum (slotSum g) P ≡ weigh row f r P
 total-weigh row g f h r [] = refl
 total-weigh row g f h r (free ∷ P) = ap (λ k. 0 + k) (total-weigh row g f h (r + 1) P)
 total-weigh row g f h r (group c ss ∷ P) = ap₂ (λ j k. j + k) (slots 0 ss) (total-weigh row g f h (r + rowsOf row c) P)
@@ -429,24 +358,22 @@ module _ (row : ℕ) (pos : 0 < row) (n : ℕ) where
     tallies : Tallies row l (view row t)
 
   kept-counts : (l : Ledger) (t : List ℕ) → Kept l t → Counts row l t n
-  unfolding totals
+  unfolding totals weight choose
   kept-counts l t k =
       let P : Pool = view row t in
       record {
         blocks = omega (arith, total-weigh row (λ x. bit (isLive x)) (λ e. 1) live-one 0 P, k .tallies .sums (λ e. 1), k .tallies .count);
         bytes = total-weigh row size (λ e. e .size) live-size 0 P ∙ sym (k .tallies .sums (λ e. e .size));
-        rows = held-free row P ∙ sym (ap (λ m. m / row) (sound-facts row n t (k .tables) .long) ∙ mul-div-cancel-left (rows row P) pos);
+        rows = held-free row P ∙ sym (ap (λ m. m / row) (sound-facts byMasks row n t (k .tables) .long) ∙ mul-div-cancel-left (rows row P) pos);
       }
     where
       live-one : (b : ℕ) (x : Slot) → bit (isLive x) ≡ weight (λ e. 1) b x
-      live-one b Fresh = refl
-      live-one b (Idle r k d) = refl
-      live-one b (Live k d m) = refl
+      live-one b x = choose-case (λ k. bit (isLive x) ≡ k) (isLive x) 1 0 (ap bit) (ap bit)
 
       live-size : (b : ℕ) (x : Slot) → size x ≡ weight (λ e. e .size) b x
       live-size b Fresh = refl
       live-size b (Idle r k d) = refl
-      live-size b (Live k d m) = refl
+      live-size b (Live a) = refl
 
   -- an accepted set up
   fresh-kept : (a t : List ℕ) → T (setUpRight row a t) → length a ≡ n → Kept opening (setUp row a t .room)
@@ -454,58 +381,54 @@ module _ (row : ℕ) (pos : 0 < row) (n : ℕ) where
       let F : Pool = freshPool (length a / row) in
       subst (λ (r : Result). Kept opening (r .room)) (sym (set-up-done row a t h)) (record {
         tables = subst (λ m. T (sound row m (encode row F))) e (set-up-sound row a t h pos);
-        tallies = subst (Tallies row opening) (sym (view-encode row pos F (fresh-formed (length a / row)))) (fresh-tallies row (length a / row));
+        tallies = subst (Tallies row opening) (sym (view-encode masks-laws row pos F (fresh-formed (length a / row)))) (fresh-tallies row (length a / row));
       })
 
   -- one call, over whatever arena
   module _ (l : Ledger) (a t : List ℕ) (k : Kept l t) where
-    s : Sound row n t
-    s = sound-facts row n t (k .tables)
+    s : Sound byMasks row n t
+    s = sound-facts byMasks row n t (k .tables)
+
+    abbrev Keeps : Call → Type 0
+    Keeps c = call row a t c .answer .number ≡ 0 → Kept (entered l c (getD (call row a t c .answer .values) 0 0)) (call row a t c .room)
 
     -- a call but set up is accepted only over an arena of n bytes
-    asks-kept : (c : Call) → Asks c → call row a t c .answer .number ≡ 0 → Kept (entered l c (getD (call row a t c .answer .values) 0 0)) (call row a t c .room)
+    asks-kept : (c : Call) → Asks c → Keeps c
     asks-kept c i z =
-        let y : Accepted row a t c = accepted row a t c i z in
+        let y : Accepted row pos a t c = accepted row pos a t c i z in
         let P : Pool = view row t in
-        let e : length a ≡ n = sound-facts row (length a) t (y .sound-tables) .long ∙ sym (s .long) in
-        let f : Formed row P (plan row P c .pool) = plan-formed row pos P c (s .formed) in
+        let e : length a ≡ n = sound-facts byMasks row (length a) t (y .sound-tables) .long ∙ sym (s .long) in
+        let p : Plan = plan row P c in
         record {
-          tables = subst (λ m. T (sound row m (call row a t c .room))) e (accepted-leaves row a t pos c y .tables);
+          tables = subst (λ m. T (sound row m (call row a t c .room))) e (sound-leaves row pos a t (y .sound-tables) c .tables);
           tallies =
               subst (λ (r : Result). Tallies row (entered l c (getD (r .answer .values) 0 0)) (view row (r .room))) (sym (y .left))
-              (subst (λ Q. Tallies row (entered l c (getD (plan row P c .answer .values) 0 0)) Q) (sym (view-encode row pos (plan row P c .pool) (f .formed)))
+              (subst (Tallies row (entered l c (getD (p .answer .values) 0 0)))
+              (sym (view-encode masks-laws row pos (p .pool) (plan-formed row pos P c (s .formed) .formed)))
               (plan-enters row pos P (s .formed) l (k .tallies) c (ap (λ (r : Result). r .answer .number) (sym (y .left)) ∙ z)));
         }
 
     -- a set up too, since the room's size tells the arena's
-    set-up-kept : call row a t setsUp .answer .number ≡ 0 → Kept opening (call row a t setsUp .room)
-    unfolding call setUpRight roomBytes
+    set-up-kept : Keeps setsUp
+    unfolding callBy setUpRightBy roomBytes
     set-up-kept z =
-        let h : T (setUpRight row a t) = set-up-accepted row a t z in
+        let h : T (setUpRight row a t) = set-up-accepted row pos a t z in
         let u : length t ≡ roomBytes (length a / row) = eqb→eq (length t) (roomBytes (length a / row)) (search and-right) in
-        let v : length t ≡ roomBytes (rows row (view row t)) = ap length (s .form) ∙ encode-length row pos (view row t) (s .formed) in
+        let v : length t ≡ roomBytes (rows row (view row t)) = ap length (s .form) ∙ encode-length masks-laws row pos (view row t) (s .formed) in
         let r : length a / row ≡ rows row (view row t) = omega arith in
         fresh-kept a t h (sym (whole-rows row (length a) (set-up-lawful row a t h)) ∙ ap (λ m. row * m) r ∙ sym (s .long))
-
-    accepted-kept : (c : Call) → call row a t c .answer .number ≡ 0 → Kept (entered l c (getD (call row a t c .answer .values) 0 0)) (call row a t c .room)
-    accepted-kept setsUp z = set-up-kept z
-    accepted-kept (grants m) z = asks-kept (grants m) tt z
-    accepted-kept (releases o) z = asks-kept (releases o) tt z
-    accepted-kept (resizes o m) z = asks-kept (resizes o m) tt z
-    accepted-kept (measures o) z = asks-kept (measures o) tt z
-    accepted-kept reports z = asks-kept reports tt z
 
     call-kept : (c : Call) → Kept (booked l c (call row a t c .answer)) (call row a t c .room)
     call-kept c =
         choose-case (λ m. Kept m (call row a t c .room)) (eqb (call row a t c .answer .number) 0) _ _
-        (λ e. accepted-kept c (eqb-true (call row a t c .answer .number) 0 e))
+        (λ e. by-call Keeps set-up-kept asks-kept c (eqb-true (call row a t c .answer .number) 0 e))
         (λ e. subst (Kept l) (sym (demand1 row pos a t c .refused (eqb-false (call row a t c .answer .number) 0 e) .1)) k)
 
   calls-kept : (l : Ledger) (t : List ℕ) (cs : List Asked) → Kept l t → Kept (kept row l t cs .ledger) (kept row l t cs .room)
   unfolding kept
   calls-kept l t [] k = k
-  calls-kept l t (c ∷ cs) k =
-      calls-kept (booked l (c .asks) (call row (c .arena) t (c .asks) .answer)) (call row (c .arena) t (c .asks) .room) cs (call-kept l (c .arena) t k (c .asks))
+  calls-kept l t (c ∷ cs) k = calls-kept _ (call row (c .arena) t (c .asks) .room) cs (call-kept l (c .arena) t k (c .asks))
 
 pub history : (row : ℕ) → 0 < row → History row
-history row pos a t cs h = kept-counts row pos (length a) _ _ (calls-kept row pos (length a) opening (setUp row a t .room) cs (fresh-kept row pos (length a) a t h refl))
+history row pos a t cs h =
+    kept-counts row pos (length a) _ _ (calls-kept row pos (length a) opening (setUp row a t .room) cs (fresh-kept row pos (length a) a t h refl))

@@ -1,11 +1,11 @@
 pub mod Tables
 pub mod Bench
+pub mod Cases
 pub mod Demand1
 pub mod Demand2
 pub mod Cells
-pub mod Slots
 pub mod Steps
 pub mod Requested
-pub mod Cleared
 pub mod Demand3
 pub mod History
+pub mod Alike

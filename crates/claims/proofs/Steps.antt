@@ -1,240 +1,260 @@
--- Every call keeps tables and arena in agreement, and finds no damage.
-use Prim.Native.Nat.{ℕ, zero, suc, _+_, _*_, _-_, _≤_, _<_, min}
-use mathlib.Core.Path.{_≡_, refl, sym, subst, ap, _∙_}
-use mathlib.Core.Logic.{⊎-elim}
-use mathlib.Core.Option.{Option, none, some}
-use mathlib.Core.List.{List, [], _∷_, _++_, map}
+-- Every call keeps tables and arena in agreement, finds no damage, and leaves zeros where a block gains bytes.
+use Rattle.mem.proofs.Prelude.{_∙_, _≡_, sym, ap, refl, subst, some, List, [], _∷_, _++_, append-assoc, map, _+_, ℕ, _<_, _≤_, _*_, _-_, suc, zero}
+use Rattle.mem.proofs.Prelude.{min, arith, T, leb, leb→le, length, drop, getD, length-append, replicate}
 use native.Mathlib.Nat.{zero-mul}
-use native.Mathlib.Omega.{arith}
-use lib.Dec.{T, leb, leb→le}
-use lib.ListN.{length, drop, replicate, length-take}
-use borrow.Author.Tests.{leb-false}
-use Rattle.mem.specs.Lists.{every, any}
+use lib.ListN.{length-take}
+use Rattle.mem.specs.Lists.{choose, every, any}
 use Rattle.mem.specs.Bytes.{zeros, put, part}
-use Rattle.mem.proofs.Tests.{and-left, and-both, every-right, every-append, choose-case, true-T}
-use Rattle.mem.proofs.Laws.{zeros-length, zeros-none, put-at, put-all}
+use Rattle.mem.proofs.Tests.{and-left, and-both, every-right, every-append, choose-case}
+use Rattle.mem.proofs.Laws.{zeros-length, zeros-none, put-all}
 use Rattle.classes.specs.Classes.{slotBytes, classOf, slotsOf, rowsOf, tooLarge}
 use Rattle.classes.proofs.Laws.{rows-hold}
 use Rattle.model.specs.declared.Slot.{Slot}
 use Rattle.model.specs.declared.Slot.the-variants.{Fresh, Idle, Live}
-use Rattle.model.specs.declared.Release.{Release}
-use Rattle.model.specs.State.{Span, Pool, Place, group, isLive, disp, size, slotSound, wellFormed, poolOf, become, slotNumber, rows, base, start}
-use Rattle.model.specs.Blocks.{frame}
-use Rattle.model.specs.Plans.{Plan, Site, turnReady, refill, grantIn, site, reserve, enframe, grantAt, grant, vacant, releaseAt, release}
-use Rattle.model.specs.Plans.{inPlace, resizeInPlace, moveTo, resizeMove, resizeAt, resize, measureAt, measure, report, freshPool, Call, setsUp, grants, releases, resizes, measures, reports, plan}
+use Rattle.model.specs.declared.Refusal.{Refusal}
+use Rattle.model.specs.declared.Damage.the-variants.{Intact}
+use Rattle.model.specs.State.{Pool, Place, group, isLive, disp, size, slotSound, wellFormed, poolOf, become, slotNumber, rows, base, start, owned}
+use Rattle.model.specs.Blocks.{reserved, header, spare, frame}
+use Rattle.model.specs.Plans.{Plan, refused, turnReady, refill, grantIn, reserve, enframe, vacant, releaseAt, release, inPlace, resizeInPlace, moveTo}
+use Rattle.model.specs.Plans.{measureAt, measure, report, freshPool, Call, setsUp, grants, releases, resizes, measures, reports, plan, lookup}
 use Rattle.model.specs.Calls.{write, written, damaged}
 use Rattle.model.proofs.Lookup.{Fits, fits, disp-inside}
-use Rattle.model.proofs.Reserve.{Open, New, site-found, Served, served, reserve-formed, refill-sound, grant-live, reserve-size}
-use Rattle.model.proofs.Formed.{become-fits, vacant-sound, on-block}
-use Rattle.claims.proofs.Cells.{due, slotCells, slotsCells, live-cells, pad, spanCells, cells, cells-append, cells-length, group-length, fresh-pool-cells, zeros-due, due-zeros}
-use Rattle.claims.proofs.Cells.{Agrees, agrees-length, agrees-due, agrees-put}
-use Rattle.claims.proofs.Slots.{agrees-frame, undamaged, slot-written, copied, resized}
+use Rattle.model.proofs.Reserve.{Served, served, reserve-formed, refill-sound, reserve-size}
+use Rattle.model.proofs.Formed.{become-fits, vacant-sound}
+use Rattle.model.proofs.Blocks.{header-length}
+use Rattle.claims.specs.Demand3.{sizeAt, Cleared}
+use Rattle.claims.proofs.Cases.{release-parts, Named, on-named, on-grant, on-resize, reserve-live, taken-same, refuses}
+use Rattle.claims.proofs.Cells.{due, slotCells, slotsCells, pad, spanCells, cells, cells-append, cells-length, group-length, fresh-pool-cells, zeros-due}
+use Rattle.claims.proofs.Cells.{due-zeros, Agrees, agrees-length, agrees-due, agrees-over, agrees-frame, undamaged, slot-written, copied, resized}
 
 -- ---- slots that become ready, and new groups, change no cell
 
 turned-cells : (c i : ℕ) (ss : List Slot) → slotsCells c i (map turnReady ss) ≡ slotsCells c i ss
-unfolding slotCells
+unfolding slotCells choose
 turned-cells c i [] = refl
 turned-cells c i (Fresh ∷ ss) = ap (λ l. due (zeros (slotBytes c)) ++ l) (turned-cells c (suc i) ss)
 turned-cells c i (Idle r k d ∷ ss) = ap (λ l. due (zeros (slotBytes c)) ++ l) (turned-cells c (suc i) ss)
-turned-cells c i (Live k d n ∷ ss) = ap (λ l. slotCells c i (Live k d n) ++ l) (turned-cells c (suc i) ss)
+turned-cells c i (Live a ∷ ss) = ap (λ l. slotCells c i (Live a) ++ l) (turned-cells c (suc i) ss)
 
 refill-cells : (c i : ℕ) (ss : List Slot) → slotsCells c i (refill ss) ≡ slotsCells c i ss
 unfolding refill
 refill-cells c i ss = choose-case (λ l. slotsCells c i l ≡ slotsCells c i ss) _ ss (map turnReady ss) (λ e. refl) (λ e. turned-cells c i ss)
 
 fresh-cells : (c i m : ℕ) → slotsCells c i (replicate m Fresh) ≡ due (zeros (m * slotBytes c))
-unfolding slotCells
+unfolding slotCells choose
 fresh-cells c i zero = ap due (sym zeros-none) ∙ ap (λ k. due (zeros k)) (sym (zero-mul (slotBytes c)))
 fresh-cells c i (suc m) =
-    let e : slotBytes c + m * slotBytes c ≡ suc m * slotBytes c = omega arith in
-    ap (λ l. due (zeros (slotBytes c)) ++ l) (fresh-cells c (suc i) m) ∙ due-zeros (slotBytes c) (m * slotBytes c) ∙ ap (λ k. due (zeros k)) e
+    let e : slotBytes c + m * slotBytes c ≡ suc m * slotBytes c = omega arith in simp (fresh-cells c (suc i) m, due-zeros, e)
+
+-- ---- what is read after a write
+
+past-put : (p : ℕ) (bs a : List ℕ) (i : ℕ) → p + length bs ≤ i → getD (put p bs a) i 0 ≡ getD a i 0
+past-put p bs [] i h = refl
+past-put zero [] (x ∷ a) i h = refl
+past-put zero (b ∷ bs) (x ∷ a) zero h = absurd (omega arith)
+past-put zero (b ∷ bs) (x ∷ a) (suc i) h = past-put zero bs a i (omega arith)
+past-put (suc p) bs (x ∷ a) zero h = absurd (omega arith)
+past-put (suc p) bs (x ∷ a) (suc i) h = past-put p bs a i (omega arith)
+
+-- zeros over a zero
+zero-put : (p k : ℕ) (a : List ℕ) (i : ℕ) → getD a i 0 ≡ 0 → getD (put p (zeros k) a) i 0 ≡ 0
+unfolding zeros
+zero-put p k [] i e = refl
+zero-put zero zero (x ∷ a) i e = e
+zero-put zero (suc k) (x ∷ a) zero e = refl
+zero-put zero (suc k) (x ∷ a) (suc i) e = zero-put zero k a i e
+zero-put (suc p) k (x ∷ a) zero e = e
+zero-put (suc p) k (x ∷ a) (suc i) e = zero-put p k a i e
+
+-- zeros that are written among others
+zeros-put : (p : ℕ) (xs : List ℕ) (k : ℕ) (ys a : List ℕ) (i : ℕ) → p + length xs ≤ i → i < p + length xs + k
+    → getD (put p (xs ++ (zeros k ++ ys)) a) i 0 ≡ 0
+unfolding zeros
+zeros-put p xs k ys [] i h₁ h₂ = refl
+zeros-put zero [] zero ys (y ∷ a) i h₁ h₂ = absurd (omega arith)
+zeros-put zero [] (suc k) ys (y ∷ a) zero h₁ h₂ = refl
+zeros-put zero [] (suc k) ys (y ∷ a) (suc i) h₁ h₂ = zeros-put zero [] k ys a i (omega arith) (omega arith)
+zeros-put zero (x ∷ xs) k ys (y ∷ a) zero h₁ h₂ = absurd (omega arith)
+zeros-put zero (x ∷ xs) k ys (y ∷ a) (suc i) h₁ h₂ = zeros-put zero xs k ys a i (omega arith) (omega arith)
+zeros-put (suc p) xs k ys (y ∷ a) zero h₁ h₂ = absurd (omega arith)
+zeros-put (suc p) xs k ys (y ∷ a) (suc i) h₁ h₂ = zeros-put p xs k ys a i (omega arith) (omega arith)
 
 module _ (row : ℕ) (pos : 0 < row) where
   new-cells : (c : ℕ) → spanCells row (group c (replicate (slotsOf c) Fresh)) ≡ due (zeros (row * rowsOf row c))
   unfolding pad
   new-cells c =
       let e : 12 + (slotsOf c * slotBytes c + pad row c) ≡ row * rowsOf row c = omega (arith, rows-hold row c pos) in
-      ap (λ l. due (zeros 12) ++ (l ++ due (zeros (pad row c)))) (fresh-cells c 0 (slotsOf c))
-      ∙ ap (λ l. due (zeros 12) ++ l) (due-zeros (slotsOf c * slotBytes c) (pad row c))
-      ∙ due-zeros 12 (slotsOf c * slotBytes c + pad row c)
-      ∙ ap (λ k. due (zeros k)) e
-
-  site-cells : (P : Pool) (c : ℕ) (s : Site) → site row P c ≡ some s → cells row (s .before ++ (group c (s .slots) ∷ s .after)) ≡ cells row P
-  site-cells P c s e = ⊎-elim opened made (site-found row P c s e)
-    where
-      opened : Open P c s → cells row (s .before ++ (group c (s .slots) ∷ s .after)) ≡ cells row P
-      opened o = ap (cells row) (sym (o .split))
-
-      made : New row P c s → cells row (s .before ++ (group c (s .slots) ∷ s .after)) ≡ cells row P
-      made m =
-          let F : Pool = freshPool (rowsOf row c) in
-          cells-append row (s .before) (group c (s .slots) ∷ s .after)
-          ∙ ap (λ l. cells row (s .before) ++ (l ++ cells row (s .after))) (ap (λ ss. spanCells row (group c ss)) (m .slots) ∙ new-cells c ∙ sym (fresh-pool-cells row (rowsOf row c)))
-          ∙ sym (ap (cells row) (m .split) ∙ cells-append row (s .before) (F ++ s .after) ∙ ap (λ l. cells row (s .before) ++ l) (cells-append row F (s .after)))
+      simp (fresh-cells, due-zeros, e)
 
   -- ---- grant
 
   module _ (P : Pool) (n : ℕ) (q : Place) (w : T (wellFormed P)) (h : n < tooLarge) (r : reserve row P n ≡ some q) where
-    -- what a grant takes obeys the rules of a place, is live, and has n bytes
-    pub reserve-fits : Fits q × T (isLive (q .state))
-    reserve-fits =
-        let v : Served row P n q = served row P n q w r in
-        (fits q (reserve-formed row P n q w h r .formed), subst (λ x. T (isLive x)) (sym (v .taken .state)) (grant-live (classOf n) n (v .taken .old)))
-
     -- framed in an arena that agrees, it leaves one that agrees
-    pub reserve-agrees : (a : List ℕ) → Agrees (cells row P) a → Agrees (cells row (poolOf q)) (write a (enframe row q))
+    reserve-agrees : (a : List ℕ) → Agrees (cells row P) a → Agrees (cells row (poolOf q)) (write a (enframe row q))
     unfolding grantIn enframe
     reserve-agrees a g =
         let v : Served row P n q = served row P n q w r in
-        let s : Site = v .at in
         let c : ℕ = classOf n in
         let x : Slot = v .taken .old in
-        let b : q .before ≡ s .before = ap (λ p. p .before) (v .place) in
-        let d : q .after ≡ s .after = ap (λ p. p .after) (v .place) in
-        let j : q .cls ≡ c = ap (λ p. p .cls) (v .place) in
-        let f : Fits q = reserve-fits .0 in
-        let t : T (every (slotSound c) (q .lower ++ (x ∷ q .upper))) = subst (λ ss. T (every (slotSound c) ss)) (v .taken .slots) (refill-sound c (s .slots) (v .ground .sound)) in
-        let u : T (slotSound (q .cls) x) =
-        subst (λ k. T (slotSound k x)) (sym j) (and-left (slotSound c x) (every (slotSound c) (q .upper)) (every-right (slotSound c) (q .lower) (x ∷ q .upper) t)) in
-        let e₀ : poolOf (become q x) ≡ s .before ++ (group c (q .lower ++ (x ∷ q .upper)) ∷ s .after) = cc in
-        let e₁ : cells row (s .before ++ (group c (q .lower ++ (x ∷ q .upper)) ∷ s .after)) ≡ cells row (s .before ++ (group c (s .slots) ∷ s .after)) =
-        ap (λ ss. cells row (s .before ++ (group c ss ∷ s .after))) (sym (v .taken .slots))
-        ∙ cells-append row (s .before) (group c (refill (s .slots)) ∷ s .after)
-        ∙ ap (λ l. cells row (s .before) ++ ((due (zeros 12) ++ (l ++ due (zeros (pad row c)))) ++ cells row (s .after))) (refill-cells c 0 (s .slots))
-        ∙ sym (cells-append row (s .before) (group c (s .slots) ∷ s .after)) in
-        let e : cells row P ≡ cells row (poolOf (become q x)) = sym (ap (cells row) e₀ ∙ e₁ ∙ site-cells P c s (v .found)) in
-        slot-written row pos (become q x) (become-fits q x f u) a (q .state) (frame (q .cls) (slotNumber q) (disp (q .state)) (size (q .state))) (f .state)
-        (subst (λ l. Agrees l (frame (q .cls) (slotNumber q) (disp (q .state)) (size (q .state)))) (sym (live-cells (q .cls) (slotNumber q) (q .state) (reserve-fits .1)))
-        (agrees-frame (q .cls) (slotNumber q) (disp (q .state)) (size (q .state))))
-        (subst (λ l. Agrees l a) e g)
+        let f : Fits q = fits q (reserve-formed row P n q w h r .formed) in
+        let t : T (every (slotSound c) (q .lower ++ (x ∷ q .upper))) =
+        subst (λ ss. T (every (slotSound c) ss)) (v .taken .slots) (refill-sound c (v .at .slots) (v .ground .sound)) in
+        let u : T (slotSound c x) = and-left (slotSound c x) (every (slotSound c) (q .upper)) (every-right (slotSound c) (q .lower) (x ∷ q .upper) t) in
+        let y : T (slotSound (q .cls) x) = subst (λ k. T (slotSound k x)) (sym (ap (λ p. p .cls) (v .place))) u in
+        let e : cells row (poolOf (become q x)) ≡ cells row P =
+        taken-same row (cells row) (λ X c ss Y. simp (cells-append, refill-cells)) (λ X c Y. simp (cells-append, new-cells, fresh-pool-cells)) P n q v in
+        slot-written row pos (become q x) (become-fits q x f y) a (q .state) _ (f .state)
+        (agrees-frame (q .cls) (slotNumber q) (q .state) (reserve-live row P n q v)) (subst (λ l. Agrees l a) (sym e) g)
 
   -- ---- release
 
-  released : (p : Place) (a : List ℕ) → Fits p → T (isLive (p .state)) → Agrees (cells row (poolOf p)) a → Agrees (cells row (releaseAt row p .pool)) (written a (releaseAt row p .changes))
-  unfolding releaseAt slotCells
+  released : (p : Place) (a : List ℕ) → Fits p → T (isLive (p .state)) → Agrees (cells row (poolOf p)) a
+      → Agrees (cells row (releaseAt row p .pool)) (written a (releaseAt row p .changes))
+  unfolding releaseAt slotCells choose
   released p a f l g =
-      choose-case (λ (r : Plan Release). Agrees (cells row (r .pool)) (written a (r .changes))) (any isLive (p .lower ++ p .upper)) _ _
-      (λ e. slot-written row pos p f a (vacant p) (zeros (slotBytes (p .cls))) (vacant-sound (p .cls) (p .state) l (f .state)) (agrees-due (zeros (slotBytes (p .cls)))) g)
+      choose-case (λ (r : Plan). Agrees (cells row (r .pool)) (written a (r .changes))) (any isLive (p .lower ++ p .upper)) _ _
+      (λ e. slot-written row pos p f a (vacant p) (zeros (slotBytes (p .cls))) (vacant-sound (p .cls) (p .state) l (f .state)) (agrees-due _) g)
       (λ e. gone)
     where
       n : ℕ
       n = row * rowsOf row (p .cls)
 
-      s : Span
-      s = group (p .cls) (p .lower ++ (p .state ∷ p .upper))
+      ss : List Slot
+      ss = p .lower ++ (p .state ∷ p .upper)
 
       gone : Agrees (cells row (p .before ++ (freshPool (rowsOf row (p .cls)) ++ p .after))) (put (base row p) (zeros n) a)
       gone =
-          let F : Pool = freshPool (rowsOf row (p .cls)) in
-          let t : T (every (slotSound (p .cls)) (p .lower ++ (p .state ∷ p .upper))) =
-          every-append (slotSound (p .cls)) (p .lower) (p .state ∷ p .upper) (f .others .0) (and-both (slotSound (p .cls) (p .state)) (every (slotSound (p .cls)) (p .upper)) (f .state) (f .others .1)) in
-          let e : put (base row p) (due (zeros n)) (cells row (poolOf p)) ≡ cells row (p .before ++ (F ++ p .after)) =
-          ap (put (base row p) (due (zeros n))) (cells-append row (p .before) (s ∷ p .after))
-          ∙ put-at (base row p) (cells row (p .before)) (spanCells row s) (due (zeros n)) (cells row (p .after)) (cells-length row pos (p .before) (f .before))
-          (zeros-due n ∙ sym (group-length row pos (p .cls) (p .lower ++ (p .state ∷ p .upper)) (f .class) (f .slots) t))
-          ∙ sym (cells-append row (p .before) (F ++ p .after)
-          ∙ ap (λ l. cells row (p .before) ++ l) (cells-append row F (p .after) ∙ ap (λ l. l ++ cells row (p .after)) (fresh-pool-cells row (rowsOf row (p .cls))))) in
-          subst (λ l. Agrees l (put (base row p) (zeros n) a)) e (agrees-put (base row p) (due (zeros n)) (zeros n) (cells row (poolOf p)) a (agrees-due (zeros n)) g)
+          let t : T (every (slotSound (p .cls)) ss) =
+          every-append (slotSound (p .cls)) (p .lower) (p .state ∷ p .upper) (f .others .0)
+          (and-both (slotSound (p .cls) (p .state)) (every (slotSound (p .cls)) (p .upper)) (f .state) (f .others .1)) in
+          agrees-over (base row p) (cells row (p .before)) (spanCells row (group (p .cls) ss)) (due (zeros n)) (cells row (p .after))
+          (cells-append row (p .before) (group (p .cls) ss ∷ p .after)) (simp (cells-append, fresh-pool-cells))
+          (cells-length row pos (p .before) (f .before)) (zeros-due n ∙ sym (group-length row pos (p .cls) ss (f .class) (f .slots) t)) (agrees-due (zeros n)) g
+
+  -- ---- what each write leaves where a block gains bytes
+
+  -- a framed block's requested bytes are zero
+  framed : (q : Place) (a : List ℕ) (i : ℕ) → start row q ≤ i → i < start row q + size (q .state) → getD (write a (enframe row q)) i 0 ≡ 0
+  unfolding enframe frame
+  framed q a i h₁ h₂ =
+      let c : ℕ = q .cls in
+      let d : ℕ = disp (q .state) in
+      let n : ℕ = size (q .state) in
+      let Z : List ℕ = zeros (16 * d) in
+      let H : List ℕ = header c (slotNumber q) d n in
+      let R : List ℕ = zeros n ++ spare (reserved c d n) in
+      let l : length (Z ++ H) ≡ 16 * d + 4 = simp (length-append, zeros-length, header-length) in
+      ap (λ bs. getD (put (owned row q) bs a) i 0) (sym (append-assoc Z H R))
+      ∙ zeros-put (owned row q) (Z ++ H) n (spare (reserved c d n)) a i (omega arith) (omega arith)
+
+  -- a release writes zeros only
+  release-zero : (P : Pool) (o : ℕ) (a : List ℕ) (j : ℕ) → getD a j 0 ≡ 0 → getD (written a (release row P o .changes)) j 0 ≡ 0
+  unfolding release releaseAt
+  release-zero P o a j e =
+      let M : Plan → Type 0 = λ r. getD (written a (r .changes)) j 0 ≡ 0 in
+      on-named row pos P M (λ r. e) o (releaseAt row)
+      (λ p b. choose-case M (any isLive (p .lower ++ p .upper)) _ _ (λ t. zero-put (owned row p) (slotBytes (p .cls)) a j e)
+      (λ t. zero-put (base row p) (row * rowsOf row (p .cls)) a j e))
 
   -- ---- every call
 
-  -- what a plan does to an arena: tables and arena agree afterwards, and the block that it names is undamaged
-  pub record Kept {A : Type 0} (a : List ℕ) (l : Plan A) : Type 0 where
+  -- What a plan does to an arena: tables and arena agree afterwards, the block that it names is undamaged, and what a block gains is zero.
+  pub record Kept (P : Pool) (c : Call) (a : List ℕ) (l : Plan) : Type 0 where
     pub agrees : Agrees (cells row (l .pool)) (written a (l .changes))
-    pub whole : damaged row a (l .checks) ≡ 0
+    pub whole : damaged row a (l .checks) ≡ Intact
+    pub cleared : Cleared row P c (l .answer) (written a (l .changes))
 
   -- a pool with no groups, over zeros
   pub fresh-agrees : (n : ℕ) → Agrees (cells row (freshPool n)) (zeros (row * n))
   fresh-agrees n = subst (λ l. Agrees l (zeros (row * n))) (sym (fresh-pool-cells row n)) (agrees-due (zeros (row * n)))
 
   module _ (P : Pool) (w : T (wellFormed P)) (a : List ℕ) (g : Agrees (cells row P) a) where
-    -- a block of the pool
-    block-fits : (p : Place) → poolOf p ≡ P → Fits p
-    block-fits p e = fits p (subst (λ Q. T (wellFormed Q)) (sym e) w)
+    refused-kept : (c : Call) (r : Refusal) → Kept P c a (refused r P)
+    unfolding Cleared
+    refused-kept c r = record { agrees = g; whole = refl; cleared = λ z. absurd (refuses r z) }
 
-    block-agrees : (p : Place) → poolOf p ≡ P → Agrees (cells row (poolOf p)) a
-    block-agrees p e = subst (λ Q. Agrees (cells row Q) a) (sym e) g
+    -- a live block of the pool
+    block-fits : (p : Place) (o : ℕ) → Named row P o p → Fits p
+    block-fits p o b = fits p (subst (λ Q. T (wellFormed Q)) (sym (b .pool)) w)
 
-    block-whole : (p : Place) → poolOf p ≡ P → T (isLive (p .state)) → damaged row a (some p) ≡ 0
-    block-whole p e l = undamaged row pos p (block-fits p e) a l (block-agrees p e)
+    block-agrees : (p : Place) (o : ℕ) → Named row P o p → Agrees (cells row (poolOf p)) a
+    block-agrees p o b = subst (λ Q. Agrees (cells row Q) a) (sym (b .pool)) g
 
-    pub release-kept : (o : ℕ) → Kept a (release row P o)
-    unfolding release releaseAt
+    block-whole : (p : Place) (o : ℕ) → Named row P o p → damaged row a (some p) ≡ Intact
+    block-whole p o b = undamaged row pos p (block-fits p o b) a (b .live) (block-agrees p o b)
+
+    release-kept : (o : ℕ) → Kept P (releases o) a (release row P o)
+    unfolding release Cleared
     release-kept o =
-        on-block row pos (Kept a) _ _ P o (releaseAt row) (record { agrees = g; whole = refl }) (record { agrees = g; whole = refl })
-        (λ p f e l. record { agrees = released p a (block-fits p e) l (block-agrees p e); whole = checks p (block-whole p e l) })
-      where
-        checks : (p : Place) → damaged row a (some p) ≡ 0 → damaged row a (releaseAt row p .checks) ≡ 0
-        checks p h = choose-case (λ (r : Plan Release). damaged row a (r .checks) ≡ 0) (any isLive (p .lower ++ p .upper)) _ _ (λ e. h) (λ e. h)
+        on-named row pos P (Kept P (releases o) a) (refused-kept (releases o)) o (releaseAt row)
+        (λ p b. record {
+          agrees = released p a (block-fits p o b) (b .live) (block-agrees p o b);
+          whole = ap (damaged row a) (release-parts row p .0) ∙ block-whole p o b;
+          cleared = λ z i g. absurd g;
+        })
 
-    grant-kept : (n : ℕ) → Kept a (grant row P n)
-    unfolding grant
-    grant-kept n =
-        choose-case (Kept a) (leb tooLarge n) _ _ (λ e. record { agrees = g; whole = refl }) (λ e. go (leb-false tooLarge n e) (reserve row P n) refl)
-      where
-        go : n < tooLarge → (r : Option Place) → reserve row P n ≡ r → Kept a (grantAt row P r)
-        go h none e = record { agrees = g; whole = refl }
-        go h (some q) e = record { agrees = reserve-agrees P n q w h e a g; whole = refl }
-
-    in-place-kept : (p : Place) (n : ℕ) → poolOf p ≡ P → T (isLive (p .state)) → T (inPlace p n) → Kept a (resizeInPlace row p n)
-    unfolding resizeInPlace inPlace
-    in-place-kept p n e l t =
-        let f : Fits p = block-fits p e in
-        let b : n ≤ slotBytes (p .cls) - 4 - 16 * disp (p .state) = leb→le _ _ (and-left (leb n (slotBytes (p .cls) - 4 - 16 * disp (p .state))) _ t) in
+    in-place-kept : (p : Place) (o n : ℕ) → Named row P o p → T (inPlace p n) → Kept P (resizes o n) a (resizeInPlace row p n)
+    unfolding resizeInPlace inPlace Cleared
+    in-place-kept p o n b t =
+        let f : Fits p = block-fits p o b in
+        let l : n ≤ slotBytes (p .cls) - 4 - 16 * disp (p .state) = leb→le _ _ (and-left (leb n (slotBytes (p .cls) - 4 - 16 * disp (p .state))) _ t) in
+        let e : sizeAt row (lookup row P o) ≡ size (p .state) = ap (sizeAt row) (b .found) in
+        let k : ℕ = min (size (p .state)) n in
+        let x : List ℕ = put (start row p - 4) (header (p .cls) (slotNumber p) (disp (p .state)) n) a in
         record {
-          agrees = resized row pos p f l a n (omega (arith, disp-inside (p .cls) (p .state) (f .class) (f .state))) (block-agrees p e);
-          whole = block-whole p e l;
+          agrees = resized row pos p f (b .live) a n (omega (arith, disp-inside (p .cls) (p .state) (f .class) (f .state))) (block-agrees p o b);
+          whole = block-whole p o b;
+          cleared = λ z i g.
+              zeros-put (start row p + k) [] (n - k) (spare (reserved (p .cls) (disp (p .state)) n)) x i (omega (arith, g .0)) (omega (arith, g .1));
         }
 
-  module _ (P : Pool) (w : T (wellFormed P)) (a : List ℕ) (g : Agrees (cells row P) a) where
-    -- "a grant of n is made while the old block is live, that many bytes are copied, then the old is released"
-    move-kept : (p : Place) (n : ℕ) → n < tooLarge → poolOf p ≡ P → T (isLive (p .state)) → Kept a (resizeMove row P p n)
-    unfolding resizeMove
-    move-kept p n h e l = go (reserve row P n) refl
-      where
-        go : (r : Option Place) → reserve row P n ≡ r → Kept a (moveTo row P p n r)
-        go none r = record { agrees = g; whole = block-whole P w a g p e l }
-        go (some q) r =
-            let b : List ℕ = write a (enframe row q) in
-            let bs : List ℕ = part (start row p) (min (size (p .state)) n) b in
-            let z : size (q .state) ≡ n = reserve-size row P n q w r in
-            let j : length bs ≤ size (q .state) = omega (arith, length-take (min (size (p .state)) n) (drop (start row p) b)) in
-            let k : Agrees (cells row (poolOf q)) (put (start row q) bs b) =
-            copied row pos q (reserve-fits P n q w h r .0) (reserve-fits P n q w h r .1) b bs j (reserve-agrees P n q w h r a g) in
-            record {
-              agrees = release-kept (poolOf q) (reserve-formed row P n q w h r .formed) (put (start row q) bs b) k (start row p) .agrees;
-              whole = block-whole P w a g p e l;
-            }
-
-    resize-kept : (o n : ℕ) → Kept a (resize row P o n)
-    unfolding resize resizeAt
-    resize-kept o n =
-        choose-case (Kept a) (leb tooLarge n) _ _ (λ e. record { agrees = g; whole = refl })
-        (λ e. on-block row pos (Kept a) _ _ P o (resizeAt row P n) (record { agrees = g; whole = refl }) (record { agrees = g; whole = refl })
-        (λ p f q l. choose-case (Kept a) (inPlace p n) (resizeInPlace row p n) (resizeMove row P p n) (λ t. in-place-kept P w a g p n q l (true-T (inPlace p n) t))
-        (λ t. move-kept p n (leb-false tooLarge n e) q l)))
-
-    measure-kept : (o : ℕ) → Kept a (measure row P o)
-    unfolding measure
-    measure-kept o =
-        on-block row pos (Kept a) _ _ P o (measureAt row P) (record { agrees = g; whole = refl }) (record { agrees = g; whole = refl })
-        (λ p f e l. record { agrees = g; whole = block-whole P w a g p e l })
-
     pub arena-length : length a ≡ row * rows row P
-    arena-length = agrees-length (cells row P) a g ∙ cells-length row pos P w
+    arena-length = agrees-length g ∙ cells-length row pos P w
 
     pub set-up-zero : put 0 (zeros (row * rows row P)) a ≡ zeros (row * rows row P)
     set-up-zero = put-all (zeros (row * rows row P)) a (zeros-length (row * rows row P) ∙ sym arena-length)
 
-    pub plan-kept : (c : Call) → Kept a (plan row P c)
-    unfolding plan report
+  module _ (P : Pool) (w : T (wellFormed P)) (a : List ℕ) (g : Agrees (cells row P) a) where
+    -- "a grant of n is made while the old block is live, that many bytes are copied, then the old is released"
+    moved-kept : (p q : Place) (o n : ℕ) → Named row P o p → n < tooLarge → reserve row P n ≡ some q → Kept P (resizes o n) a (moveTo row P p n (some q))
+    unfolding Cleared
+    moved-kept p q o n b h r =
+        let k : ℕ = min (size (p .state)) n in
+        let x : List ℕ = write a (enframe row q) in
+        let bs : List ℕ = part (start row p) k x in
+        let z : size (q .state) ≡ n = reserve-size row P n q w r in
+        let e : sizeAt row (lookup row P o) ≡ size (p .state) = ap (sizeAt row) (b .found) in
+        let j : length bs ≤ k = omega (arith, length-take k (drop (start row p) x)) in
+        let w′ : T (wellFormed (poolOf q)) = reserve-formed row P n q w h r .formed in
+        let y : Agrees (cells row (poolOf q)) (put (start row q) bs x) =
+        copied row pos q (fits q w′) (reserve-live row P n q (served row P n q w r)) x bs (omega arith) (reserve-agrees P n q w h r a g) in
+        record {
+          agrees = release-kept (poolOf q) w′ (put (start row q) bs x) y (start row p) .agrees;
+          whole = block-whole P w a g p o b;
+          cleared = λ _ i g.
+              release-zero (poolOf q) (start row p) (put (start row q) bs x) i
+              (past-put (start row q) bs x i (omega (arith, g .0)) ∙ framed q a i (omega (arith, g .0)) (omega (arith, g .1)));
+        }
+
+    pub plan-kept : (c : Call) → Kept P c a (plan row P c)
+    unfolding plan measure report Cleared
     plan-kept setsUp = record {
-      agrees = subst (λ l. Agrees (cells row (freshPool (rows row P))) l) (sym set-up-zero) (fresh-agrees (rows row P));
+      agrees = subst (λ l. Agrees (cells row (freshPool (rows row P))) l) (sym (set-up-zero P w a g)) (fresh-agrees (rows row P));
       whole = refl;
+      cleared = λ z i g. absurd g;
     }
-    plan-kept (grants n) = record { agrees = grant-kept P w a g n .agrees; whole = grant-kept P w a g n .whole }
-    plan-kept (releases o) = record { agrees = release-kept P w a g o .agrees; whole = release-kept P w a g o .whole }
-    plan-kept (resizes o n) = record { agrees = resize-kept o n .agrees; whole = resize-kept o n .whole }
-    plan-kept (measures o) = record { agrees = measure-kept o .agrees; whole = measure-kept o .whole }
-    plan-kept reports = record { agrees = g; whole = refl }
+    plan-kept (grants n) =
+        on-grant row pos P (Kept P (grants n) a) (refused-kept P w a g (grants n)) n
+        (λ q h e. record {
+          agrees = reserve-agrees P n q w h e a g;
+          whole = refl;
+          cleared = λ z i g. framed q a i (g .0) (omega (arith, g .1, reserve-size row P n q w e));
+        })
+    plan-kept (releases o) = release-kept P w a g o
+    plan-kept (resizes o n) =
+        on-resize row pos P (Kept P (resizes o n) a) (refused-kept P w a g (resizes o n)) o n (λ p b t. in-place-kept P w a g p o n b t)
+        (λ p b. record { agrees = g; whole = block-whole P w a g p o b; cleared = λ z. absurd (omega arith) }) (λ p q b h e. moved-kept p q o n b h e)
+    plan-kept (measures o) =
+        on-named row pos P (Kept P (measures o) a) (refused-kept P w a g (measures o)) o (measureAt row P)
+        (λ p b. record { agrees = g; whole = block-whole P w a g p o b; cleared = λ z i g. absurd g })
+    plan-kept reports = record { agrees = g; whole = refl; cleared = λ z i g. absurd g }

@@ -3,6 +3,7 @@ use mathlib.Core.Path.{_≡_}
 use mathlib.Core.List.{List}
 use Prim.Native.Nat.{ℕ}
 use lib.Dec.{T}
+use Rattle.model.specs.declared.Refusal.the-variants.{TooLarge}
 use Rattle.model.specs.Answers.{refusal}
 use Rattle.model.specs.Plans.{grants}
 use Rattle.model.specs.Calls.{setUp, setUpRight, call, keeps}
@@ -10,4 +11,4 @@ use Rattle.model.specs.Calls.{setUp, setUpRight, call, keeps}
 -- after a set up that was done, over whatever arena and table room
 abbrev pub TooLargeAnywhere : ℕ → Type 0
 TooLargeAnywhere row = (a t : List ℕ) → T (setUpRight row a t)
-    → call row (setUp row a t .arena) (setUp row a t .room) (grants 131052) ≡ keeps (refusal 3) (setUp row a t .arena) (setUp row a t .room)
+    → call row (setUp row a t .arena) (setUp row a t .room) (grants 131052) ≡ keeps (refusal TooLarge) (setUp row a t .arena) (setUp row a t .room)

@@ -4,42 +4,28 @@ use Prim.Native.Nat.{ℕ, _≤_}
 use mathlib.Core.Path.{_≡_}
 use mathlib.Core.Bool.{Bool, not}
 use mathlib.Core.Logic.{_⊎_}
-use mathlib.Core.List.{List, [], _∷_, _++_}
+use mathlib.Core.List.{List, [], _∷_}
 use lib.Dec.{T}
 use lib.ListN.{length}
-use Rattle.mem.specs.Lists.{every}
-use Rattle.classes.specs.Classes as classes
-use Rattle.classes.specs.Classes.{classOf, rowsOf}
-use Rattle.model.specs.declared.Slot.{Slot}
-use Rattle.model.specs.State.{Pool, Place, group, isLive, granted, disp, size, poolOf, slotNumber, start}
+use Rattle.classes.specs.Classes.{classOf, tooLarge}
+use Rattle.model.specs.declared.Refusal.{Refusal}
+use Rattle.model.specs.declared.Refusal.the-variants.{BadArena, Unsound, TooLarge, NoSuchBlock, AlreadyFree, HeaderDamaged, Overrun, NoRoom}
+use Rattle.model.specs.State.{Pool, Place, isLive, granted, disp, size, poolOf, slotNumber, start}
 use Rattle.model.specs.Blocks.{headerRight, guardRight, ownedBytes}
-use Rattle.model.specs.Plans.{Call, setsUp, grants, releases, resizes, measures, reports, inPlace, freshPool}
+use Rattle.model.specs.Answers.{numberOf}
+use Rattle.model.specs.Plans.{Call, setsUp, grants, releases, resizes, measures, reports, inPlace, NoPlace}
 use Rattle.model.specs.Tables.{sound, view}
 use Rattle.model.specs.Calls.{call, setUpRight}
 
--- the table of numbers but 0, done
-pub data Reason : Type 0 where
-  badArena unsound tooLarge noSuchBlock alreadyFree headerDamaged overrun noRoom : Reason
-
-abbrev pub numberOf : Reason → ℕ
-numberOf badArena = 1
-numberOf unsound = 2
-numberOf tooLarge = 3
-numberOf noSuchBlock = 4
-numberOf alreadyFree = 5
-numberOf headerDamaged = 6
-numberOf overrun = 7
-numberOf noRoom = 8
-
 -- "They are tested in this order, each where it applies: grant 2, 3, 8; release and measure 2, 4, 5, 6, 7; resize all of 2 to 8;
 -- report 2."
-abbrev pub order : Call → List Reason
-order setsUp = badArena ∷ []
-order (grants n) = unsound ∷ tooLarge ∷ noRoom ∷ []
-order (releases o) = unsound ∷ noSuchBlock ∷ alreadyFree ∷ headerDamaged ∷ overrun ∷ []
-order (resizes o n) = unsound ∷ tooLarge ∷ noSuchBlock ∷ alreadyFree ∷ headerDamaged ∷ overrun ∷ noRoom ∷ []
-order (measures o) = unsound ∷ noSuchBlock ∷ alreadyFree ∷ headerDamaged ∷ overrun ∷ []
-order reports = unsound ∷ []
+abbrev pub order : Call → List Refusal
+order setsUp = BadArena ∷ []
+order (grants n) = Unsound ∷ TooLarge ∷ NoRoom ∷ []
+order (releases o) = Unsound ∷ NoSuchBlock ∷ AlreadyFree ∷ HeaderDamaged ∷ Overrun ∷ []
+order (resizes o n) = Unsound ∷ TooLarge ∷ NoSuchBlock ∷ AlreadyFree ∷ HeaderDamaged ∷ Overrun ∷ NoRoom ∷ []
+order (measures o) = Unsound ∷ NoSuchBlock ∷ AlreadyFree ∷ HeaderDamaged ∷ Overrun ∷ []
+order reports = Unsound ∷ []
 
 -- what a call names
 abbrev pub sizeIn : Call → ℕ
@@ -59,7 +45,7 @@ offsetIn (measures o) = o
 offsetIn reports = 0
 
 -- k is the number of the first reason of a list that is due, or 0 if none is
-abbrev pub FirstDue : (Reason → Type 0) → List Reason → ℕ → Type 0
+abbrev pub FirstDue : (Refusal → Type 0) → List Refusal → ℕ → Type 0
 FirstDue Due [] k = k ≡ 0
 FirstDue Due (r ∷ rs) k = ((k ≡ numberOf r) × Due r) ⊎ ((Due r → ⊥) × FirstDue Due rs k)
 
@@ -71,10 +57,6 @@ refusedValues (releases o) = 0 ∷ []
 refusedValues (resizes o n) = 0 ∷ []
 refusedValues (measures o) = 0 ∷ []
 refusedValues reports = 0 ∷ 0 ∷ 0 ∷ 0 ∷ 0 ∷ 0 ∷ []
-
--- every slot of the groups of class c in a pool is live
-abbrev pub AllLive : Pool → ℕ → Type 0
-AllLive P c = (X Y : Pool) (ss : List Slot) → P ≡ X ++ (group c ss ∷ Y) → T (every isLive ss)
 
 module _ (row : ℕ) where
   -- a granted slot of a pool, and the one whose last start an offset is
@@ -98,30 +80,25 @@ module _ (row : ℕ) where
   abbrev pub guardDue : List ℕ → Place → Bool
   guardDue a p = guardRight (p .cls) (disp (p .state)) (size (p .state)) (ownedBytes row a p)
 
-  -- "neither a free slot of its class nor a long enough run of free rows exists"
-  pub record NoPlace (P : Pool) (n : ℕ) : Type 0 where
-    pub all-live : AllLive P (classOf n)
-    pub no-run : (X Y : Pool) → P ≡ X ++ (freshPool (rowsOf row (classOf n)) ++ Y) → ⊥
-
   -- no room: for a resize, of a block that is not changed in place
   abbrev pub NoRoomFor : Pool → Call → Type 0
   NoRoomFor P setsUp = ⊥
-  NoRoomFor P (grants n) = NoPlace P n
+  NoRoomFor P (grants n) = NoPlace row P (classOf n)
   NoRoomFor P (releases o) = ⊥
-  NoRoomFor P (resizes o n) = ((p : Place) → LiveAt P o p → T (not (inPlace p n))) × NoPlace P n
+  NoRoomFor P (resizes o n) = ((p : Place) → LiveAt P o p → T (not (inPlace p n))) × NoPlace row P (classOf n)
   NoRoomFor P (measures o) = ⊥
   NoRoomFor P reports = ⊥
 
   -- "Given exactly when", each by itself
-  abbrev pub Due : List ℕ → List ℕ → Call → Reason → Type 0
-  Due a t c badArena = T (not (setUpRight row a t))
-  Due a t c unsound = T (not (sound row (length a) t))
-  Due a t c tooLarge = classes.tooLarge ≤ sizeIn c
-  Due a t c noSuchBlock = (p : Place) → StartsAt (view row t) (offsetIn c) p → ⊥
-  Due a t c alreadyFree = (p : Place) × StartsAt (view row t) (offsetIn c) p × T (not (isLive (p .state)))
-  Due a t c headerDamaged = (p : Place) × LiveAt (view row t) (offsetIn c) p × T (not (headerDue a p))
-  Due a t c overrun = (p : Place) × LiveAt (view row t) (offsetIn c) p × T (headerDue a p) × T (not (guardDue a p))
-  Due a t c noRoom = NoRoomFor (view row t) c
+  abbrev pub Due : List ℕ → List ℕ → Call → Refusal → Type 0
+  Due a t c BadArena = T (not (setUpRight row a t))
+  Due a t c Unsound = T (not (sound row (length a) t))
+  Due a t c TooLarge = tooLarge ≤ sizeIn c
+  Due a t c NoSuchBlock = (p : Place) → StartsAt (view row t) (offsetIn c) p → ⊥
+  Due a t c AlreadyFree = (p : Place) × StartsAt (view row t) (offsetIn c) p × T (not (isLive (p .state)))
+  Due a t c HeaderDamaged = (p : Place) × LiveAt (view row t) (offsetIn c) p × T (not (headerDue a p))
+  Due a t c Overrun = (p : Place) × LiveAt (view row t) (offsetIn c) p × T (headerDue a p) × T (not (guardDue a p))
+  Due a t c NoRoom = NoRoomFor (view row t) c
 
   -- DEMAND 1, of any bytes and any call
   pub record Answered (a t : List ℕ) (c : Call) : Type 0 where

@@ -16,10 +16,10 @@ use Rattle.model.specs.declared.Slot.{Slot}
 use Rattle.model.specs.declared.Slot.the-variants.{Fresh}
 use Rattle.model.specs.State.{Pool, Place, group, isLive, isReady, disp, size, poolOf, slotNumber, rows, owned, start}
 use Rattle.model.specs.Blocks.{frame}
-use Rattle.model.specs.Plans.{Call, grants, releases, measures, refill, grantSlot, freshPool}
+use Rattle.model.specs.Plans.{Call, grants, releases, measures, refill, grantSlot, freshPool, AllLive, NoPlace}
 use Rattle.model.specs.Tables.{sound, view}
 use Rattle.model.specs.Calls.{call}
-use Rattle.claims.specs.Demand1.{AllLive, LiveAt, headerDue, guardDue, NoPlace}
+use Rattle.claims.specs.Demand1.{LiveAt, headerDue, guardDue}
 
 module _ (row : ℕ) where
   -- a live block of a pool at an offset, whose 4 header bytes and guard bytes are those due
@@ -42,7 +42,7 @@ module _ (row : ℕ) where
   -- "A grant is refused exactly if .."
   abbrev pub GrantsExactly : Type 0
   GrantsExactly = (a t : List ℕ) (n : ℕ)
-      → (call row a t (grants n) .answer .number ≡ 0 → ⊥) ↔ ((tooLarge ≤ n) ⊎ (T (not (sound row (length a) t)) ⊎ NoPlace row (view row t) n))
+      → (call row a t (grants n) .answer .number ≡ 0 → ⊥) ↔ ((tooLarge ≤ n) ⊎ (T (not (sound row (length a) t)) ⊎ NoPlace row (view row t) (classOf n)))
 
   -- the group that serves: "Of the groups of n's class with a slot not live, take the one with the lowest first row", or, "If there is
   -- no such group, make one at the lowest run of R free rows, all slots ready"; between X and Y, with slots ss

@@ -1,17 +1,14 @@
 -- Laws of bytes: writes, parts, zeros, tests of equality, numbers low byte first, and walks over lists.
-use mathlib.Core.Path.{_≡_, refl, sym, ap, ap₂, _∙_, subst}
-use mathlib.Core.Logic.{_⊎_, inl, inr}
-use mathlib.Core.List.{List, [], _∷_, _++_, append-assoc}
-use mathlib.Core.Bool.{Bool, false, _&&_, and-assoc, and-false}
-use Prim.Native.Nat.{ℕ, zero, suc, _+_, _-_, _*_, _/_, _%_, _^_, _<_, _≤_}
-use native.Mathlib.Nat.{zero-add, add-zero, add-suc, suc-add, add-comm, mul-zero, mul-suc, pow-suc}
-use native.Mathlib.Omega.{arith}
-use lib.Dec.{T, eqb, ltb, eqb→eq, eqb-refl, ltb→lt, lt→ltb}
-use lib.ListN.{length, getD, set, take, drop, length-append, length-drop, take-append-drop, length-replicate, replicate-append-replicate}
-use lib.Seq.{sets, sets-eq, length-sets, length-take-le, take-take, take-add, take-at, take-append-le, take-set-le, drop-cons, drop-drop, drop-at, drop-append-le, drop-append-add, drop-set-lt, drop-set-add, getD-take, getD-drop}
+use Rattle.mem.proofs.Prelude.{_∙_, _≡_, sym, ap, refl, ap₂, subst, Bool, false, _&&_, and-assoc, and-false, inl, inr, _⊎_, List, [], _∷_}
+use Rattle.mem.proofs.Prelude.{_++_, append-assoc, _+_, ℕ, _<_, _≤_, _*_, _-_, suc, _/_, zero, _^_, _%_, add-zero, zero-add, pow-suc, arith, T}
+use Rattle.mem.proofs.Prelude.{eqb, ltb, eqb→eq, ltb→lt, eqb-refl, lt→ltb, length, drop, getD, length-append, take, set, length-drop}
+use Rattle.mem.proofs.Prelude.{length-replicate, take-append-drop, drop-drop, drop-cons, getD-drop, length-take-le}
+use native.Mathlib.Nat.{add-suc, suc-add, add-comm, mul-zero, mul-suc}
+use lib.ListN.{replicate-append-replicate}
+use lib.Seq.{sets, sets-eq, length-sets, take-take, take-set-le, drop-append-add, drop-set-lt, drop-set-add, getD-take}
 use Rattle.mem.specs.Bytes.{zeros, low, number, same, part, put}
 use Rattle.mem.specs.Lists.{every, join}
-use Rattle.mem.proofs.Tests.{and-left, and-right, and-both, same-test, eq→eqb, every-at, every-by, every-left, every-right}
+use Rattle.mem.proofs.Tests.{and-left, and-right, and-both, same-test, eq→eqb, every-by, every-left, every-right}
 
 module _ {ℓ} {A : Type ℓ} where
   -- ---- writes
@@ -80,9 +77,6 @@ module _ {ℓ} {A : Type ℓ} where
       let q : p ≡ length front + 0 = omega arith in
       rw (q, put-back 0 new front (old ++ back), put-front 0 new old back (omega arith), put-all new old)
 
-  pub put-seam : (front old new back : List A) → length new ≡ length old → put (length front) new (front ++ (old ++ back)) ≡ front ++ (new ++ back)
-  put-seam front old new back f = put-at (length front) front old new back refl f
-
   -- ---- parts
 
   pub part-length : (p k : ℕ) (xs : List A) → p + k ≤ length xs → length (part p k xs) ≡ k
@@ -94,21 +88,8 @@ module _ {ℓ} {A : Type ℓ} where
   pub getD-part : (p k : ℕ) (xs : List A) (i : ℕ) (d : A) → i < k → getD (part p k xs) i d ≡ getD xs (p + i) d
   getD-part p k xs i d h = getD-take k (drop p xs) i d h ∙ getD-drop p xs i d
 
-  -- two parts side by side
-  pub part-add : (p j k : ℕ) (xs : List A) → part p (j + k) xs ≡ part p j xs ++ part (p + j) k xs
-  part-add p j k xs = take-add j k (drop p xs) ∙ rw drop-drop
-
-  -- a part in the front, or in the back, of two lists
-  pub part-front : (p k : ℕ) (xs ys : List A) → p + k ≤ length xs → part p k (xs ++ ys) ≡ part p k xs
-  part-front p k xs ys h =
-      ap (take k) (drop-append-le p xs ys (omega arith)) ∙ take-append-le k (drop p xs) ys (omega (arith, length-drop p xs))
-
   pub part-back : (p k : ℕ) (xs ys : List A) → part (length xs + p) k (xs ++ ys) ≡ part p k ys
   part-back p k xs ys = ap (take k) (drop-append-add xs ys p)
-
-  -- the middle one of three lists
-  pub part-at : (p k : ℕ) (front mid back : List A) → length front ≡ p → length mid ≡ k → part p k (front ++ (mid ++ back)) ≡ mid
-  part-at p k front mid back e f = ap (take k) (drop-at front (mid ++ back) p e) ∙ take-at mid back k f
 
   pub part-part : (p m i k : ℕ) (xs : List A) → i + k ≤ m → part i k (part p m xs) ≡ part (p + i) k xs
   part-part p m i k xs h = inner m i k (drop p xs) h ∙ ap (take k) (drop-drop i p xs)
@@ -198,10 +179,6 @@ number-part p (suc k) s h =
     ap number (part-cons p k s 0 (omega arith)) ∙ ap (λ (n : ℕ). getD s p 0 + 256 * n) (number-part (suc p) k s (omega arith))
 
 -- ---- bytes: every element is below 256
-
--- as a test of the list, and at each place
-pub bytes-at : (bs : List ℕ) → T (every (λ b. ltb b 256) bs) → (i : ℕ) → getD bs i 0 < 256
-bytes-at bs t i = ltb→lt (getD bs i 0) 256 (every-at (λ b. ltb b 256) bs 0 t tt i)
 
 pub bytes-by : (bs : List ℕ) → ((i : ℕ) → getD bs i 0 < 256) → T (every (λ b. ltb b 256) bs)
 bytes-by bs h = every-by (λ b. ltb b 256) bs 0 (λ i l. lt→ltb (getD bs i 0) 256 (h i))
@@ -313,7 +290,3 @@ module _ {ℓ} {A : Type ℓ} where
   put-put p q ws vs [] h = refl
   put-put zero q ws vs (x ∷ xs) h = rw zero-add (inside q ws vs (x ∷ xs) h)
   put-put (suc p) q ws vs (x ∷ xs) h = rw suc-add (ap (λ (r : List A). x ∷ r) (put-put p q ws vs xs h))
-
--- a store is a write of one element
-pub put-one : {A : Type 0} (xs : List A) (p : ℕ) (v : A) → set xs p v ≡ put p (v ∷ []) xs
-put-one xs p v = sym (put-cons p v [] xs ∙ put-nil (suc p) (set xs p v))

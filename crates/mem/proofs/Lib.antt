@@ -1,3 +1,6 @@
+pub mod Prelude
 pub mod Tests
 pub mod Masks
 pub mod Laws
+pub mod Splits
+pub mod Starts

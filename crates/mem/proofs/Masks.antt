@@ -1,14 +1,11 @@
 -- A mask is the list of its bits, lowest first: what is done to the number is done to the list.
-use mathlib.Core.Path.{_≡_, refl, sym, ap, _∙_}
-use mathlib.Core.List.{List, [], _∷_}
-use mathlib.Core.Bool.{Bool, true, false, not, _||_, true≢false, false≢true}
-use Prim.Native.Nat.{ℕ, zero, suc, _+_, _-_, _*_, _/_, _%_, _^_, _≤_, _<_, suc-le-suc}
-use native.Mathlib.Nat.{not-suc-le-zero, le-of-suc-le-suc, le-of-eq, pow-suc}
-use native.Mathlib.Omega.{arith}
-use lib.Dec.{T, eqb, eqb·suc-zero}
-use lib.ListN.{length, getD, set}
-use lib.Count.{trailingZeros, ones, ones-step}
-use borrow.Author.Tests.{ne-eqb}
+use Rattle.mem.proofs.Prelude.{_∙_, _≡_, sym, ap, refl, true, Bool, false, not, _||_, true≢false, List, [], _∷_, _+_, ℕ, _<_, _≤_, _*_, _-_}
+use Rattle.mem.proofs.Prelude.{suc, _/_, zero, _^_, _%_, pow-suc, arith, ne-eqb, T, eqb, length, getD, set, ones}
+use mathlib.Core.Bool.{false≢true}
+use Prim.Native.Nat.{suc-le-suc}
+use native.Mathlib.Nat.{not-suc-le-zero, le-of-suc-le-suc, le-of-eq}
+use lib.Dec.{eqb·suc-zero}
+use lib.Count.{trailingZeros, ones-step}
 use Rattle.mem.specs.Bytes.{mask, bit}
 use Rattle.mem.specs.Lists.{choose, any, first, sum}
 
@@ -91,9 +88,6 @@ clear-adds (true ∷ bs) zero h = omega arith
 clear-adds (false ∷ bs) zero h = absurd (false≢true h)
 clear-adds (b ∷ bs) (suc i) h = rw pow-suc (omega (arith, clear-adds bs i h))
 
-pub clear-bit : (bs : List Bool) (i : ℕ) → getD bs i false ≡ true → mask bs - 2 ^ i ≡ mask (set bs i false)
-clear-bit bs i h = omega (arith, clear-adds bs i h)
-
 pub bit-le : (bs : List Bool) (i : ℕ) → getD bs i false ≡ true → 2 ^ i ≤ mask bs
 bit-le bs i h = omega (arith, clear-adds bs i h)
 
@@ -153,9 +147,3 @@ parts (true ∷ xs) (true ∷ ys) e d = absurd (d zero tt tt)
 parts (true ∷ xs) (false ∷ ys) e d = omega (arith, parts xs ys (omega arith) (λ i. d (suc i)))
 parts (false ∷ xs) (true ∷ ys) e d = omega (arith, parts xs ys (omega arith) (λ i. d (suc i)))
 parts (false ∷ xs) (false ∷ ys) e d = omega (arith, parts xs ys (omega arith) (λ i. d (suc i)))
-
-pub apart-sum : (xs ys : List Bool) → length xs ≡ length ys → Apart xs ys → sum bit xs + sum bit ys ≤ length xs
-apart-sum xs ys e d = omega (arith, parts xs ys e d)
-
-pub neither-sum : (xs ys : List Bool) → length xs ≡ length ys → Apart xs ys → sum bit (neither xs ys) ≡ length xs - (sum bit xs + sum bit ys)
-neither-sum xs ys e d = omega (arith, parts xs ys e d)

@@ -1,13 +1,10 @@
 -- Laws of tests: conjunctions as facts, tests over a list, choices.
-use Prim.Native.Nat.{ℕ, zero, suc, _<_, suc-le-suc}
+use Rattle.mem.proofs.Prelude.{_≡_, ap, refl, subst, true, Bool, false, _&&_, _||_, true≢false, List, [], _∷_, _++_, map, ℕ, _<_, suc, zero}
+use Rattle.mem.proofs.Prelude.{arith, T, eqb, eqb→eq, eqb-refl, length, getD}
+use Prim.Native.Nat.{suc-le-suc}
 use native.Mathlib.Nat.{not-suc-le-zero, le-of-suc-le-suc, zero-lt-suc}
-use native.Mathlib.Omega.{arith}
-use mathlib.Core.Bool.{Bool, true, false, _&&_, _||_, false≢true, true≢false}
-use mathlib.Core.List.{List, [], _∷_, _++_, map}
-use mathlib.Core.Path.{_≡_, refl, ap, subst}
+use mathlib.Core.Bool.{false≢true}
 use lib.Bits.{bitOr, or-add-and, and-le-l, and-le-r}
-use lib.Dec.{T, eqb, eqb→eq, eqb-refl}
-use lib.ListN.{getD, length}
 use Rattle.mem.specs.Lists.{every, any, choose}
 
 pub and-left : (a b : Bool) → T (a && b) → T a

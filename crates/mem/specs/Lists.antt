@@ -3,6 +3,7 @@ use Prim.Native.Nat.{ℕ, zero, suc, _+_}
 use mathlib.Core.Bool.{Bool, true, false, _&&_, _||_}
 use mathlib.Core.Option.{Option, none, some}
 use mathlib.Core.List.{List, [], _∷_, _++_}
+use lib.Dec.{eqb}
 
 -- the first if the test holds, else the second
 unfoldable pub choose {ℓ} : {A : Type ℓ} → Bool → A → A → A
@@ -36,3 +37,9 @@ module _ {ℓ} {A : Type ℓ} where
   abbrev pub join : (A → List ℕ) → List A → List ℕ
   join f [] = []
   join f (x ∷ xs) = f x ++ join f xs
+
+-- whether a list begins with another
+abbrev pub starts : List ℕ → List ℕ → Bool
+starts t [] = true
+starts [] (y ∷ ys) = false
+starts (x ∷ t) (y ∷ ys) = eqb x y && starts t ys

@@ -87,7 +87,7 @@ pub fn copy_within(s: &mut [u8], from: usize, to: usize, n: usize)
     }
 }
 
-// The number in two, three or four bytes.
+// The number in two or three bytes.
 pub fn get2(s: &[u8], at: usize) -> usize
     requires { ⌜ at + 2 ≤ length (now s) ⌝ }
     ensures { λ r. ⌜ r ≡ number (part at 2 (now (s .entry))) ⌝ }
@@ -101,15 +101,7 @@ pub fn get3(s: &[u8], at: usize) -> usize
     ensures { λ r. ⌜ r ≡ number (part at 3 (now (s .entry))) ⌝ }
     ensures small { λ r. ⌜ r < 16777216 ⌝ }
 {
-    wide(s[at]) + 256 * wide(s[at + 1]) + 65536 * wide(s[at + 2])
-}
-
-pub fn get4(s: &[u8], at: usize) -> usize
-    requires { ⌜ at + 4 ≤ length (now s) ⌝ }
-    ensures { λ r. ⌜ r ≡ number (part at 4 (now (s .entry))) ⌝ }
-    ensures small { λ r. ⌜ r < 4294967296 ⌝ }
-{
-    wide(s[at]) + 256 * wide(s[at + 1]) + 65536 * wide(s[at + 2]) + 16777216 * wide(s[at + 3])
+    get2(s, at) + 65536 * wide(s[at + 2])
 }
 
 // A byte, and the number in four, at 32 bits: a loop over many of them is vectorised four at a time.

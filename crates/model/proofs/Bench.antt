@@ -1,19 +1,15 @@
 -- The bench sheet of document 01, W4 and W5 apart, with the facts under it: one list, computed from the definitions over arena
 -- and table room.
-use Prim.Native.Nat.{ℕ, zero, suc, _+_, _/_}
-use mathlib.Core.Bool.{Bool, true, false, _&&_}
-use mathlib.Core.List.{List, [], _∷_, _++_}
-use lib.Dec.{T, eqb}
-use lib.ListN.{set, length}
+use Rattle.mem.proofs.Prelude.{true, Bool, false, _&&_, List, [], _∷_, _++_, _+_, ℕ, suc, _/_, zero, T, eqb, length, set}
 use Rattle.mem.specs.Lists.{choose, every}
 use Rattle.mem.specs.Bytes.{zeros, same, part}
 use Rattle.classes.specs.Classes.{rowBytes, tooLarge, unitsOf, slotBytes, slotsOf, rowsOf, classOf}
 use Rattle.model.specs.State.{slotSound, spanSound, places}
 use Rattle.model.specs.Blocks.{header, guard, spare, frame, headerRight, guardRight, damageIn}
 use Rattle.model.specs.Plans.{Call, grants, releases, resizes, measures, reports, plan, opens, refill, grantSlot, inPlace}
-use Rattle.model.specs.Tables.{slotRecord, rowRecord, laterRecords, spanRecords, roomBytes, viewSlot, viewSlots, viewGroup, viewHolder, viewRows}
-use Rattle.model.specs.Tables.{encode, view, arenaRight, sound}
-use Rattle.model.specs.Calls.{call, setUp, setUpRight, checked, carried}
+use Rattle.model.specs.Tables.{slotRecord, rowRecord, laterRecords, roomBytes, viewSlot, viewSlots, viewGroup, viewHolder}
+use Rattle.model.specs.Tables.{spanRecordsBy, encodeBy, viewRowsBy, viewBy, arenaRight, soundBy}
+use Rattle.model.specs.Calls.{call, setUp, callBy, carriedBy, checkedBy, setUpBy, setUpRightBy, unless}
 
 -- a line of the sheet: a call with the number and values due, bytes due from a place on, or a store into the arena
 pub data Line : Type 0 where
@@ -94,5 +90,8 @@ right (fresh n ls) =
 right (class n c) = eqb (classOf n) c
 
 pub bench : T (every right sheet)
-unfolding right passes sheet choose zeros rowBytes tooLarge unitsOf slotBytes slotsOf rowsOf classOf slotSound spanSound places header guard spare frame headerRight guardRight damageIn opens refill grantSlot inPlace plan slotRecord rowRecord laterRecords spanRecords roomBytes viewSlot viewSlots viewGroup viewHolder viewRows encode view arenaRight sound call setUp setUpRight checked carried
+unfolding right passes sheet choose zeros rowBytes tooLarge unitsOf slotBytes slotsOf rowsOf classOf slotSound spanSound places header guard spare
+    frame headerRight guardRight damageIn
+    opens refill grantSlot inPlace plan slotRecord rowRecord laterRecords spanRecordsBy roomBytes viewSlot viewSlots viewGroup viewHolder viewRowsBy
+    encodeBy viewBy arenaRight soundBy callBy setUpBy setUpRightBy checkedBy carriedBy unless
 bench = tt

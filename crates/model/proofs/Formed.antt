@@ -1,26 +1,16 @@
 -- What a call leaves: a well-formed pool of as many rows; and where it refuses, the pool as it was, and nothing written.
-use Prim.Native.Nat.{ℕ, suc, _+_, _*_, _-_, _≤_, _<_}
-use mathlib.Core.Path.{_≡_, refl, sym, subst, ap, _∙_}
-use mathlib.Core.Bool.{Bool, true, false, _||_}
-use mathlib.Core.Option.{Option, none, some}
-use mathlib.Core.List.{List, [], _∷_, _++_}
-use native.Mathlib.Omega.{arith}
-use lib.Dec.{T, leb, ltb, eqb, leb→le, le→leb, lt→ltb}
-use lib.ListN.{length, length-append}
-use borrow.Author.Tests.{leb-false, eqb-false}
+use Rattle.mem.proofs.Prelude.{_∙_, _≡_, sym, ap, refl, subst, true, Bool, false, _||_, some, none, Option, List, [], _∷_, _++_, _+_, ℕ, _<_, _≤_}
+use Rattle.mem.proofs.Prelude.{_*_, _-_, suc, arith, leb-false, eqb-false, T, eqb, leb, ltb, leb→le, lt→ltb, le→leb, length, length-append}
 use Rattle.mem.specs.Lists.{every, any}
 use Rattle.mem.proofs.Tests.{and-left, and-right, and-both, every-append, choose-case, true-T, eq→eqb}
 use Rattle.classes.specs.Classes.{slotBytes, classOf, slotsOf, rowsOf, tooLarge}
 use Rattle.classes.proofs.Laws.{bytes-least, class-least}
 use Rattle.model.specs.declared.Slot.{Slot}
 use Rattle.model.specs.declared.Slot.the-variants.{Fresh, Idle, Live}
-use Rattle.model.specs.declared.Grant.{Grant}
-use Rattle.model.specs.declared.Release.{Release}
-use Rattle.model.specs.declared.Resize.{Resize}
-use Rattle.model.specs.declared.Measure.{Measure}
+use Rattle.model.specs.declared.Refusal.the-variants.{NoSuchBlock, AlreadyFree}
 use Rattle.model.specs.State.{Pool, Place, group, isLive, count, disp, slotSound, spanSound, wellFormed, poolOf, become, rows, start}
-use Rattle.model.specs.Answers.{grantAnswer, releaseAnswer, resizeAnswer}
-use Rattle.model.specs.Plans.{Plan, refused, reserve, grantAt, grant, lookup, vacant, onBlock, releaseAt, release, inPlace, resizeInPlace, moveTo, resizeMove, resizeAt, resize}
+use Rattle.model.specs.Plans.{Plan, refused, reserve, grantAt, grant, lookup, vacant, onBlock, releaseAt, release, inPlace}
+use Rattle.model.specs.Plans.{resizeInPlace, moveTo, resizeMove, resizeAt, resize}
 use Rattle.model.specs.Plans.{measure, measureAt, report, freshPool, Call, setsUp, grants, releases, resizes, measures, reports, plan}
 use Rattle.model.proofs.Rooms.{rows-append}
 use Rattle.model.proofs.Fresh.{fresh-formed, fresh-rows}
@@ -52,22 +42,23 @@ pub vacant-sound : (c : ℕ) (x : Slot) → T (isLive x) → T (slotSound c x) �
 unfolding slotSound
 vacant-sound c Fresh l t = absurd l
 vacant-sound c (Idle r k d) l t = absurd l
-vacant-sound c (Live k d n) l t =
-    let u : T (leb (16 * d + n) (slotBytes c - 4)) = search (and-left, and-right) in
-    and-both (ltb k 256) (leb (16 * d) (slotBytes c - 4)) (search (and-left, and-right))
-    (le→leb (16 * d) (slotBytes c - 4) (omega (arith, leb→le (16 * d + n) (slotBytes c - 4) u)))
+vacant-sound c (Live a) l t =
+    let u : T (leb (16 * a .disp + a .size) (slotBytes c - 4)) = search (and-left, and-right) in
+    and-both (ltb (a .count) 256) (leb (16 * a .disp) (slotBytes c - 4)) (search (and-left, and-right))
+    (le→leb (16 * a .disp) (slotBytes c - 4) (omega (arith, leb→le (16 * a .disp + a .size) (slotBytes c - 4) u)))
 
 -- a live slot may get another size in place
-pub resized-sound : (c : ℕ) (x : Slot) (n : ℕ) → c < 48 → T (isLive x) → T (slotSound c x) → n < tooLarge → n ≤ slotBytes c - 4 - 16 * disp x → c ≤ suc (classOf n)
-    → T (slotSound c (Live (count x) (disp x) n))
+pub resized-sound : (c : ℕ) (x : Slot) (n : ℕ) → c < 48 → T (isLive x) → T (slotSound c x) → n < tooLarge → n ≤ slotBytes c - 4 - 16 * disp x
+    → c ≤ suc (classOf n)
+    → T (slotSound c (Live (record { count = count x; disp = disp x; size = n })))
 unfolding slotSound
 resized-sound c Fresh n h l t s f k = absurd l
 resized-sound c (Idle r j d) n h l t s f k = absurd l
-resized-sound c (Live j d m) n h l t s f k =
-    let u : T (leb (16 * d + m) (slotBytes c - 4)) = search (and-left, and-right) in
-    let u₁ : T (ltb j 256) = search (and-left, and-right) in
-    let v : 16 * d + n ≤ slotBytes c - 4 = omega (arith, leb→le (16 * d + m) (slotBytes c - 4) u) in
-    let u₂ : T (leb (16 * d + n) (slotBytes c - 4)) = le→leb (16 * d + n) (slotBytes c - 4) v in
+resized-sound c (Live a) n h l t s f k =
+    let u : T (leb (16 * a .disp + a .size) (slotBytes c - 4)) = search (and-left, and-right) in
+    let u₁ : T (ltb (a .count) 256) = search (and-left, and-right) in
+    let v : 16 * a .disp + n ≤ slotBytes c - 4 = omega (arith, leb→le (16 * a .disp + a .size) (slotBytes c - 4) u) in
+    let u₂ : T (leb (16 * a .disp + n) (slotBytes c - 4)) = le→leb (16 * a .disp + n) (slotBytes c - 4) v in
     let u₃ : T (ltb n tooLarge) = lt→ltb n tooLarge s in
     let u₄ : T (eqb c (classOf n) || eqb c (suc (classOf n))) = same-or-next c (classOf n) (class-least n c (omega (arith, bytes-least c h))) k in
     search and-both
@@ -104,7 +95,8 @@ module _ (row : ℕ) where
       every-append (slotSound c) (p .lower) (x ∷ p .upper) (f .others .0) (and-both (slotSound c x) (every (slotSound c) (p .upper)) s (f .others .1)) in
       let g : T (spanSound (group c ss)) = search and-both in
       record {
-        formed = every-append spanSound (p .before) (group c ss ∷ p .after) (f .before) (and-both (spanSound (group c ss)) (wellFormed (p .after)) g (f .after));
+        formed = every-append spanSound (p .before) (group c ss ∷ p .after) (f .before)
+            (and-both (spanSound (group c ss)) (wellFormed (p .after)) g (f .after));
         long = rows-append row (p .before) (group c ss ∷ p .after) ∙ sym (rows-append row (p .before) (group c (p .lower ++ (p .state ∷ p .upper)) ∷ p .after));
       }
 
@@ -114,7 +106,8 @@ module _ (row : ℕ) where
       let f : Fits p = fits p w in
       let F : Pool = freshPool (rowsOf row (p .cls)) in
       record {
-        formed = every-append spanSound (p .before) (F ++ p .after) (f .before) (every-append spanSound F (p .after) (fresh-formed (rowsOf row (p .cls))) (f .after));
+        formed = every-append spanSound (p .before) (F ++ p .after) (f .before)
+            (every-append spanSound F (p .after) (fresh-formed (rowsOf row (p .cls))) (f .after));
         long = rows-append row (p .before) (F ++ p .after)
             ∙ ap (λ k. rows row (p .before) + k) (rows-append row F (p .after) ∙ ap (λ k. k + rows row (p .after)) (fresh-rows row (rowsOf row (p .cls))))
             ∙ sym (rows-append row (p .before) (group (p .cls) (p .lower ++ (p .state ∷ p .upper)) ∷ p .after));
@@ -125,8 +118,9 @@ module _ (row : ℕ) where
   pub release-formed : (p : Place) → T (wellFormed (poolOf p)) → T (isLive (p .state)) → Formed (poolOf p) (releaseAt row p .pool)
   unfolding releaseAt
   release-formed p w l =
-      choose-case (λ (r : Plan Release). Formed (poolOf p) (r .pool)) (any isLive (p .lower ++ p .upper)) _ _
-      (λ e. become-formed p (vacant p) w (vacant-sound (p .cls) (p .state) l (fits p w .state)) (true-T _ (any-middle isLive (p .lower) (vacant p) (p .upper) ∙ e)))
+      choose-case (λ (r : Plan). Formed (poolOf p) (r .pool)) (any isLive (p .lower ++ p .upper)) _ _
+      (λ e. become-formed p (vacant p) w (vacant-sound (p .cls) (p .state) l (fits p w .state))
+      (true-T _ (any-middle isLive (p .lower) (vacant p) (p .upper) ∙ e)))
       (λ e. freed-formed p w)
 
   pub resize-in-place-formed : (p : Place) (n : ℕ) → T (wellFormed (poolOf p)) → T (isLive (p .state)) → n < tooLarge → T (inPlace p n)
@@ -134,7 +128,7 @@ module _ (row : ℕ) where
   unfolding resizeInPlace inPlace
   resize-in-place-formed p n w l h t =
       let f : Fits p = fits p w in
-      let x : Slot = Live (count (p .state)) (disp (p .state)) n in
+      let x : Slot = Live (record { count = count (p .state); disp = disp (p .state); size = n }) in
       become-formed p x w
       (resized-sound (p .cls) (p .state) n (f .class) l (f .state) h (leb→le n (slotBytes (p .cls) - 4 - 16 * disp (p .state)) (search and-left))
       (leb→le (p .cls) (suc (classOf n)) (search (and-left, and-right))))
@@ -144,29 +138,24 @@ module _ (row : ℕ) where
   pub unchanged : (P : Pool) → T (wellFormed P) → Formed P P
   unchanged P w = record { formed = w; long = refl }
 
--- a plan that leaves the pool as it was and writes nothing
-abbrev pub Quiet : {A : Type 0} → Pool → Plan A → Type 0
-Quiet P r = (r .pool ≡ P) × (r .changes ≡ [])
-
 module _ (row : ℕ) (pos : 0 < row) where
   -- what a call on a block does, by what is found at its offset
-  pub on-block : {A : Type 0} (M : Plan A → Type 0) (absent freed : A) (P : Pool) (o : ℕ) (f : Place → Plan A)
-      → M (refused absent P) → M (refused freed P)
-      → ((p : Place) → lookup row P o ≡ some p → poolOf p ≡ P → T (isLive (p .state)) → M (f p))
-      → M (onBlock absent freed P f (lookup row P o))
-  on-block {A} M absent freed P o f none-there idle-there live-there = go (lookup row P o) refl
+  pub on-block : (M : Plan → Type 0) (P : Pool) (o : ℕ) (f : Place → Plan) → M (refused NoSuchBlock P) → M (refused AlreadyFree P)
+      → ((p : Place) → lookup row P o ≡ some p → poolOf p ≡ P → T (isLive (p .state)) → M (f p)) → M (onBlock P f (lookup row P o))
+  on-block M P o f none-there idle-there live-there = go (lookup row P o) refl
     where
-      go : (r : Option Place) → lookup row P o ≡ r → M (onBlock absent freed P f r)
+      go : (r : Option Place) → lookup row P o ≡ r → M (onBlock P f r)
       go none e = none-there
       go (some p) e =
-          choose-case M (isLive (p .state)) (f p) (refused freed P) (λ l. live-there p e (lookup-found row pos P o p e .0) (true-T (isLive (p .state)) l)) (λ l. idle-there)
+          choose-case M (isLive (p .state)) (f p) (refused AlreadyFree P)
+          (λ l. live-there p e (lookup-found row pos P o p e .0) (true-T (isLive (p .state)) l)) (λ l. idle-there)
 
   -- ---- calls
 
   pub grant-formed : (P : Pool) (n : ℕ) → T (wellFormed P) → Formed row P (grant row P n .pool)
   unfolding grant
   grant-formed P n w =
-      choose-case (λ (r : Plan Grant). Formed row P (r .pool)) (leb tooLarge n) _ _ (λ e. unchanged row P w) (λ e. go (leb-false tooLarge n e) (reserve row P n) refl)
+      choose-case (λ (r : Plan). Formed row P (r .pool)) (leb tooLarge n) _ _ (λ e. unchanged row P w) (λ e. go (leb-false tooLarge n e) (reserve row P n) refl)
     where
       go : n < tooLarge → (r : Option Place) → reserve row P n ≡ r → Formed row P (grantAt row P r .pool)
       go h none e = unchanged row P w
@@ -175,7 +164,7 @@ module _ (row : ℕ) (pos : 0 < row) where
   pub release-plan-formed : (P : Pool) (o : ℕ) → T (wellFormed P) → Formed row P (release row P o .pool)
   unfolding release
   release-plan-formed P o w =
-      on-block (λ (r : Plan Release). Formed row P (r .pool)) _ _ P o (releaseAt row) (unchanged row P w) (unchanged row P w)
+      on-block (λ (r : Plan). Formed row P (r .pool)) P o (releaseAt row) (unchanged row P w) (unchanged row P w)
       (λ p f e l. subst (λ Q. Formed row Q (releaseAt row p .pool)) e (release-formed row p (subst (λ Q. T (wellFormed Q)) (sym e) w) l))
 
   pub resize-move-formed : (P : Pool) (p : Place) (n : ℕ) → T (wellFormed P) → n < tooLarge → Formed row P (resizeMove row P p n .pool)
@@ -192,9 +181,9 @@ module _ (row : ℕ) (pos : 0 < row) where
   pub resize-formed : (P : Pool) (o n : ℕ) → T (wellFormed P) → Formed row P (resize row P o n .pool)
   unfolding resize resizeAt
   resize-formed P o n w =
-      let M : Plan Resize → Type 0 = λ r. Formed row P (r .pool) in
+      let M : Plan → Type 0 = λ r. Formed row P (r .pool) in
       choose-case M (leb tooLarge n) _ _ (λ e. unchanged row P w)
-      (λ e. on-block M _ _ P o (resizeAt row P n) (unchanged row P w) (unchanged row P w)
+      (λ e. on-block M P o (resizeAt row P n) (unchanged row P w) (unchanged row P w)
       (λ p f q l. choose-case M (inPlace p n) (resizeInPlace row p n) (resizeMove row P p n)
       (λ t. subst (λ Q. Formed row Q (resizeInPlace row p n .pool)) q
       (resize-in-place-formed row p n (subst (λ Q. T (wellFormed Q)) (sym q) w) l (leb-false tooLarge n e) (true-T (inPlace p n) t)))
@@ -202,7 +191,8 @@ module _ (row : ℕ) (pos : 0 < row) where
 
   measure-formed : (P : Pool) (o : ℕ) → T (wellFormed P) → Formed row P (measure row P o .pool)
   unfolding measure
-  measure-formed P o w = on-block (λ (r : Plan Measure). Formed row P (r .pool)) _ _ P o (measureAt row P) (unchanged row P w) (unchanged row P w) (λ p f e l. unchanged row P w)
+  measure-formed P o w =
+      on-block (λ (r : Plan). Formed row P (r .pool)) P o (measureAt row P) (unchanged row P w) (unchanged row P w) (λ p f e l. unchanged row P w)
 
   -- every call leaves a well-formed pool of as many rows
   pub plan-formed : (P : Pool) (c : Call) → T (wellFormed P) → Formed row P (plan row P c .pool)
@@ -213,49 +203,3 @@ module _ (row : ℕ) (pos : 0 < row) where
   plan-formed P (resizes o n) w = resize-formed P o n w
   plan-formed P (measures o) w = measure-formed P o w
   plan-formed P reports w = unchanged row P w
-
-  -- ---- refusals
-
-  grant-refused : (P : Pool) (n : ℕ) → (grantAnswer (grant row P n .answer) .number ≡ 0 → ⊥) → Quiet P (grant row P n)
-  unfolding grant
-  grant-refused P n =
-      choose-case (λ (r : Plan Grant). (grantAnswer (r .answer) .number ≡ 0 → ⊥) → Quiet P r) (leb tooLarge n) _ _ (λ e z. (refl, refl)) (λ e. go (reserve row P n))
-    where
-      go : (r : Option Place) → (grantAnswer (grantAt row P r .answer) .number ≡ 0 → ⊥) → Quiet P (grantAt row P r)
-      go none z = (refl, refl)
-      go (some q) z = absurd (z refl)
-
-  release-refused : (P : Pool) (o : ℕ) → (releaseAnswer (release row P o .answer) .number ≡ 0 → ⊥) → Quiet P (release row P o)
-  unfolding release releaseAt
-  release-refused P o =
-      let M : Plan Release → Type 0 = λ r. (releaseAnswer (r .answer) .number ≡ 0 → ⊥) → Quiet P r in
-      on-block M _ _ P o (releaseAt row) (λ z. (refl, refl)) (λ z. (refl, refl))
-      (λ p f e l. choose-case M (any isLive (p .lower ++ p .upper)) _ _ (λ e z. absurd (z refl)) (λ e z. absurd (z refl)))
-
-  resize-refused : (P : Pool) (o n : ℕ) → (resizeAnswer (resize row P o n .answer) .number ≡ 0 → ⊥) → Quiet P (resize row P o n)
-  unfolding resize resizeAt resizeInPlace resizeMove
-  resize-refused P o n =
-      choose-case M (leb tooLarge n) _ _ (λ e z. (refl, refl))
-      (λ e. on-block M _ _ P o (resizeAt row P n) (λ z. (refl, refl)) (λ z. (refl, refl))
-      (λ p f q l. choose-case M (inPlace p n) (resizeInPlace row p n) (resizeMove row P p n) (λ t z. absurd (z refl)) (λ t. go p (reserve row P n))))
-    where
-      M : Plan Resize → Type 0
-      M r = (resizeAnswer (r .answer) .number ≡ 0 → ⊥) → Quiet P r
-
-      go : (p : Place) (r : Option Place) → M (moveTo row P p n r)
-      go p none z = (refl, refl)
-      go p (some q) z = absurd (z refl)
-
-  measure-quiet : (P : Pool) (o : ℕ) → Quiet P (measure row P o)
-  unfolding measure
-  measure-quiet P o = on-block (Quiet P) _ _ P o (measureAt row P) (refl, refl) (refl, refl) (λ p f e l. (refl, refl))
-
-  -- a plan that refuses leaves the pool as it was and writes nothing
-  pub plan-refused : (P : Pool) (c : Call) → (plan row P c .answer .number ≡ 0 → ⊥) → Quiet P (plan row P c)
-  unfolding plan report
-  plan-refused P setsUp z = absurd (z refl)
-  plan-refused P (grants n) z = grant-refused P n z
-  plan-refused P (releases o) z = release-refused P o z
-  plan-refused P (resizes o n) z = resize-refused P o n z
-  plan-refused P (measures o) z = measure-quiet P o
-  plan-refused P reports z = absurd (z refl)

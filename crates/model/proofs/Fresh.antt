@@ -1,20 +1,14 @@
 -- A pool with no groups, and what an accepted set up leaves.
-use Prim.Native.Nat.{ℕ, zero, suc, _*_, _-_, _/_, _%_, _<_}
-use mathlib.Core.Path.{_≡_, refl, sym, ap, _∙_}
-use mathlib.Core.List.{List}
+use Rattle.mem.proofs.Prelude.{_∙_, _≡_, sym, ap, refl, List, [], _∷_, ℕ, _<_, _*_, _-_, suc, _/_, zero, _%_, arith, T, eqb→eq, length}
 use native.Mathlib.Nat.{div-add-mod}
-use native.Mathlib.Omega.{arith}
-use lib.Dec.{T, eqb→eq}
-use lib.ListN.{length}
 use Rattle.mem.specs.Bytes.{zeros}
 use Rattle.mem.proofs.Tests.{and-left, and-right, T-true, choose-true}
-use Rattle.model.specs.declared.SetUp.{SetUp}
 use Rattle.model.specs.State.{wellFormed, spanSound, rows}
-use Rattle.model.specs.Answers.{setUpAnswer}
+use Rattle.model.specs.Answers.{done}
 use Rattle.model.specs.Plans.{freshPool}
 use Rattle.model.specs.Tables.{encode, arenaRight, sound}
-use Rattle.model.specs.Calls.{setUp, setUpRight}
-use Rattle.model.proofs.Tables.{encode-sound}
+use Rattle.model.specs.Calls.{setUp, setUpRight, setUpBy, setUpRightBy}
+use Rattle.model.proofs.Tables.{masks-laws, encode-sound}
 
 pub fresh-formed : (n : ℕ) → T (wellFormed (freshPool n))
 unfolding spanSound
@@ -34,14 +28,14 @@ whole-rows row n t =
 
 module _ (row : ℕ) (a t : List ℕ) (h : T (setUpRight row a t)) where
   pub set-up-lawful : T (arenaRight row (length a))
-  unfolding setUpRight
+  unfolding setUpRightBy
   set-up-lawful = search and-left
 
-  pub set-up-done : setUp row a t ≡ record { answer = setUpAnswer SetUp.Done; arena = zeros (length a); room = encode row (freshPool (length a / row)) }
-  unfolding setUp
+  pub set-up-done : setUp row a t ≡ record { answer = done (0 ∷ []); arena = zeros (length a); room = encode row (freshPool (length a / row)) }
+  unfolding setUpBy
   set-up-done = choose-true (setUpRight row a t) _ _ (T-true (setUpRight row a t) h)
 
   pub set-up-sound : 0 < row → T (sound row (length a) (encode row (freshPool (length a / row))))
   set-up-sound pos =
-      encode-sound row pos (freshPool (length a / row)) (length a) (fresh-formed (length a / row)) set-up-lawful
+      encode-sound masks-laws row pos (freshPool (length a / row)) (length a) (fresh-formed (length a / row)) set-up-lawful
       (sym (ap (λ n. row * n) (fresh-rows row (length a / row)) ∙ whole-rows row (length a) set-up-lawful))

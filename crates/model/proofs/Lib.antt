@@ -4,5 +4,8 @@ pub mod Rooms
 pub mod Fresh
 pub mod Lookup
 pub mod Reserve
+pub mod Lowest
+pub mod Blocks
 pub mod Formed
 pub mod Calls
+pub mod Forms

@@ -1,15 +1,9 @@
 -- A granted slot is found by its start, and by nothing else.
-use Prim.Native.Nat.{ℕ, suc, _+_, _*_, _-_, _/_, _≤_, _<_, max}
-use mathlib.Core.Path.{_≡_, refl, sym, subst, ap, ap₂}
-use mathlib.Core.Bool.{Bool, true, false}
-use mathlib.Core.Logic.{_⊎_, inl, inr}
-use mathlib.Core.Option.{Option, none, some}
-use mathlib.Core.List.{List, [], _∷_, _++_, append-assoc, append-nil}
-use native.Mathlib.Nat.{mul-le-mul-right, mul-add, suc-mul, mul-comm, le-div-iff-mul-le, div-lt-iff-lt-mul}
-use native.Mathlib.Omega.{arith}
-use lib.Dec.{T, leb, eqb, leb→le, ltb→lt, eqb→eq}
-use lib.ListN.{length, length-append}
-use borrow.Author.Tests.{eq-eqb, leb-true, leb-false}
+use Rattle.mem.proofs.Prelude.{_≡_, sym, ap, refl, ap₂, subst, true, Bool, false, inl, inr, _⊎_, some, none, Option, List, [], _∷_, _++_}
+use Rattle.mem.proofs.Prelude.{append-assoc, append-nil, _+_, ℕ, _<_, _≤_, _*_, _-_, suc, _/_, mul-comm, le-div-iff-mul-le, mul-add, arith, eq-eqb}
+use Rattle.mem.proofs.Prelude.{leb-false, leb-true, T, eqb, leb, eqb→eq, leb→le, ltb→lt, length, length-append}
+use Prim.Native.Nat.{max}
+use native.Mathlib.Nat.{mul-le-mul-right, suc-mul, div-lt-iff-lt-mul}
 use Rattle.mem.specs.Lists.{choose, every, find}
 use Rattle.mem.proofs.Tests.{and-left, and-right, every-left, every-right, choose-case, choose-true, T-true, true-T}
 use Rattle.classes.specs.Classes.{slotBytes, slotsOf, rowsOf}
@@ -92,7 +86,8 @@ slot-places-of : (X : Pool) (c : ℕ) (us xs : List Slot) (Y : Pool) → All (Of
 slot-places-of X c us [] Y = tt
 slot-places-of X c us (x ∷ xs) Y =
     let r : All (Of (X ++ (group c (us ++ (x ∷ xs)) ∷ Y))) (slotPlaces X c (us ++ (x ∷ [])) xs Y) =
-    subst (λ l. All (Of (X ++ (group c l ∷ Y))) (slotPlaces X c (us ++ (x ∷ [])) xs Y)) (append-assoc us (x ∷ []) xs) (slot-places-of X c (us ++ (x ∷ [])) xs Y) in
+    subst (λ l. All (Of (X ++ (group c l ∷ Y))) (slotPlaces X c (us ++ (x ∷ [])) xs Y)) (append-assoc us (x ∷ []) xs)
+    (slot-places-of X c (us ++ (x ∷ [])) xs Y) in
     choose-case (All (Of (X ++ (group c (us ++ (x ∷ xs)) ∷ Y)))) (granted x) (placed X c us x xs Y ∷ slotPlaces X c (us ++ (x ∷ [])) xs Y) _
     (λ e. ((refl, true-T (granted x) e), r)) (λ e. r)
 
@@ -159,7 +154,11 @@ fits p w =
       slots = n;
       number = omega (arith, n, length-append (p .lower) (p .state ∷ p .upper));
       state = and-left (slotSound (p .cls) (p .state)) (every (slotSound (p .cls)) (p .upper)) t;
-      others = (every-left (slotSound (p .cls)) (p .lower) (p .state ∷ p .upper) e, and-right (slotSound (p .cls) (p .state)) (every (slotSound (p .cls)) (p .upper)) t);
+      others = (
+        every-left (slotSound (p .cls)) (p .lower) (p .state ∷ p .upper) e,
+        and-right (slotSound (p .cls) (p .state))
+            (every (slotSound (p .cls)) (p .upper)) t,
+      );
       before = every-left spanSound (p .before) (group (p .cls) ss ∷ p .after) w;
       after = and-right (spanSound (group (p .cls) ss)) (wellFormed (p .after)) r;
     }
@@ -170,8 +169,8 @@ unfolding slotSound
 disp-inside c Fresh h t = omega (arith, bytes-least c h)
 disp-inside c (Idle r k d) h t =
     let l : T (leb (16 * d) (slotBytes c - 4)) = search (and-left, and-right) in omega (arith, bytes-least c h, leb→le)
-disp-inside c (Live k d n) h t =
-    let l : T (leb (16 * d + n) (slotBytes c - 4)) = search (and-left, and-right) in omega (arith, bytes-least c h, leb→le)
+disp-inside c (Live a) h t =
+    let l : T (leb (16 * a .disp + a .size) (slotBytes c - 4)) = search (and-left, and-right) in omega (arith, bytes-least c h, leb→le)
 
 module _ (row : ℕ) (pos : 0 < row) where
   -- the bytes of a slot lie in its group's rows
@@ -289,7 +288,8 @@ one-slot s i j x a b c d =
 
 module _ (row : ℕ) (pos : 0 < row) where
   -- the row of an owned byte is one of its group's
-  owned-row : (p : Place) (i : ℕ) → T (wellFormed (poolOf p)) → Owns row p i → InRows row pos (i / row) (p .before) (group (p .cls) (p .lower ++ (p .state ∷ p .upper)))
+  owned-row : (p : Place) (i : ℕ) → T (wellFormed (poolOf p)) → Owns row p i
+      → InRows row pos (i / row) (p .before) (group (p .cls) (p .lower ++ (p .state ∷ p .upper)))
   owned-row p i w o = record {
     from = le-div-iff-mul-le pos .1 (omega (arith, o .from, mul-comm row (rows row (p .before))));
     to = div-lt-iff-lt-mul pos .1
@@ -343,5 +343,6 @@ module _ (row : ℕ) (pos : 0 < row) where
           let l : owned row q < owned row p + slotBytes (p .cls) = leb-false (owned row p + slotBytes (p .cls)) (owned row q) h in
           let below : owned row p < owned row q + slotBytes (q .cls) → ⊥ =
           λ m. d (owned-unique p q (max (owned row p) (owned row q)) w e
-          (record { from = omega arith; to = omega (arith, bytes-least (p .cls) (f .class)) }) (record { from = omega arith; to = omega (arith, bytes-least (q .cls) (g .class)) })) in
+          (record { from = omega arith; to = omega (arith, bytes-least (p .cls) (f .class)) })
+          (record { from = omega arith; to = omega (arith, bytes-least (q .cls) (g .class)) })) in
           inr (omega arith)

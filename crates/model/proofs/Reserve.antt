@@ -1,66 +1,23 @@
 -- What a grant takes: the pool that it makes is well formed, and every live block stays where it is.
-use Prim.Native.Nat.{ℕ, zero, suc, _+_, _*_, _-_, _/_, _%_, _≤_, _<_}
-use mathlib.Core.Path.{_≡_, refl, sym, subst, ap, ap₂, _∙_}
-use mathlib.Core.Bool.{Bool, true, false, _&&_, _||_, not, true≢false}
-use mathlib.Core.Logic.{_⊎_, inl, inr, ⊎-elim}
-use mathlib.Core.Option.{Option, none, some}
-use mathlib.Core.List.{List, [], _∷_, _++_, map, append-assoc, append-nil}
-use native.Mathlib.Nat.{mod-lt, add-zero}
-use native.Mathlib.Omega.{arith}
-use lib.Dec.{T, leb, ltb, eqb, eqb→eq, eqb-refl, le→leb, lt→ltb}
-use lib.ListN.{length, getD, drop, replicate, length-append, length-map, length-replicate}
-use lib.Seq.{split-at, length-take-le}
-use borrow.Author.Tests.{eq-eqb}
+use Rattle.mem.proofs.Prelude.{_∙_, _≡_, sym, ap, refl, subst, true, Bool, false, _&&_, not, _||_, ⊎-elim, inl, inr, _⊎_, some, none, Option, List}
+use Rattle.mem.proofs.Prelude.{[], _∷_, _++_, append-assoc, map, append-nil, _+_, ℕ, _<_, _≤_, _*_, _-_, suc, _/_, zero, _%_, add-zero, arith, eq-eqb}
+use Rattle.mem.proofs.Prelude.{T, eqb, leb, ltb, eqb→eq, eqb-refl, lt→ltb, le→leb, length, drop, getD, length-append, replicate, length-map}
+use Rattle.mem.proofs.Prelude.{length-replicate, length-take-le}
+use native.Mathlib.Nat.{mod-lt}
+use lib.Seq.{split-at}
 use Rattle.mem.specs.Lists.{choose, every, any, first}
 use Rattle.mem.proofs.Tests.{and-left, and-right, and-both, every-left, every-right, every-append, choose-case, T-true, true-T}
+use Rattle.mem.proofs.Splits.{Before, Within, Behind, splits}
 use Rattle.classes.specs.Classes.{slotBytes, classOf, slotsOf, rowsOf, tooLarge}
 use Rattle.classes.proofs.Laws.{ClassFacts, class-facts, slots-pos, rows-pos}
 use Rattle.model.specs.declared.Slot.{Slot}
 use Rattle.model.specs.declared.Slot.the-variants.{Fresh, Idle, Live}
-use Rattle.model.specs.State.{Span, Pool, Place, free, group, isLive, isReady, count, slotSound, spanSound, wellFormed, poolOf, slotNumber, rowsIn, rows, size}
-use Rattle.model.specs.Plans.{Site, slotsIn, opens, openFrom, run, turnReady, refill, grantSlot, grantIn, runFrom, siteOr, site, reserveIn, reserve, freshPool}
+use Rattle.model.specs.State.{Span, Pool, Place, free, group, isLive, isReady, count, slotSound, spanSound, wellFormed, poolOf, slotNumber, rows, size}
+use Rattle.model.specs.Plans.{Site, opens, openFrom, run, turnReady, refill, grantSlot, grantIn, runFrom, siteOr, site, reserveIn, reserve, freshPool}
 use Rattle.model.proofs.Tables.{group-slots}
 use Rattle.model.proofs.Rooms.{rows-append}
 use Rattle.model.proofs.Fresh.{fresh-rows}
 use Rattle.model.proofs.Lookup.{placed, InRows, span-unique, split-unique}
-
--- ---- one list split round a part, and round an element
-
--- the element stands before the part, in it, or after it
-abbrev pub Before : {A : Type 0} → List A → List A → List A → List A → A → List A → Type 0
-Before {A} X M Y W h Z = (R : List A) × (X ≡ W ++ (h ∷ R)) × (Z ≡ R ++ (M ++ Y))
-
-abbrev pub Within : {A : Type 0} → List A → List A → List A → List A → A → List A → Type 0
-Within {A} X M Y W h Z = (L : List A) × (R : List A) × (M ≡ L ++ (h ∷ R)) × (W ≡ X ++ L) × (Z ≡ R ++ Y)
-
-abbrev pub Behind : {A : Type 0} → List A → List A → List A → List A → A → List A → Type 0
-Behind {A} X M Y W h Z = (R : List A) × (W ≡ X ++ (M ++ R)) × (Y ≡ R ++ (h ∷ Z))
-
-within-or-behind : {A : Type 0} (M Y W : List A) (h : A) (Z : List A) → M ++ Y ≡ W ++ (h ∷ Z) → Within [] M Y W h Z ⊎ Behind [] M Y W h Z
-within-or-behind [] Y W h Z e = inr (W, refl, e)
-within-or-behind (m ∷ M) Y [] h Z e =
-    let p : m ≡ h = cc in
-    let q : M ++ Y ≡ Z = cc in
-    inl ([], M, ap (λ x. x ∷ M) p, refl, sym q)
-within-or-behind (m ∷ M) Y (w ∷ W) h Z e =
-    let p : m ≡ w = cc in
-    let q : M ++ Y ≡ W ++ (h ∷ Z) = cc in
-    ⊎-elim (λ u. inl (m ∷ u .0, u .1, ap (λ l. m ∷ l) (u .2), ap₂ (λ a b. a ∷ b) (sym p) (u .3), u .4))
-    (λ v. inr (v .0, ap₂ (λ a b. a ∷ b) (sym p) (v .1), v .2)) (within-or-behind M Y W h Z q)
-
-pub splits : {A : Type 0} (X M Y W : List A) (h : A) (Z : List A) → X ++ (M ++ Y) ≡ W ++ (h ∷ Z)
-    → Before X M Y W h Z ⊎ (Within X M Y W h Z ⊎ Behind X M Y W h Z)
-splits [] M Y W h Z e = inr (within-or-behind M Y W h Z e)
-splits (x ∷ X) M Y [] h Z e =
-    let p : x ≡ h = cc in
-    let q : X ++ (M ++ Y) ≡ Z = cc in
-    inl (X, ap (λ y. y ∷ X) p, sym q)
-splits (x ∷ X) M Y (w ∷ W) h Z e =
-    let p : x ≡ w = cc in
-    let q : X ++ (M ++ Y) ≡ W ++ (h ∷ Z) = cc in
-    ⊎-elim (λ v. inl (v .0, ap₂ (λ a b. a ∷ b) p (v .1), v .2))
-    (λ s. inr (⊎-elim (λ u. inl (u .0, u .1, u .2, ap₂ (λ a b. a ∷ b) (sym p) (u .3), u .4)) (λ v. inr (v .0, ap₂ (λ a b. a ∷ b) (sym p) (v .1), v .2)) s))
-    (splits X M Y W h Z q)
 
 -- ---- refill
 
@@ -68,16 +25,18 @@ pub any-turn : (ss : List Slot) → T (any (λ x. not (isLive x)) ss) → T (any
 any-turn [] t = t
 any-turn (Fresh ∷ ss) t = tt
 any-turn (Idle r k d ∷ ss) t = tt
-any-turn (Live k d n ∷ ss) t = any-turn ss t
+any-turn (Live a ∷ ss) t = any-turn ss t
 
 pub turn-sound : (c : ℕ) (ss : List Slot) → T (every (slotSound c) ss) → T (every (slotSound c) (map turnReady ss))
 unfolding slotSound
 turn-sound c [] t = tt
 turn-sound c (Fresh ∷ ss) t = turn-sound c ss t
 turn-sound c (Idle r k d ∷ ss) t =
-    and-both (slotSound c (Idle r k d)) _ (and-left (slotSound c (Idle r k d)) (every (slotSound c) ss) t) (turn-sound c ss (and-right (slotSound c (Idle r k d)) (every (slotSound c) ss) t))
-turn-sound c (Live k d n ∷ ss) t =
-    and-both (slotSound c (Live k d n)) _ (and-left (slotSound c (Live k d n)) (every (slotSound c) ss) t) (turn-sound c ss (and-right (slotSound c (Live k d n)) (every (slotSound c) ss) t))
+    and-both (slotSound c (Idle r k d)) _ (and-left (slotSound c (Idle r k d)) (every (slotSound c) ss) t)
+    (turn-sound c ss (and-right (slotSound c (Idle r k d)) (every (slotSound c) ss) t))
+turn-sound c (Live a ∷ ss) t =
+    and-both (slotSound c (Live a)) _ (and-left (slotSound c (Live a)) (every (slotSound c) ss) t)
+    (turn-sound c ss (and-right (slotSound c (Live a)) (every (slotSound c) ss) t))
 
 -- a group with a slot not live has a ready one after refill
 pub refill-ready : (ss : List Slot) → T (any (λ x. not (isLive x)) ss) → T (any isReady (refill ss))
@@ -99,7 +58,8 @@ unfolding choose
 first-ready [] t = absurd t
 first-ready (x ∷ ss) t = go (isReady x) refl t (λ u. first-ready ss u)
   where
-    go : (b : Bool) → isReady x ≡ b → T (b || any isReady ss) → (T (any isReady ss) → (first isReady ss < length ss) × T (isReady (getD ss (first isReady ss) Fresh)))
+    go : (b : Bool) → isReady x ≡ b → T (b || any isReady ss)
+        → (T (any isReady ss) → (first isReady ss < length ss) × T (isReady (getD ss (first isReady ss) Fresh)))
         → (choose b 0 (suc (first isReady ss)) < suc (length ss)) × T (isReady (getD (x ∷ ss) (choose b 0 (suc (first isReady ss))) Fresh))
     go true e u r = (omega arith, true-T (isReady x) e)
     go false e u r = (omega (arith, r u .0), r u .1)
@@ -128,7 +88,7 @@ open-found X (group k ss ∷ Y) c s e = go (opens c (group k ss)) refl e (λ e. 
         let t : T (eqb k c && any (λ x. not (isLive x)) ss) = true-T (opens c (group k ss)) h in
         let q : k ≡ c = eqb→eq k c (and-left (eqb k c) (any (λ x. not (isLive x)) ss) t) in
         let p : _≡_ {A = Site} (record { before = X; slots = ss; after = Y }) s = cc in
-        subst (Open (X ++ (group k ss ∷ Y)) c) p (record { split = ap (λ j. X ++ (group j ss ∷ Y)) q; room = and-right (eqb k c) (any (λ x. not (isLive x)) ss) t })
+        subst (Open (X ++ (group k ss ∷ Y)) c) p (record { split = ap (λ j. X ++ (group j ss ∷ Y)) q; room = and-right (eqb k c) _ t })
     go false h e r = subst (λ P. Open P c s) (append-assoc X (group k ss ∷ []) Y) (r e)
 
 run-free : (k : ℕ) (P : Pool) → T (run k P) → P ≡ freshPool k ++ drop k P
@@ -155,7 +115,10 @@ module _ (row : ℕ) where
           → (runFrom row (X ++ (y ∷ [])) c Y ≡ some s → New ((X ++ (y ∷ [])) ++ Y) c s) → New (X ++ (y ∷ Y)) c s
       go true h e r =
           let p : here ≡ s = cc in
-          subst (New (X ++ (y ∷ Y)) c) p (record { split = ap (λ Q. X ++ Q) (run-free (rowsOf row c) (y ∷ Y) (true-T (run (rowsOf row c) (y ∷ Y)) h)); slots = refl })
+          subst (New (X ++ (y ∷ Y)) c) p (record {
+            split = ap (λ Q. X ++ Q) (run-free (rowsOf row c) (y ∷ Y) (true-T (run (rowsOf row c) (y ∷ Y)) h));
+            slots = refl;
+          })
       go false h e r = subst (λ P. New P c s) (append-assoc X (y ∷ []) Y) (r e)
 
   pub site-found : (P : Pool) (c : ℕ) (s : Site) → site row P c ≡ some s → Open P c s ⊎ New P c s
@@ -211,7 +174,8 @@ module _ (row : ℕ) where
             sound = rw (m .slots) (fresh-slots c (slotsOf c));
             room = rw (m .slots) (fresh-room (slotsOf c) (slots-pos c));
             long = ap (rows row) (m .split) ∙ rows-append row (s .before) (freshPool (rowsOf row c) ++ s .after)
-                ∙ ap (λ k. rows row (s .before) + k) (rows-append row (freshPool (rowsOf row c)) (s .after) ∙ ap (λ k. k + rows row (s .after)) (fresh-rows row (rowsOf row c)));
+                ∙ ap (λ k. rows row (s .before) + k) (rows-append row (freshPool (rowsOf row c)) (s .after)
+                ∙ ap (λ k. k + rows row (s .after)) (fresh-rows row (rowsOf row c)));
           }
 
 -- the slot taken: the lowest ready one after refill
@@ -306,7 +270,15 @@ module _ (row : ℕ) (P : Pool) (n : ℕ) where
       let j : q .cls ≡ c = ap (λ p. p .cls) (v .place) in
       let ss : List Slot = q .lower ++ (q .state ∷ q .upper) in
       let l : length ss ≡ slotsOf c =
-      omega (arith, length-append (q .lower) (q .state ∷ q .upper), length-append (q .lower) (k .old ∷ q .upper), ap length (k .slots), refill-length (s .slots), g .slots) in
+      omega (
+        arith,
+        length-append (q .lower) (q .state ∷ q .upper),
+        length-append (q .lower) (k .old ∷ q .upper),
+        ap length (k .slots),
+        refill-length
+            (s .slots),
+        g .slots,
+      ) in
       let t : T (every (slotSound c) (q .lower ++ (k .old ∷ q .upper))) = rw (← k .slots) (refill-sound c (s .slots) (g .sound)) in
       let u : T (every (slotSound c) ss) =
       every-append (slotSound c) (q .lower) (q .state ∷ q .upper) (every-left (slotSound c) (q .lower) (k .old ∷ q .upper) t)
@@ -316,7 +288,8 @@ module _ (row : ℕ) (P : Pool) (n : ℕ) where
       let z : T (spanSound (group c ss)) =
       and-both (ltb c 48 && eqb (length ss) (slotsOf c) && any isLive ss) (every (slotSound c) ss)
       (and-both (ltb c 48 && eqb (length ss) (slotsOf c)) (any isLive ss)
-      (and-both (ltb c 48) (eqb (length ss) (slotsOf c)) (lt→ltb c 48 (class-facts n h .inside)) (true-T (eqb (length ss) (slotsOf c)) (eq-eqb (length ss) (slotsOf c) l))) m) u in
+      (and-both (ltb c 48) (eqb (length ss) (slotsOf c)) (lt→ltb c 48 (class-facts n h .inside))
+      (true-T (eqb (length ss) (slotsOf c)) (eq-eqb (length ss) (slotsOf c) l))) m) u in
       let p : poolOf q ≡ s .before ++ (group c ss ∷ s .after) = cc in
       record {
         formed =
@@ -338,7 +311,7 @@ pub record Stays (row : ℕ) (p q : Place) : Type 0 where
 live-turned : (us : List Slot) (x : Slot) (vs : List Slot) → T (isLive x) → map turnReady (us ++ (x ∷ vs)) ≡ map turnReady us ++ (x ∷ map turnReady vs)
 live-turned [] Fresh vs t = absurd t
 live-turned [] (Idle r k d) vs t = absurd t
-live-turned [] (Live k d n) vs t = refl
+live-turned [] (Live a) vs t = refl
 live-turned (u ∷ us) x vs t = ap (λ l. turnReady u ∷ l) (live-turned us x vs t)
 
 pub live-refilled : (us : List Slot) (x : Slot) (vs : List Slot) → T (isLive x)
@@ -389,7 +362,7 @@ only m (l ∷ k ∷ L) h R e = let z : _≡_ {A = ℕ} 0 1 = cc in absurd (omega
 not-both : (x : Slot) → T (isReady x) → T (isLive x) → ⊥
 not-both Fresh r l = l
 not-both (Idle b k d) r l = l
-not-both (Live k d n) r l = r
+not-both (Live a) r l = r
 
 -- in the group that serves, another slot becomes live
 module _ (row : ℕ) (c n : ℕ) (s : Site) (q : Place) (k : Taken c n s q) where
@@ -448,7 +421,8 @@ module _ (row : ℕ) (P : Pool) (n : ℕ) (q : Place) (w : T (wellFormed P)) (r 
         record { first = ap (rows row) (sym f); cls = sym i; number = b; state = refl },
       )
 
-      inside : Within (s .before) (group c (s .slots) ∷ []) (s .after) (p .before) (groupOf p) (p .after) → (p′ : Place) × (poolOf p′ ≡ s .before ++ (g ∷ s .after)) × Stays row p p′
+      inside : Within (s .before) (group c (s .slots) ∷ []) (s .after) (p .before) (groupOf p) (p .after) → (p′ : Place)
+          × (poolOf p′ ≡ s .before ++ (g ∷ s .after)) × Stays row p p′
       inside (L, R, a, b, d) =
           let u : (L ≡ []) × (group c (s .slots) ≡ groupOf p) × (R ≡ []) = only (group c (s .slots)) L (groupOf p) R a in
           let k : group c (s .slots) ≡ groupOf p = u .1 in
@@ -523,177 +497,3 @@ module _ (row : ℕ) (pos : 0 < row) (P : Pool) (n : ℕ) (q : Place) (w : T (we
               let i : groupOf p ≡ free = u .1 in
               let z : _≡_ {A = ℕ} 0 1 = cc in
               omega arith
-
--- ---- what a grant takes is the lowest, and where it takes nothing there is nothing
-
--- every slot of the groups of class c in a pool is live
-abbrev pub Full : Pool → ℕ → Type 0
-Full P c = (X Y : Pool) (ss : List Slot) → P ≡ X ++ (group c ss ∷ Y) → T (every isLive ss)
-
-all-live : (ss : List Slot) → any (λ x. not (isLive x)) ss ≡ false → T (every isLive ss)
-all-live [] e = tt
-all-live (Fresh ∷ ss) e = absurd (true≢false e)
-all-live (Idle r k d ∷ ss) e = absurd (true≢false e)
-all-live (Live k d n ∷ ss) e = all-live ss e
-
-not-all-live : (ss : List Slot) → T (any (λ x. not (isLive x)) ss) → T (every isLive ss) → ⊥
-not-all-live [] t u = t
-not-all-live (Fresh ∷ ss) t u = u
-not-all-live (Idle r k d ∷ ss) t u = u
-not-all-live (Live k d n ∷ ss) t u = not-all-live ss t u
-
-full-nil : (c : ℕ) → Full [] c
-full-nil c [] Y ss e = let z : _≡_ {A = ℕ} 0 1 = cc in absurd (omega arith)
-full-nil c (x ∷ X) Y ss e = let z : _≡_ {A = ℕ} 0 1 = cc in absurd (omega arith)
-
-full-cons : (c : ℕ) (y : Span) (Y : Pool) → opens c y ≡ false → Full Y c → Full (y ∷ Y) c
-unfolding opens
-full-cons c y Y h f [] Z ss e =
-    let q : y ≡ group c ss = cc in
-    all-live ss (rw (T-true (eqb c c) (eqb-refl c)) at (subst (λ s. opens c s ≡ false) q h))
-full-cons c y Y h f (w ∷ W) Z ss e = let q : Y ≡ W ++ (group c ss ∷ Z) = cc in f W Z ss q
-
-pub open-none : (X Y : Pool) (c : ℕ) → openFrom X c Y ≡ none → Full Y c
-unfolding choose
-open-none X [] c e = full-nil c
-open-none X (y ∷ Y) c e = go (opens c y) refl e (λ e. open-none (X ++ (y ∷ [])) Y c e)
-  where
-    go : (b : Bool) → opens c y ≡ b → choose b (some (record { before = X; slots = slotsIn y; after = Y })) (openFrom (X ++ (y ∷ [])) c Y) ≡ none
-        → (openFrom (X ++ (y ∷ [])) c Y ≡ none → Full Y c) → Full (y ∷ Y) c
-    go true h e r = let z : _≡_ {A = ℕ} 0 1 = cc in absurd (omega arith)
-    go false h e r = full-cons c y Y h (r e)
-
--- the groups that the search passed by are full
-pub open-lowest : (X Y : Pool) (c : ℕ) (s : Site) → openFrom X c Y ≡ some s → (R : Pool) × (s .before ≡ X ++ R) × Full R c
-unfolding choose
-open-lowest X [] c s e = let z : _≡_ {A = ℕ} 0 1 = cc in absurd (omega arith)
-open-lowest X (y ∷ Y) c s e = go (opens c y) refl e (λ e. open-lowest (X ++ (y ∷ [])) Y c s e)
-  where
-    here : Site
-    here = record { before = X; slots = slotsIn y; after = Y }
-
-    go : (b : Bool) → opens c y ≡ b → choose b (some here) (openFrom (X ++ (y ∷ [])) c Y) ≡ some s
-        → (openFrom (X ++ (y ∷ [])) c Y ≡ some s → (R : Pool) × (s .before ≡ (X ++ (y ∷ [])) ++ R) × Full R c) → (R : Pool) × (s .before ≡ X ++ R) × Full R c
-    go true h e r =
-        let p : here ≡ s = cc in
-        ([], ap (λ q. q .before) (sym p) ∙ sym (append-nil X), full-nil c)
-    go false h e r = let (R, a, f) = r e in (y ∷ R, a ∙ append-assoc X (y ∷ []) R, full-cons c y R h f)
-
-run-there : (k : ℕ) (P Y : Pool) → P ≡ freshPool k ++ Y → T (run k P)
-run-there zero P Y e = tt
-run-there (suc k) [] Y e = let z : _≡_ {A = ℕ} 0 1 = cc in absurd (omega arith)
-run-there (suc k) (free ∷ P) Y e = let q : P ≡ freshPool k ++ Y = cc in run-there k P Y q
-run-there (suc k) (group c ss ∷ P) Y e = let z : _≡_ {A = ℕ} 0 1 = cc in absurd (omega arith)
-
-no-run-nil : (k : ℕ) → 1 ≤ k → (X Y : Pool) → [] ≡ X ++ (freshPool k ++ Y) → ⊥
-no-run-nil zero h X Y e = omega arith
-no-run-nil (suc k) h [] Y e = let z : _≡_ {A = ℕ} 0 1 = cc in omega arith
-no-run-nil (suc k) h (x ∷ X) Y e = let z : _≡_ {A = ℕ} 0 1 = cc in omega arith
-
-module _ (row : ℕ) where
-  -- no free rows follow one another in a pool, as many as a group of class c takes
-  abbrev pub NoRun : Pool → ℕ → Type 0
-  NoRun P c = (X Y : Pool) → P ≡ X ++ (freshPool (rowsOf row c) ++ Y) → ⊥
-
-  pub run-none : 0 < row → (X Y : Pool) (c : ℕ) → runFrom row X c Y ≡ none → NoRun Y c
-  unfolding choose
-  run-none pos X [] c e = no-run-nil (rowsOf row c) (rows-pos row c pos)
-  run-none pos X (y ∷ Y) c e = go (run (rowsOf row c) (y ∷ Y)) refl e (λ e. run-none pos (X ++ (y ∷ [])) Y c e)
-    where
-      here : Site
-      here = record { before = X; slots = replicate (slotsOf c) Fresh; after = drop (rowsOf row c) (y ∷ Y) }
-
-      go : (b : Bool) → run (rowsOf row c) (y ∷ Y) ≡ b → choose b (some here) (runFrom row (X ++ (y ∷ [])) c Y) ≡ none
-          → (runFrom row (X ++ (y ∷ [])) c Y ≡ none → NoRun Y c) → NoRun (y ∷ Y) c
-      go true h e r W Z q = let z : _≡_ {A = ℕ} 0 1 = cc in omega arith
-      go false h e r [] Z q = subst T h (run-there (rowsOf row c) (y ∷ Y) Z q)
-      go false h e r (w ∷ W) Z q = let p : Y ≡ W ++ (freshPool (rowsOf row c) ++ Z) = cc in r e W Z p
-
-  -- no run begins in a lower row
-  pub run-lowest : (X Y : Pool) (c : ℕ) (s : Site) → runFrom row X c Y ≡ some s
-      → (W Z : Pool) → Y ≡ W ++ (freshPool (rowsOf row c) ++ Z) → rows row (s .before) ≤ rows row X + rows row W
-  unfolding choose
-  run-lowest X [] c s e = let z : _≡_ {A = ℕ} 0 1 = cc in absurd (omega arith)
-  run-lowest X (y ∷ Y) c s e = go (run (rowsOf row c) (y ∷ Y)) refl e (λ e. run-lowest (X ++ (y ∷ [])) Y c s e)
-    where
-      here : Site
-      here = record { before = X; slots = replicate (slotsOf c) Fresh; after = drop (rowsOf row c) (y ∷ Y) }
-
-      go : (b : Bool) → run (rowsOf row c) (y ∷ Y) ≡ b → choose b (some here) (runFrom row (X ++ (y ∷ [])) c Y) ≡ some s
-          → (runFrom row (X ++ (y ∷ [])) c Y ≡ some s → (W Z : Pool) → Y ≡ W ++ (freshPool (rowsOf row c) ++ Z) → rows row (s .before) ≤ rows row (X ++ (y ∷ [])) + rows row W)
-          → (W Z : Pool) → y ∷ Y ≡ W ++ (freshPool (rowsOf row c) ++ Z) → rows row (s .before) ≤ rows row X + rows row W
-      go true h e r W Z q = let p : here ≡ s = cc in omega (arith, ap (λ k. rows row (k .before)) p)
-      go false h e r [] Z q = absurd (subst T h (run-there (rowsOf row c) (y ∷ Y) Z q))
-      go false h e r (w ∷ W) Z q =
-          let p : Y ≡ W ++ (freshPool (rowsOf row c) ++ Z) = cc in
-          let j : y ≡ w = cc in
-          omega (arith, r e W Z p, rows-append row X (y ∷ []), ap (rowsIn row) j)
-
--- the slots before the first ready one are not ready
-pub first-lowest : (us : List Slot) (x : Slot) (vs : List Slot) → length us ≡ first isReady (us ++ (x ∷ vs)) → T (every (λ y. not (isReady y)) us)
-unfolding choose
-first-lowest [] x vs e = tt
-first-lowest (u ∷ us) x vs e = go (isReady u) refl e (λ e. first-lowest us x vs e)
-  where
-    go : (b : Bool) → isReady u ≡ b → suc (length us) ≡ choose b 0 (suc (first isReady (us ++ (x ∷ vs))))
-        → (length us ≡ first isReady (us ++ (x ∷ vs)) → T (every (λ y. not (isReady y)) us)) → T (not (isReady u) && every (λ y. not (isReady y)) us)
-    go true h e r = absurd (omega arith)
-    go false h e r = rw h (r (omega arith))
-
-module _ (row : ℕ) where
-  -- the group that serves is the lowest that could
-  pub record OpenLowest (P : Pool) (c : ℕ) (s : Site) : Type 0 where
-    pub there : Open P c s
-    pub lowest : Full (s .before) c
-
-  -- or none could, and the run is the lowest
-  pub record NewLowest (P : Pool) (c : ℕ) (s : Site) : Type 0 where
-    pub there : New row P c s
-    pub full : Full P c
-    pub lowest : (W Z : Pool) → P ≡ W ++ (freshPool (rowsOf row c) ++ Z) → rows row (s .before) ≤ rows row W
-
-  pub site-lowest : (P : Pool) (c : ℕ) (s : Site) → site row P c ≡ some s → OpenLowest P c s ⊎ NewLowest P c s
-  unfolding site
-  site-lowest P c s e = go (openFrom [] c P) refl e
-    where
-      go : (o : Option Site) → openFrom [] c P ≡ o → siteOr o (runFrom row [] c P) ≡ some s → OpenLowest P c s ⊎ NewLowest P c s
-      go none h e =
-          inr (record { there = run-found row [] P c s e; full = open-none [] P c h; lowest = λ W Z q. omega (arith, run-lowest row [] P c s e W Z q) })
-      go (some r) h e =
-          let (R, a, f) = open-lowest [] P c s (h ∙ e) in
-          inl (record { there = open-found [] P c s (h ∙ e); lowest = subst (λ X. Full X c) (sym a) f })
-
-  -- neither a free slot of class c nor a run for a group of it
-  pub record NoSite (P : Pool) (c : ℕ) : Type 0 where
-    pub full : Full P c
-    pub run : NoRun row P c
-
-  pub site-none : 0 < row → (P : Pool) (c : ℕ) → site row P c ≡ none → NoSite P c
-  unfolding site
-  site-none pos P c e = go (openFrom [] c P) refl e
-    where
-      go : (o : Option Site) → openFrom [] c P ≡ o → siteOr o (runFrom row [] c P) ≡ none → NoSite P c
-      go none h e = record { full = open-none [] P c h; run = run-none row pos [] P c e }
-      go (some r) h e = let z : _≡_ {A = ℕ} 0 1 = cc in absurd (omega arith)
-
-  pub site-some : (P : Pool) (c : ℕ) (s : Site) → site row P c ≡ some s → NoSite P c → ⊥
-  site-some P c s e n =
-      ⊎-elim (λ o. not-all-live (s .slots) (o .room) (n .full (s .before) (s .after) (s .slots) (o .split))) (λ m. n .run (s .before) (s .after) (m .split))
-      (site-found row P c s e)
-
-  -- a grant takes a place exactly if there is one
-  pub reserve-none : 0 < row → (P : Pool) (n : ℕ) → reserve row P n ≡ none → NoSite P (classOf n)
-  unfolding reserve
-  reserve-none pos P n e = go (site row P (classOf n)) refl e
-    where
-      go : (o : Option Site) → site row P (classOf n) ≡ o → reserveIn (classOf n) n o ≡ none → NoSite P (classOf n)
-      go none h e = site-none pos P (classOf n) h
-      go (some s) h e = let z : _≡_ {A = ℕ} 0 1 = cc in absurd (omega arith)
-
-  pub reserve-some : (P : Pool) (n : ℕ) (q : Place) → reserve row P n ≡ some q → NoSite P (classOf n) → ⊥
-  unfolding reserve
-  reserve-some P n q e = go (site row P (classOf n)) refl e
-    where
-      go : (o : Option Site) → site row P (classOf n) ≡ o → reserveIn (classOf n) n o ≡ some q → NoSite P (classOf n) → ⊥
-      go none h e = let z : _≡_ {A = ℕ} 0 1 = cc in absurd (omega arith)
-      go (some s) h e = site-some P (classOf n) s h

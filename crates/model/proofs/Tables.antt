@@ -1,14 +1,9 @@
 -- Laws of the tables: their exact size, and that one state has one byte form, which says that state.
-use Prim.Native.Nat.{ℕ, zero, suc, _+_, _*_, _-_, _/_, _^_, _≤_, _<_}
-use mathlib.Core.Path.{_≡_, refl, sym, ap, ap₂, _∙_}
-use mathlib.Core.Bool.{Bool, true, false, _&&_}
-use mathlib.Core.List.{List, [], _∷_, _++_, map, append-assoc, append-nil}
-use native.Mathlib.Nat.{le-trans, lt-of-lt-of-le, pow-le-pow-right, zero-add, suc-add}
-use native.Mathlib.Omega.{arith}
-use lib.Dec.{T, leb, ltb, eqb, leb→le, ltb→lt, eqb→eq, lt→ltb, lit≤}
-use lib.ListN.{length, drop, length-append, length-map}
-use lib.Seq.{take-at, drop-at}
-use borrow.Author.Tests.{eq-eqb}
+use Rattle.mem.proofs.Prelude.{_∙_, _≡_, sym, ap, refl, ap₂, true, Bool, false, _&&_, List, [], _∷_, _++_, append-assoc, map, append-nil, _+_, ℕ, _<_}
+use Rattle.mem.proofs.Prelude.{_≤_, _*_, _-_, suc, _/_, zero, _^_, zero-add, arith, eq-eqb, T, eqb, leb, lit≤, ltb, eqb→eq, leb→le, ltb→lt, lt→ltb}
+use Rattle.mem.proofs.Prelude.{length, drop, length-append, length-map, drop-at}
+use native.Mathlib.Nat.{le-trans, lt-of-lt-of-le, pow-le-pow-right, suc-add}
+use lib.Seq.{take-at}
 use Rattle.mem.specs.Lists.{choose, every, join}
 use Rattle.mem.specs.Bytes.{zeros, low, number, mask, same}
 use Rattle.mem.proofs.Tests.{and-left, and-right, and-both, true-T, every-append}
@@ -21,8 +16,9 @@ use Rattle.model.specs.declared.Slot.the-variants.{Fresh, Idle, Live}
 use Rattle.model.specs.declared.Holder.{Holder}
 use Rattle.model.specs.declared.Holder.the-variants.{Free, First, Later}
 use Rattle.model.specs.State.{Span, Pool, free, group, isReady, isWaiting, slotSound, spanSound, wellFormed, rows, rowsIn}
-use Rattle.model.specs.Tables.{slotRecord, holderBytes, rowRecord, laterRecords, roomBytes, viewSlot, viewSlots, viewGroup, viewHolder, spanOf}
-use Rattle.model.specs.Tables.{spanRecords, encode, viewRows, view, arenaRight, sound}
+use Rattle.model.specs.Tables.{slotRecord, holderBytes, rowRecord, laterRecords, roomBytes, viewSlot, viewSlots, viewGroup, rowRecordBytes}
+use Rattle.model.specs.Tables.{viewHolder, spanOf, encodeBy, soundBy, spanRecordsBy, viewBy, viewRowsBy}
+use Rattle.model.specs.Tables.{Layout, LayoutLaws, byMasks, spanRecords, encode, arenaRight}
 
 -- ---- lengths
 
@@ -30,7 +26,7 @@ pub slot-length : (x : Slot) → length (slotRecord x) ≡ 8
 unfolding slotRecord zeros
 slot-length Fresh = refl
 slot-length (Idle r k d) = refl
-slot-length (Live k d n) = refl
+slot-length (Live a) = refl
 
 pub slots-length : (ss : List Slot) → length (join slotRecord ss) ≡ 8 * length ss
 slots-length [] = refl
@@ -60,7 +56,7 @@ pub row-parts : (h : Holder) (ss : List Slot) → rowRecord h ss ≡ rowHead h s
 unfolding rowRecord rowHead
 row-parts h ss = simp append-assoc
 
-pub row-length : (h : Holder) (ss : List Slot) → length ss ≤ 31 → length (rowRecord h ss) ≡ 264
+pub row-length : (h : Holder) (ss : List Slot) → length ss ≤ 31 → length (rowRecord h ss) ≡ rowRecordBytes
 row-length h ss l =
     ap length (row-parts h ss)
     ∙ omega (
@@ -72,7 +68,7 @@ row-length h ss l =
       zeros-length (8 * (31 - length ss)),
     )
 
-pub later-length : (m k : ℕ) → length (laterRecords m k) ≡ 264 * m
+pub later-length : (m k : ℕ) → length (laterRecords m k) ≡ rowRecordBytes * m
 unfolding laterRecords
 later-length zero k = refl
 later-length (suc m) k =
@@ -86,38 +82,9 @@ group-slots c ss t = eqb→eq (length ss) (slotsOf c) (search (and-left, and-rig
 pub group-few : (c : ℕ) (ss : List Slot) → T (spanSound (group c ss)) → length ss ≤ 31
 group-few c ss t = omega (arith, group-slots c ss t, slots-small c)
 
-module _ (row : ℕ) (pos : 0 < row) where
-  pub span-length : (s : Span) → T (spanSound s) → length (spanRecords row s) ≡ 264 * rowsIn row s
-  unfolding spanRecords
-  span-length free t = row-length Free [] (lit≤ tt)
-  span-length (group c ss) t =
-      omega (
-        arith,
-        length-append (rowRecord (First c) ss) (laterRecords (rowsOf row c - 1) 1),
-        row-length (First c) ss (group-few c ss t),
-        later-length (rowsOf row c - 1) 1,
-        rows-pos row c pos,
-      )
-
-  pub spans-length : (P : Pool) → T (wellFormed P) → length (join (spanRecords row) P) ≡ 264 * rows row P
-  spans-length [] t = refl
-  spans-length (s ∷ P) t =
-      omega (
-        arith,
-        length-append (spanRecords row s) (join (spanRecords row) P),
-        span-length s (and-left (spanSound s) (wellFormed P) t),
-        spans-length P (and-right (spanSound s) (wellFormed P) t),
-      )
-
-  -- the table room's one size
-  pub encode-length : (P : Pool) → T (wellFormed P) → length (encode row P) ≡ roomBytes (rows row P)
-  unfolding encode roomBytes
-  encode-length P t =
-      omega (arith, length-append (zeros 12) (join (spanRecords row) P), zeros-length 12, spans-length P t)
-
 -- ---- the byte form of a state says that state
 
-disp-fits : (c d : ℕ) → 16 * d ≤ slotBytes c - 4 → d < 256 ^ 2
+pub disp-fits : (c d : ℕ) → 16 * d ≤ slotBytes c - 4 → d < 256 ^ 2
 unfolding slotBytes
 disp-fits c d h = omega (arith, units-small c)
 
@@ -126,11 +93,12 @@ unfolding viewSlot slotRecord slotSound zeros choose tooLarge
 view-slot c Fresh t = refl
 view-slot c (Idle true k d) t = ap (Idle true k) (number-low 2 d (disp-fits c d (leb→le (16 * d) (slotBytes c - 4) (search (and-left, and-right)))))
 view-slot c (Idle false k d) t = ap (Idle false k) (number-low 2 d (disp-fits c d (leb→le (16 * d) (slotBytes c - 4) (search (and-left, and-right)))))
-view-slot c (Live k d n) t =
-    let t₁ : T (leb (16 * d + n) (slotBytes c - 4)) = search (and-left, and-right) in
-    let t₂ : T (ltb n 131052) = search (and-left, and-right) in
-    let h : 16 * d ≤ slotBytes c - 4 = omega (arith, leb→le (16 * d + n) (slotBytes c - 4) t₁) in
-    ap₂ (Live k) (number-low 2 d (disp-fits c d h)) (number-low 3 n (omega (arith, ltb→lt n 131052 t₂)))
+view-slot c (Live a) t =
+    let t₁ : T (leb (16 * a .disp + a .size) (slotBytes c - 4)) = search (and-left, and-right) in
+    let t₂ : T (ltb (a .size) 131052) = search (and-left, and-right) in
+    let h : 16 * a .disp ≤ slotBytes c - 4 = omega (arith, leb→le (16 * a .disp + a .size) (slotBytes c - 4) t₁) in
+    ap₂ {C = Slot} (λ d n. Live (record { count = a .count; disp = d; size = n })) (number-low 2 (a .disp) (disp-fits c (a .disp) h))
+    (number-low 3 (a .size) (omega (arith, ltb→lt (a .size) 131052 t₂)))
 
 view-slots : (c : ℕ) (ss : List Slot) (rest : List ℕ) → T (every (slotSound c) ss)
     → viewSlots (length ss) (mask (map isReady ss)) (mask (map isWaiting ss)) (join slotRecord ss ++ rest) ≡ ss
@@ -164,25 +132,6 @@ view-group c ss rest t =
     ∙ ap (viewSlots (length ss) (mask (map isReady ss)) (mask (map isWaiting ss))) (append-assoc (join slotRecord ss) _ rest)
     ∙ view-slots c ss _ (search (and-left, and-right)))
 
--- ---- one row of the view
-
-module _ (row n : ℕ) (t : List ℕ) where
-  pub rows-free : viewHolder t ≡ Free → viewRows row (suc n) 0 t ≡ free ∷ viewRows row n 0 (drop 264 t)
-  unfolding viewRows
-  rows-free e = ap (spanOf (free ∷ viewRows row n 0 (drop 264 t)) (λ c. group c (viewGroup c t) ∷ viewRows row n (rowsOf row c - 1) (drop 264 t))) e
-
-  pub rows-first : (c : ℕ) → viewHolder t ≡ First c → viewRows row (suc n) 0 t ≡ group c (viewGroup c t) ∷ viewRows row n (rowsOf row c - 1) (drop 264 t)
-  unfolding viewRows
-  rows-first c e = ap (spanOf (free ∷ viewRows row n 0 (drop 264 t)) (λ c. group c (viewGroup c t) ∷ viewRows row n (rowsOf row c - 1) (drop 264 t))) e
-
-  pub rows-later : (k : ℕ) → viewHolder t ≡ Later k → viewRows row (suc n) 0 t ≡ free ∷ viewRows row n 0 (drop 264 t)
-  unfolding viewRows
-  rows-later k e = ap (spanOf (free ∷ viewRows row n 0 (drop 264 t)) (λ c. group c (viewGroup c t) ∷ viewRows row n (rowsOf row c - 1) (drop 264 t))) e
-
-  pub rows-skip : (k : ℕ) → viewRows row (suc n) (suc k) t ≡ viewRows row n k (drop 264 t)
-  unfolding viewRows
-  rows-skip k = refl
-
 pub holder-free : (rest : List ℕ) → viewHolder (rowRecord Free [] ++ rest) ≡ Free
 unfolding viewHolder rowRecord choose
 holder-free rest = refl
@@ -195,80 +144,142 @@ pub holder-later : (k : ℕ) (rest : List ℕ) → viewHolder (rowRecord (Later 
 unfolding viewHolder rowRecord choose
 holder-later k rest = refl
 
+-- ---- any layout
+
+module _ {L : Layout} (law : LayoutLaws L) (row : ℕ) (pos : 0 < row) where
+  pub group-length : (c : ℕ) (ss : List Slot) → length ss ≤ 31 → length (spanRecordsBy L row (group c ss)) ≡ rowRecordBytes * rowsOf row c
+  unfolding spanRecordsBy
+  group-length c ss h =
+      omega (
+        arith,
+        length-append (L .firstRow c ss) (laterRecords (rowsOf row c - 1) 1),
+        law .long c ss h,
+        later-length (rowsOf row c - 1) 1,
+        rows-pos row c pos,
+      )
+
+  pub span-length : (s : Span) → T (spanSound s) → length (spanRecordsBy L row s) ≡ rowRecordBytes * rowsIn row s
+  unfolding spanRecordsBy
+  span-length free t = row-length Free [] (lit≤ tt)
+  span-length (group c ss) t = group-length c ss (group-few c ss t)
+
+  pub spans-length : (P : Pool) → T (wellFormed P) → length (join (spanRecordsBy L row) P) ≡ rowRecordBytes * rows row P
+  spans-length [] t = refl
+  spans-length (s ∷ P) t =
+      omega (
+        arith,
+        length-append (spanRecordsBy L row s) (join (spanRecordsBy L row) P),
+        span-length s (and-left (spanSound s) (wellFormed P) t),
+        spans-length P (and-right (spanSound s) (wellFormed P) t),
+      )
+
+  -- the table room's one size
+  pub encode-length : (P : Pool) → T (wellFormed P) → length (encodeBy L row P) ≡ roomBytes (rows row P)
+  unfolding encodeBy roomBytes
+  encode-length P t =
+      omega (arith, length-append (zeros 12) (join (spanRecordsBy L row) P), zeros-length 12, spans-length P t)
+
+-- ---- one row of the view
+
+module _ (L : Layout) (row n : ℕ) (t : List ℕ) where
+  pub rows-free : viewHolder t ≡ Free → viewRowsBy L row (suc n) 0 t ≡ free ∷ viewRowsBy L row n 0 (drop rowRecordBytes t)
+  unfolding viewRowsBy
+  rows-free e =
+      ap (spanOf (free ∷ viewRowsBy L row n 0 (drop rowRecordBytes t))
+      (λ c. group c (L .slotsIn c t) ∷ viewRowsBy L row n (rowsOf row c - 1) (drop rowRecordBytes t))) e
+
+  pub rows-first : (c : ℕ) → viewHolder t ≡ First c → viewRowsBy L row (suc n) 0 t
+      ≡ group c (L .slotsIn c t) ∷ viewRowsBy L row n (rowsOf row c - 1) (drop rowRecordBytes t)
+  unfolding viewRowsBy
+  rows-first c e =
+      ap (spanOf (free ∷ viewRowsBy L row n 0 (drop rowRecordBytes t))
+      (λ c. group c (L .slotsIn c t) ∷ viewRowsBy L row n (rowsOf row c - 1) (drop rowRecordBytes t))) e
+
+  pub rows-skip : (k : ℕ) → viewRowsBy L row (suc n) (suc k) t ≡ viewRowsBy L row n k (drop rowRecordBytes t)
+  unfolding viewRowsBy
+  rows-skip k = refl
+
 -- ---- the byte form of a state says that state, whatever stands behind it
 
-module _ (row : ℕ) where
-  pass-over : (k n j : ℕ) (rest : List ℕ) → viewRows row (k + n) k (laterRecords k j ++ rest) ≡ viewRows row n 0 rest
+module _ {L : Layout} (law : LayoutLaws L) (row : ℕ) where
+  pass-over : (k n j : ℕ) (rest : List ℕ) → viewRowsBy L row (k + n) k (laterRecords k j ++ rest) ≡ viewRowsBy L row n 0 rest
   unfolding laterRecords
-  pass-over zero n j rest = ap (λ m. viewRows row m 0 rest) (zero-add n)
+  pass-over zero n j rest = ap (λ m. viewRowsBy L row m 0 rest) (zero-add n)
   pass-over (suc k) n j rest =
       rw (append-assoc (rowRecord (Later j) []) (laterRecords k (suc j)) rest)
-      (ap (λ m. viewRows row m (suc k) (rowRecord (Later j) [] ++ (laterRecords k (suc j) ++ rest))) (suc-add k n)
-      ∙ rows-skip row (k + n) (rowRecord (Later j) [] ++ (laterRecords k (suc j) ++ rest)) k
-      ∙ ap (viewRows row (k + n) k) (drop-at (rowRecord (Later j) []) (laterRecords k (suc j) ++ rest) 264 (row-length (Later j) [] (lit≤ tt)))
+      (ap (λ m. viewRowsBy L row m (suc k) (rowRecord (Later j) [] ++ (laterRecords k (suc j) ++ rest))) (suc-add k n)
+      ∙ rows-skip L row (k + n) (rowRecord (Later j) [] ++ (laterRecords k (suc j) ++ rest)) k
+      ∙ ap (viewRowsBy L row (k + n) k) (drop-at (rowRecord (Later j) []) (laterRecords k (suc j) ++ rest) rowRecordBytes (row-length (Later j) [] (lit≤ tt)))
       ∙ pass-over k n (suc j) rest)
 
   module _ (pos : 0 < row) where
     -- one span of the view, whatever stands behind it
-    pub view-span : (s : Span) (m : ℕ) (rest : List ℕ) → T (spanSound s) → viewRows row (rowsIn row s + m) 0 (spanRecords row s ++ rest) ≡ s ∷ viewRows row m 0 rest
-    unfolding spanRecords
+    pub view-span : (s : Span) (m : ℕ) (rest : List ℕ) → T (spanSound s) → viewRowsBy L row (rowsIn row s + m) 0 (spanRecordsBy L row s ++ rest)
+        ≡ s ∷ viewRowsBy L row m 0 rest
+    unfolding spanRecordsBy
     view-span free m rest h =
         let e : 1 + m ≡ suc m = omega arith in
-        ap (λ k. viewRows row k 0 (rowRecord Free [] ++ rest)) e
-        ∙ rows-free row m (rowRecord Free [] ++ rest) (holder-free rest)
-        ∙ ap (λ l. free ∷ viewRows row m 0 l) (drop-at (rowRecord Free []) rest 264 (row-length Free [] (lit≤ tt)))
+        ap (λ k. viewRowsBy L row k 0 (rowRecord Free [] ++ rest)) e
+        ∙ rows-free L row m (rowRecord Free [] ++ rest) (holder-free rest)
+        ∙ ap (λ l. free ∷ viewRowsBy L row m 0 l) (drop-at (rowRecord Free []) rest rowRecordBytes (row-length Free [] (lit≤ tt)))
     view-span (group c ss) m rest h =
         let R : List ℕ = laterRecords (rowsOf row c - 1) 1 ++ rest in
         let n : ℕ = (rowsOf row c - 1) + m in
         let e : rowsOf row c + m ≡ suc n = omega (arith, rows-pos row c pos) in
-        rw (append-assoc (rowRecord (First c) ss) (laterRecords (rowsOf row c - 1) 1) rest)
-        (ap (λ k. viewRows row k 0 (rowRecord (First c) ss ++ R)) e
-        ∙ rows-first row n (rowRecord (First c) ss ++ R) c (holder-first c ss R)
-        ∙ ap₂ {C = Pool} (λ ys l. group c ys ∷ viewRows row n (rowsOf row c - 1) l) (view-group c ss R h)
-        (drop-at (rowRecord (First c) ss) R 264 (row-length (First c) ss (group-few c ss h)))
+        rw (append-assoc (L .firstRow c ss) (laterRecords (rowsOf row c - 1) 1) rest)
+        (ap (λ k. viewRowsBy L row k 0 (L .firstRow c ss ++ R)) e
+        ∙ rows-first L row n (L .firstRow c ss ++ R) c (law .holder c ss R)
+        ∙ ap₂ {C = Pool} (λ ys l. group c ys ∷ viewRowsBy L row n (rowsOf row c - 1) l) (law .slots c ss R h)
+        (drop-at (L .firstRow c ss) R rowRecordBytes (law .long c ss (group-few c ss h)))
         ∙ ap (λ Q. group c ss ∷ Q) (pass-over (rowsOf row c - 1) m 1 rest))
 
-    pub view-records : (P : Pool) (rest : List ℕ) → T (wellFormed P) → viewRows row (rows row P) 0 (join (spanRecords row) P ++ rest) ≡ P
-    unfolding viewRows
+    pub view-records : (P : Pool) (rest : List ℕ) → T (wellFormed P) → viewRowsBy L row (rows row P) 0 (join (spanRecordsBy L row) P ++ rest) ≡ P
+    unfolding viewRowsBy
     view-records [] rest t = refl
     view-records (s ∷ P) rest t =
-        rw (append-assoc (spanRecords row s) (join (spanRecords row) P) rest)
-        (view-span s (rows row P) (join (spanRecords row) P ++ rest) (and-left (spanSound s) (wellFormed P) t)
+        rw (append-assoc (spanRecordsBy L row s) (join (spanRecordsBy L row) P) rest)
+        (view-span s (rows row P) (join (spanRecordsBy L row) P ++ rest) (and-left (spanSound s) (wellFormed P) t)
         ∙ ap (λ Q. s ∷ Q) (view-records P rest (and-right (spanSound s) (wellFormed P) t)))
 
-    pub view-encode : (P : Pool) → T (wellFormed P) → view row (encode row P) ≡ P
-    unfolding view encode zeros
+    pub view-encode : (P : Pool) → T (wellFormed P) → viewBy L row (encodeBy L row P) ≡ P
+    unfolding viewBy encodeBy zeros
     view-encode P t =
-        let J : List ℕ = join (spanRecords row) P in
-        let n : (length (encode row P) - 16) / 264 ≡ rows row P = omega (arith, spans-length row pos P t) in
-        ap (λ k. viewRows row k 0 J) n ∙ ap (viewRows row (rows row P) 0) (sym (append-nil J)) ∙ view-records P [] t
+        let J : List ℕ = join (spanRecordsBy L row) P in
+        let n : (length (encodeBy L row P) - 16) / rowRecordBytes ≡ rows row P = omega (arith, spans-length law row pos P t) in
+        ap (λ k. viewRowsBy L row k 0 J) n ∙ ap (viewRowsBy L row (rows row P) 0) (sym (append-nil J)) ∙ view-records P [] t
 
     -- the byte form of a well-formed state is sound, under an arena of its length
-    pub encode-sound : (P : Pool) (n : ℕ) → T (wellFormed P) → T (arenaRight row n) → n ≡ row * rows row P → T (sound row n (encode row P))
-    unfolding sound
+    pub encode-sound : (P : Pool) (n : ℕ) → T (wellFormed P) → T (arenaRight row n) → n ≡ row * rows row P → T (soundBy L row n (encodeBy L row P))
+    unfolding soundBy
     encode-sound P n w h e =
         rw (view-encode P w)
-        (and-both (arenaRight row n && eqb n (row * rows row P) && same (encode row P) (encode row P)) (wellFormed P)
-        (and-both (arenaRight row n && eqb n (row * rows row P)) (same (encode row P) (encode row P))
+        (and-both (arenaRight row n && eqb n (row * rows row P) && same (encodeBy L row P) (encodeBy L row P)) (wellFormed P)
+        (and-both (arenaRight row n && eqb n (row * rows row P)) (same (encodeBy L row P) (encodeBy L row P))
         (and-both (arenaRight row n) (eqb n (row * rows row P)) h (true-T (eqb n (row * rows row P)) (eq-eqb n (row * rows row P) e)))
-        (same-refl (encode row P)))
+        (same-refl (encodeBy L row P)))
         w)
 
+module _ (L : Layout) (row : ℕ) where
   -- what sound tables are: the one form of what they say, for an arena of the recorded length, and well formed
   pub record Sound (n : ℕ) (t : List ℕ) : Type 0 where
     pub lawful : T (arenaRight row n)
-    pub long : n ≡ row * rows row (view row t)
-    pub form : t ≡ encode row (view row t)
-    pub formed : T (wellFormed (view row t))
+    pub long : n ≡ row * rows row (viewBy L row t)
+    pub form : t ≡ encodeBy L row (viewBy L row t)
+    pub formed : T (wellFormed (viewBy L row t))
 
-  pub sound-facts : (n : ℕ) (t : List ℕ) → T (sound row n t) → Sound n t
-  unfolding sound
+  pub sound-facts : (n : ℕ) (t : List ℕ) → T (soundBy L row n t) → Sound n t
+  unfolding soundBy
   sound-facts n t h = record {
     lawful = search (and-left, and-right);
-    long = eqb→eq n (row * rows row (view row t)) (search (and-left, and-right));
-    form = same→eq t (encode row (view row t)) (search (and-left, and-right));
+    long = eqb→eq n (row * rows row (viewBy L row t)) (search (and-left, and-right));
+    form = same→eq t (encodeBy L row (viewBy L row t)) (search (and-left, and-right));
     formed = search (and-left, and-right);
   }
+
+-- the first engine's layout
+pub masks-laws : LayoutLaws byMasks
+unfolding rowRecord
+masks-laws = record { long = λ c ss. row-length (First c) ss; holder = holder-first; slots = view-group }
 
 -- ---- every element of the byte form is a byte
 
@@ -300,11 +311,13 @@ slot-bytes : (c : ℕ) (x : Slot) → T (slotSound c x) → Bytes (slotRecord x)
 unfolding slotRecord slotSound
 slot-bytes c Fresh t = zeros-bytes 8
 slot-bytes c (Idle r k d) t =
-    byte 1 _ (lit≤ tt) (byte k _ (ltb→lt k 256 (and-left (ltb k 256) (leb (16 * d) (slotBytes c - 4)) t)) (bytes-append (low 2 d) (zeros 4) (low-small 2 d) (zeros-bytes 4)))
-slot-bytes c (Live k d n) t =
-    let h : T (ltb k 256) = search and-left in
-    byte 1 _ (lit≤ tt) (byte k _ (ltb→lt k 256 h)
-    (bytes-append (low 2 d) (low 3 n ++ (0 ∷ [])) (low-small 2 d) (bytes-append (low 3 n) (0 ∷ []) (low-small 3 n) (byte 0 [] (lit≤ tt) no-bytes))))
+    byte 1 _ (lit≤ tt) (byte k _ (ltb→lt k 256 (and-left (ltb k 256) (leb (16 * d) (slotBytes c - 4)) t))
+    (bytes-append (low 2 d) (zeros 4) (low-small 2 d) (zeros-bytes 4)))
+slot-bytes c (Live a) t =
+    let h : T (ltb (a .count) 256) = search and-left in
+    byte 1 _ (lit≤ tt) (byte (a .count) _ (ltb→lt (a .count) 256 h)
+    (bytes-append (low 2 (a .disp)) (low 3 (a .size) ++ (0 ∷ [])) (low-small 2 (a .disp))
+    (bytes-append (low 3 (a .size)) (0 ∷ []) (low-small 3 (a .size)) (byte 0 [] (lit≤ tt) no-bytes))))
 
 slots-bytes : (c : ℕ) (ss : List Slot) → T (every (slotSound c) ss) → Bytes (join slotRecord ss)
 slots-bytes c [] t = no-bytes
@@ -330,9 +343,11 @@ later-bytes (suc m) k h =
 
 module _ (row : ℕ) (few : (c : ℕ) → c < 48 → rowsOf row c ≤ 256) where
   spans-bytes : (P : Pool) → T (wellFormed P) → Bytes (join (spanRecords row) P)
-  unfolding spanRecords spanSound
+  unfolding spanRecordsBy spanSound
   spans-bytes [] t = no-bytes
-  spans-bytes (free ∷ P) t = bytes-append (rowRecord Free []) (join (spanRecords row) P) (row-bytes Free [] (byte 0 _ (lit≤ tt) (byte 0 [] (lit≤ tt) no-bytes)) no-bytes) (spans-bytes P t)
+  spans-bytes (free ∷ P) t =
+      bytes-append (rowRecord Free []) (join (spanRecords row) P) (row-bytes Free [] (byte 0 _ (lit≤ tt) (byte 0 [] (lit≤ tt) no-bytes)) no-bytes)
+      (spans-bytes P t)
   spans-bytes (group c ss ∷ P) t =
       let h : T (spanSound (group c ss)) = and-left (spanSound (group c ss)) (wellFormed P) t in
       let l : c < 48 = ltb→lt c 48 (search (and-left, and-right)) in
@@ -343,7 +358,7 @@ module _ (row : ℕ) (few : (c : ℕ) → c < 48 → rowsOf row c ≤ 256) where
       (spans-bytes P (and-right (spanSound (group c ss)) (wellFormed P) t))
 
   pub encode-bytes : (P : Pool) → T (wellFormed P) → Bytes (encode row P)
-  unfolding encode
+  unfolding encodeBy
   encode-bytes P t =
       bytes-append (low 4 (row * rows row P)) _ (low-small 4 (row * rows row P))
       (bytes-append (zeros 12) _ (zeros-bytes 12) (spans-bytes P t))

@@ -7,6 +7,9 @@ use lib.ListN.{length}
 use Rattle.mem.specs.Lists.{choose}
 use Rattle.mem.specs.Bytes.{zeros, low, same, part}
 use Rattle.classes.specs.Classes.{unitsOf, slotBytes}
+use Rattle.model.specs.declared.Refusal.the-variants.{HeaderDamaged, Overrun}
+use Rattle.model.specs.declared.Damage.{Damage}
+use Rattle.model.specs.declared.Damage.the-variants.{Intact, Damaged}
 use Rattle.model.specs.State.{Place, disp, size, slotNumber, owned}
 
 -- "Reserved is s − 4 − 16d − n."
@@ -41,14 +44,14 @@ guardRight c d n bytes =
     let g = guard (reserved c d n) in
     same (part (slotBytes c - length g) (length g) bytes) g
 
--- what is wrong with a block: 6, 7, or 0 for nothing
-unfoldable pub damageIn : ℕ → ℕ → ℕ → ℕ → List ℕ → ℕ
-damageIn c i d n bytes = choose (headerRight c i d n bytes) (choose (guardRight c d n bytes) 0 7) 6
+-- what is wrong with a block
+unfoldable pub damageIn : ℕ → ℕ → ℕ → ℕ → List ℕ → Damage
+damageIn c i d n bytes = choose (headerRight c i d n bytes) (choose (guardRight c d n bytes) Intact (Damaged Overrun)) (Damaged HeaderDamaged)
 
 module _ (row : ℕ) where
   -- the owned bytes of a slot
   abbrev pub ownedBytes : List ℕ → Place → List ℕ
   ownedBytes a p = part (owned row p) (slotBytes (p .cls)) a
 
-  abbrev pub damage : List ℕ → Place → ℕ
+  abbrev pub damage : List ℕ → Place → Damage
   damage a p = damageIn (p .cls) (slotNumber p) (disp (p .state)) (size (p .state)) (ownedBytes a p)

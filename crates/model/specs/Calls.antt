@@ -1,32 +1,44 @@
--- The calls over arena and table room.
-use Prim.Native.Nat.{ℕ, _/_}
+-- The calls over arena and table room, whatever form the tables have in the room; and those of the first engine.
+use Prim.Native.Nat.{ℕ, _*_, _/_}
+use mathlib.Core.Path.{_≡_}
 use mathlib.Core.Bool.{Bool, _&&_}
 use mathlib.Core.Option.{Option, none, some}
 use mathlib.Core.List.{List, [], _∷_}
-use lib.Dec.{eqb}
+use lib.Dec.{T, eqb}
 use lib.ListN.{length}
 use Rattle.mem.specs.Lists.{choose}
 use Rattle.mem.specs.Bytes.{zeros, part, put}
-use Rattle.model.specs.declared.SetUp.{SetUp}
-use Rattle.model.specs.declared.Grant.{Grant}
-use Rattle.model.specs.declared.Release.{Release}
-use Rattle.model.specs.declared.Resize.{Resize}
-use Rattle.model.specs.declared.Measure.{Measure}
-use Rattle.model.specs.declared.Report.{Report}
-use Rattle.model.specs.State.{Place}
+use Rattle.model.specs.declared.Refusal.{Refusal}
+use Rattle.model.specs.declared.Refusal.the-variants.{BadArena, Unsound}
+use Rattle.model.specs.declared.Damage.{Damage}
+use Rattle.model.specs.declared.Damage.the-variants.{Intact, Damaged}
+use Rattle.model.specs.State.{Pool, Place, wellFormed, rows}
 use Rattle.model.specs.Blocks.{damage}
-use Rattle.model.specs.Answers.{Answer, refusal, setUpAnswer, grantAnswer, releaseAnswer, resizeAnswer, measureAnswer, reportAnswer}
+use Rattle.model.specs.Answers.{Answer, done, refusal, reportRefusal}
 use Rattle.model.specs.Plans.{Plan, Write, writes, copies, Call, setsUp, grants, releases, resizes, measures, reports, plan, freshPool}
-use Rattle.model.specs.Tables.{encode, view, sound, arenaRight, roomBytes}
+use Rattle.model.specs.Tables.{Layout, byMasks, encodeBy, viewBy, soundBy, arenaRight, roomBytes}
+
+-- A form of the tables: what stands in the room for a state, what a room says, whether a room is sound under an arena of n bytes,
+-- and whether set up takes it for one.
+pub record Form : Type 1 where
+  pub Room : Type 0
+  pub encode : Pool → Room
+  pub view : Room → Pool
+  pub sound : ℕ → Room → Bool
+  pub fits : ℕ → Room → Bool
 
 -- what a call leaves
-pub record Result : Type 0 where
+pub record Outcome (R : Type 0) : Type 0 where
   pub answer : Answer
   pub arena : List ℕ
-  pub room : List ℕ
+  pub room : R
+
+-- where the room is bytes
+abbrev pub Result : Type 0
+Result = Outcome (List ℕ)
 
 -- "With a refusal .. arena and tables keep every byte."
-abbrev pub keeps : Answer → List ℕ → List ℕ → Result
+abbrev pub keeps : {R : Type 0} → Answer → List ℕ → R → Outcome R
 keeps r a t = record { answer = r; arena = a; room = t }
 
 -- the arena after writes, one after the other
@@ -38,47 +50,97 @@ abbrev pub written : List ℕ → List Write → List ℕ
 written a [] = a
 written a (w ∷ ws) = written (write a w) ws
 
+-- a plan carried out on an arena, and its state in the room
+abbrev pub applied : (F : Form) → List ℕ → Plan → Outcome (F .Room)
+applied F a p = record { answer = p .answer; arena = written a (p .changes); room = F .encode (p .pool) }
+
 -- "unsound: arena or table room length wrong, or a soundness rule is broken"; set up does not ask
 abbrev pub unsound : Call → Answer
-unsound setsUp = setUpAnswer SetUp.BadArena
-unsound (grants n) = grantAnswer Grant.Unsound
-unsound (releases o) = releaseAnswer Release.Unsound
-unsound (resizes o n) = resizeAnswer Resize.Unsound
-unsound (measures o) = measureAnswer Measure.Unsound
-unsound reports = reportAnswer Report.Unsound
+unsound setsUp = refusal BadArena
+unsound (grants n) = refusal Unsound
+unsound (releases o) = refusal Unsound
+unsound (resizes o n) = refusal Unsound
+unsound (measures o) = refusal Unsound
+unsound reports = reportRefusal Unsound
+
+-- what is done with a block that is intact, or else with the reason
+unfoldable pub unless : {A : Type 0} → Damage → A → (Refusal → A) → A
+unless Intact x f = x
+unless (Damaged r) x f = f r
 
 module _ (row : ℕ) where
-  -- 6 or 7 if the block that a plan names is damaged, else 0
-  abbrev pub damaged : List ℕ → Option Place → ℕ
-  damaged a none = 0
+  -- the damage of the block that a plan names
+  abbrev pub damaged : List ℕ → Option Place → Damage
+  damaged a none = Intact
   damaged a (some p) = damage row a p
 
-  -- a plan carried out on an arena, and its state as bytes
-  unfoldable pub carried : List ℕ → List ℕ → Plan Answer → Result
-  carried a t p =
-      let k = damaged a (p .checks) in
-      let yes : Result = record { answer = p .answer; arena = written a (p .changes); room = encode row (p .pool) } in
-      let no : Result = keeps (refusal k) a t in
-      choose (eqb k 0) yes no
+  module _ (F : Form) where
+    -- a plan carried out where the block that it names is intact; else the reason, and nothing changes
+    unfoldable pub carriedBy : List ℕ → F .Room → Plan → Outcome (F .Room)
+    carriedBy a t p =
+        unless (damaged a (p .checks)) (applied F a p) (λ r. keeps (refusal r) a t)
 
-  -- "bad arena: set up only: arena length outside the rule, or table room of another size"
-  unfoldable pub setUpRight : List ℕ → List ℕ → Bool
-  setUpRight a t = arenaRight row (length a) && eqb (length t) (roomBytes (length a / row))
+    -- "bad arena: set up only: arena length outside the rule, or table room of another size"
+    unfoldable pub setUpRightBy : List ℕ → F .Room → Bool
+    setUpRightBy a t = arenaRight row (length a) && F .fits (length a) t
 
-  -- "Set up writes zero over the whole arena and makes tables with no groups."
-  unfoldable pub setUp : List ℕ → List ℕ → Result
-  setUp a t =
-      let yes : Result = record { answer = setUpAnswer SetUp.Done; arena = zeros (length a); room = encode row (freshPool (length a / row)) } in
-      choose (setUpRight a t) yes (keeps (setUpAnswer SetUp.BadArena) a t)
+    -- "Set up writes zero over the whole arena and makes tables with no groups."
+    unfoldable pub setUpBy : List ℕ → F .Room → Outcome (F .Room)
+    setUpBy a t =
+        let yes : Outcome (F .Room) = record { answer = done (0 ∷ []); arena = zeros (length a); room = F .encode (freshPool (length a / row)) } in
+        choose (setUpRightBy a t) yes (keeps (refusal BadArena) a t)
 
-  -- a call on tables that must be sound
-  unfoldable pub checked : List ℕ → List ℕ → Call → Result
-  checked a t c = let yes = carried a t (plan row (view row t) c) in choose (sound row (length a) t) yes (keeps (unsound c) a t)
+    -- a call on tables that must be sound
+    unfoldable pub checkedBy : List ℕ → F .Room → Call → Outcome (F .Room)
+    checkedBy a t c = let yes = carriedBy a t (plan row (F .view t) c) in choose (F .sound (length a) t) yes (keeps (unsound c) a t)
 
-  unfoldable pub call : List ℕ → List ℕ → Call → Result
-  call a t setsUp = setUp a t
-  call a t (grants n) = checked a t (grants n)
-  call a t (releases o) = checked a t (releases o)
-  call a t (resizes o n) = checked a t (resizes o n)
-  call a t (measures o) = checked a t (measures o)
-  call a t reports = checked a t reports
+    unfoldable pub callBy : List ℕ → F .Room → Call → Outcome (F .Room)
+    callBy a t setsUp = setUpBy a t
+    callBy a t (grants n) = checkedBy a t (grants n)
+    callBy a t (releases o) = checkedBy a t (releases o)
+    callBy a t (resizes o n) = checkedBy a t (resizes o n)
+    callBy a t (measures o) = checkedBy a t (measures o)
+    callBy a t reports = checkedBy a t reports
+
+  -- a state that an arena of n bytes can have
+  pub record Stands (n : ℕ) (P : Pool) : Type 0 where
+    pub lawful : T (arenaRight row n)
+    pub long : n ≡ row * rows row P
+    pub formed : T (wellFormed P)
+
+  -- The laws of a form: a sound room is the one form of a state that stands, and says it; set up takes it back.
+  pub record Lawful (F : Form) : Type 0 where
+    pub says : (P : Pool) → T (wellFormed P) → F .view (F .encode P) ≡ P
+    pub right : (n : ℕ) (P : Pool) → Stands n P → T (F .sound n (F .encode P))
+    pub only : (n : ℕ) (t : F .Room) → T (F .sound n t) → Stands n (F .view t) × (t ≡ F .encode (F .view t))
+    pub taken : (n : ℕ) (P : Pool) → Stands n P → T (F .fits n (F .encode P))
+
+  -- tables in bytes, in a layout: set up takes a room of the one exact size
+  abbrev pub formOf : Layout → Form
+  formOf L = record {
+    Room = List ℕ;
+    encode = encodeBy L row;
+    view = viewBy L row;
+    sound = soundBy L row;
+    fits = λ n t. eqb (length t) (roomBytes (n / row));
+  }
+
+  -- THE FIRST ENGINE, by its form
+
+  abbrev pub masked : Form
+  masked = formOf byMasks
+
+  abbrev pub carried : List ℕ → List ℕ → Plan → Outcome (List ℕ)
+  carried a t p = carriedBy masked a t p
+
+  abbrev pub setUpRight : List ℕ → List ℕ → Bool
+  setUpRight a t = setUpRightBy masked a t
+
+  abbrev pub setUp : List ℕ → List ℕ → Outcome (List ℕ)
+  setUp a t = setUpBy masked a t
+
+  abbrev pub checked : List ℕ → List ℕ → Call → Outcome (List ℕ)
+  checked a t c = checkedBy masked a t c
+
+  abbrev pub call : List ℕ → List ℕ → Call → Outcome (List ℕ)
+  call a t c = callBy masked a t c

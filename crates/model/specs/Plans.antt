@@ -1,26 +1,23 @@
 -- The calls on the pool's state alone: what each answers, the state after it, and what it writes to the arena. No byte is read.
 use Prim.Native.Nat.{ℕ, zero, suc, _+_, _*_, _-_, _/_, _%_, min}
+use mathlib.Core.Path.{_≡_}
 use mathlib.Core.Bool.{Bool, true, false, _&&_, not}
 use mathlib.Core.Option.{Option, none, some}
 use mathlib.Core.List.{List, [], _∷_, _++_, map}
-use lib.Dec.{leb, eqb}
+use lib.Dec.{T, leb, eqb}
 use lib.ListN.{getD, take, drop, replicate}
-use Rattle.mem.specs.Lists.{choose, any, first, find, sum}
+use Rattle.mem.specs.Lists.{choose, every, any, first, find, sum}
 use Rattle.mem.specs.Bytes.{zeros, part, bit}
 use Rattle.classes.specs.Classes.{slotBytes, classOf, slotsOf, rowsOf, tooLarge}
 use Rattle.model.specs.declared.Slot.{Slot}
 use Rattle.model.specs.declared.Slot.the-variants.{Fresh, Idle, Live}
-use Rattle.model.specs.declared.SetUp.{SetUp}
-use Rattle.model.specs.declared.Grant.{Grant}
-use Rattle.model.specs.declared.Release.{Release}
-use Rattle.model.specs.declared.Resize.{Resize}
-use Rattle.model.specs.declared.Measure.{Measure}
-use Rattle.model.specs.declared.Report.{Report}
+use Rattle.model.specs.declared.Refusal.{Refusal}
+use Rattle.model.specs.declared.Refusal.the-variants.{TooLarge, NoSuchBlock, AlreadyFree, NoRoom}
 use Rattle.model.specs.declared.Totals.{Totals}
 use Rattle.model.specs.State.{Span, Pool, Place, free, group, isLive, isReady, isWaiting, count, disp, size}
 use Rattle.model.specs.State.{poolOf, become, slotNumber, places, rows, base, owned, start}
 use Rattle.model.specs.Blocks.{reserved, header, spare, frame}
-use Rattle.model.specs.Answers.{Answer, setUpAnswer, grantAnswer, releaseAnswer, resizeAnswer, measureAnswer, reportAnswer}
+use Rattle.model.specs.Answers.{Answer, done, refusal, listed}
 
 -- bytes written from a place on, or some bytes copied from one place to another
 pub data Write : Type 0 where
@@ -28,15 +25,15 @@ pub data Write : Type 0 where
   copies : (from to length : ℕ) → Write
 
 -- what a call does: the live block whose header and guard must be those due, if it names one; then answer, state and writes
-pub record Plan (A : Type 0) : Type 0 where
+pub record Plan : Type 0 where
   pub checks : Option Place
-  pub answer : A
+  pub answer : Answer
   pub pool : Pool
   pub changes : List Write
 
 -- "A refused call leaves the state as it was."
-abbrev pub refused : {A : Type 0} → A → Pool → Plan A
-refused r P = record { checks = none; answer = r; pool = P; changes = [] }
+abbrev pub refused : Refusal → Pool → Plan
+refused r P = record { checks = none; answer = refusal r; pool = P; changes = [] }
 
 -- GRANT
 
@@ -74,14 +71,14 @@ run (suc k) (group c ss ∷ P) = false
 abbrev pub turnReady : Slot → Slot
 turnReady Fresh = Fresh
 turnReady (Idle r k d) = Idle true k d
-turnReady (Live k d n) = Live k d n
+turnReady (Live a) = Live a
 
 unfoldable pub refill : List Slot → List Slot
 refill ss = let m = map turnReady ss in choose (any isReady ss) ss m
 
 -- "Let t be the whole part of (s − 4 − n) / 16; d is the slot's count modulo (t + 1); then the count goes up by one, 255 becoming 0."
 unfoldable pub grantSlot : ℕ → ℕ → Slot → Slot
-grantSlot c n x = Live ((count x + 1) % 256) (count x % suc ((slotBytes c - 4 - n) / 16)) n
+grantSlot c n x = Live (record { count = (count x + 1) % 256; disp = count x % suc ((slotBytes c - 4 - n) / 16); size = n })
 
 -- "Take its lowest ready slot."
 unfoldable pub grantIn : ℕ → ℕ → Site → Place
@@ -106,9 +103,9 @@ vacant p = Idle false (count (p .state)) (disp (p .state))
 
 -- a call on the block at an offset: "no such block: the offset is neither a live start nor covered by 5", "already free: it is the
 -- last start of a granted, not live slot of a present group"
-abbrev pub onBlock : {A : Type 0} → A → A → Pool → (Place → Plan A) → Option Place → Plan A
-onBlock absent freed P f none = refused absent P
-onBlock absent freed P f (some p) = let l = f p in choose (isLive (p .state)) l (refused freed P)
+abbrev pub onBlock : Pool → (Place → Plan) → Option Place → Plan
+onBlock P f none = refused NoSuchBlock P
+onBlock P f (some p) = let l = f p in choose (isLive (p .state)) l (refused AlreadyFree P)
 
 -- "In place if n is at most s − 4 − 16d and the block's class is at most one above n's class"
 unfoldable pub inPlace : Place → ℕ → Bool
@@ -126,6 +123,15 @@ freeRow (group c ss) = 0
 -- a pool with no groups
 abbrev pub freshPool : ℕ → Pool
 freshPool n = replicate n free
+
+-- every slot of the groups of class c in a pool is live
+abbrev pub AllLive : Pool → ℕ → Type 0
+AllLive P c = (X Y : Pool) (ss : List Slot) → P ≡ X ++ (group c ss ∷ Y) → T (every isLive ss)
+
+-- "neither a free slot of its class nor a long enough run of free rows exists"
+pub record NoPlace (row : ℕ) (P : Pool) (c : ℕ) : Type 0 where
+  pub all-live : AllLive P c
+  pub no-run : (X Y : Pool) → P ≡ X ++ (freshPool (rowsOf row c) ++ Y) → ⊥
 
 module _ (row : ℕ) where
   -- "If there is no such group, make one at the lowest run of R free rows, all slots ready"
@@ -149,13 +155,13 @@ module _ (row : ℕ) where
   enframe p = writes (owned row p) (frame (p .cls) (slotNumber p) (disp (p .state)) (size (p .state)))
 
   -- "if there is no such run, answer 8"; "The value is the start."
-  abbrev pub grantAt : Pool → Option Place → Plan Grant
-  grantAt P none = refused Grant.NoRoom P
-  grantAt P (some p) = record { checks = none; answer = Grant.At (start row p); pool = poolOf p; changes = enframe p ∷ [] }
+  abbrev pub grantAt : Pool → Option Place → Plan
+  grantAt P none = refused NoRoom P
+  grantAt P (some p) = record { checks = none; answer = done (start row p ∷ []); pool = poolOf p; changes = enframe p ∷ [] }
 
-  unfoldable pub grant : Pool → ℕ → Plan Grant
+  unfoldable pub grant : Pool → ℕ → Plan
   unfolding reserve enframe
-  grant P n = let g = grantAt P (reserve P n) in choose (leb tooLarge n) (refused Grant.TooLarge P) g
+  grant P n = let g = grantAt P (reserve P n) in choose (leb tooLarge n) (refused TooLarge P) g
 
   -- BLOCKS BY THEIR OFFSET
 
@@ -168,79 +174,79 @@ module _ (row : ℕ) where
 
   -- "The slot becomes waiting and its s owned bytes zero. If no slot of the group is live, the group goes, all its rows become
   -- zero and free."
-  unfoldable pub releaseAt : Place → Plan Release
+  unfoldable pub releaseAt : Place → Plan
   releaseAt p =
       let c = p .cls in
-      let stays : Plan Release = record {
+      let stays : Plan = record {
         checks = some p;
-        answer = Release.Done;
+        answer = done (0 ∷ []);
         pool = poolOf (become p (vacant p));
         changes = writes (owned row p) (zeros (slotBytes c)) ∷ [];
       } in
-      let goes : Plan Release = record {
+      let goes : Plan = record {
         checks = some p;
-        answer = Release.Done;
+        answer = done (0 ∷ []);
         pool = p .before ++ (freshPool (rowsOf row c) ++ p .after);
         changes = writes (base row p) (zeros (row * rowsOf row c)) ∷ [];
       } in
       choose (any isLive (p .lower ++ p .upper)) stays goes
 
-  unfoldable pub release : Pool → ℕ → Plan Release
+  unfoldable pub release : Pool → ℕ → Plan
   unfolding lookup releaseAt
-  release P o = onBlock Release.NoSuchBlock Release.AlreadyFree P releaseAt (lookup P o)
+  release P o = onBlock P releaseAt (lookup P o)
 
   -- RESIZE
 
   -- "the first bytes, as many as the lesser of old and new n, stay, all from there to the end become zero, header and guard are
   -- written anew"; "Count and start change only by such a grant."
-  unfoldable pub resizeInPlace : Place → ℕ → Plan Resize
+  unfoldable pub resizeInPlace : Place → ℕ → Plan
   resizeInPlace p n =
       let c = p .cls in
       let d = disp (p .state) in
       let kept = min (size (p .state)) n in
       record {
         checks = some p;
-        answer = Resize.At (start row p);
-        pool = poolOf (become p (Live (count (p .state)) d n));
+        answer = done (start row p ∷ []);
+        pool = poolOf (become p (Live (record { count = count (p .state); disp = d; size = n })));
         changes =
             writes (start row p - 4) (header c (slotNumber p) d n)
             ∷ writes (start row p + kept) (zeros (n - kept) ++ spare (reserved c d n)) ∷ [];
       }
 
   -- "Otherwise a grant of n is made while the old block is live, that many bytes are copied, then the old is released."
-  abbrev pub moveTo : Pool → Place → ℕ → Option Place → Plan Resize
-  moveTo P p n none = record { checks = some p; answer = Resize.NoRoom; pool = P; changes = [] }
+  abbrev pub moveTo : Pool → Place → ℕ → Option Place → Plan
+  moveTo P p n none = record { checks = some p; answer = refusal NoRoom; pool = P; changes = [] }
   moveTo P p n (some q) =
       let old = release (poolOf q) (start row p) in
       record {
         checks = some p;
-        answer = Resize.At (start row q);
+        answer = done (start row q ∷ []);
         pool = old .pool;
         changes = enframe q ∷ copies (start row p) (start row q) (min (size (p .state)) n) ∷ old .changes;
       }
 
-  unfoldable pub resizeMove : Pool → Place → ℕ → Plan Resize
+  unfoldable pub resizeMove : Pool → Place → ℕ → Plan
   unfolding reserve release enframe
   resizeMove P p n = moveTo P p n (reserve P n)
 
-  unfoldable pub resizeAt : Pool → ℕ → Place → Plan Resize
+  unfoldable pub resizeAt : Pool → ℕ → Place → Plan
   unfolding resizeInPlace resizeMove
   resizeAt P n p = let i = resizeInPlace p n in let m = resizeMove P p n in choose (inPlace p n) i m
 
-  unfoldable pub resize : Pool → ℕ → ℕ → Plan Resize
+  unfoldable pub resize : Pool → ℕ → ℕ → Plan
   unfolding lookup resizeAt
   resize P o n =
-      let r = onBlock Resize.NoSuchBlock Resize.AlreadyFree P (resizeAt P n) (lookup P o) in
-      choose (leb tooLarge n) (refused Resize.TooLarge P) r
+      let r = onBlock P (resizeAt P n) (lookup P o) in
+      choose (leb tooLarge n) (refused TooLarge P) r
 
   -- MEASURE AND REPORT
 
-  abbrev pub measureAt : Pool → Place → Plan Measure
-  measureAt P p = record { checks = some p; answer = Measure.Size (size (p .state)); pool = P; changes = [] }
+  abbrev pub measureAt : Pool → Place → Plan
+  measureAt P p = record { checks = some p; answer = done (size (p .state) ∷ []); pool = P; changes = [] }
 
-  unfoldable pub measure : Pool → ℕ → Plan Measure
+  unfoldable pub measure : Pool → ℕ → Plan
   unfolding lookup
-  measure P o = onBlock Measure.NoSuchBlock Measure.AlreadyFree P (measureAt P) (lookup P o)
+  measure P o = onBlock P (measureAt P) (lookup P o)
 
   abbrev pub heldRows : Span → ℕ
   heldRows free = 0
@@ -257,13 +263,13 @@ module _ (row : ℕ) where
     waiting = sum (slotSum (λ x. bit (isWaiting x))) P;
   }
 
-  unfoldable pub report : Pool → Plan Report
+  unfoldable pub report : Pool → Plan
   unfolding totals
-  report P = record { checks = none; answer = Report.Counted (totals P); pool = P; changes = [] }
+  report P = record { checks = none; answer = done (listed (totals P)); pool = P; changes = [] }
 
   -- "Set up writes zero over the whole arena and makes tables with no groups."
-  abbrev pub setUpAgain : Pool → Plan SetUp
-  setUpAgain P = record { checks = none; answer = SetUp.Done; pool = freshPool (rows row P); changes = writes 0 (zeros (row * rows row P)) ∷ [] }
+  abbrev pub setUpAgain : Pool → Plan
+  setUpAgain P = record { checks = none; answer = done (0 ∷ []); pool = freshPool (rows row P); changes = writes 0 (zeros (row * rows row P)) ∷ [] }
 
 -- THE MODEL OF DEMAND 3
 
@@ -275,17 +281,13 @@ pub data Call : Type 0 where
   measures : (offset : ℕ) → Call
   reports : Call
 
--- a plan with its answer as number and values
-abbrev pub numbered : {A : Type 0} → (A → Answer) → Plan A → Plan Answer
-numbered f p = record { checks = p .checks; answer = f (p .answer); pool = p .pool; changes = p .changes }
-
 module _ (row : ℕ) where
   -- "Every call steps on that state and its arguments alone"
-  unfoldable pub plan : Pool → Call → Plan Answer
+  unfoldable pub plan : Pool → Call → Plan
   unfolding grant release resize measure report
-  plan P setsUp = numbered setUpAnswer (setUpAgain row P)
-  plan P (grants n) = numbered grantAnswer (grant row P n)
-  plan P (releases o) = numbered releaseAnswer (release row P o)
-  plan P (resizes o n) = numbered resizeAnswer (resize row P o n)
-  plan P (measures o) = numbered measureAnswer (measure row P o)
-  plan P reports = numbered reportAnswer (report row P)
+  plan P setsUp = setUpAgain row P
+  plan P (grants n) = grant row P n
+  plan P (releases o) = release row P o
+  plan P (resizes o n) = resize row P o n
+  plan P (measures o) = measure row P o
+  plan P reports = report row P

@@ -22,47 +22,48 @@ Pool = List Span
 abbrev pub isReady : Slot → Bool
 isReady Fresh = true
 isReady (Idle r k d) = r
-isReady (Live k d n) = false
+isReady (Live a) = false
 
 abbrev pub isWaiting : Slot → Bool
 isWaiting Fresh = false
 isWaiting (Idle r k d) = not r
-isWaiting (Live k d n) = false
+isWaiting (Live a) = false
 
 abbrev pub isLive : Slot → Bool
 isLive Fresh = false
 isLive (Idle r k d) = false
-isLive (Live k d n) = true
+isLive (Live a) = true
 
 -- "For each slot also: whether it was ever granted in this group, its use count modulo 256 (grants in this group), and, once
 -- granted, the displacement d in units of its last start; for a live slot the requested n."
 abbrev pub granted : Slot → Bool
 granted Fresh = false
 granted (Idle r k d) = true
-granted (Live k d n) = true
+granted (Live a) = true
 
 abbrev pub count : Slot → ℕ
 count Fresh = 0
 count (Idle r k d) = k
-count (Live k d n) = k
+count (Live a) = a .count
 
 abbrev pub disp : Slot → ℕ
 disp Fresh = 0
 disp (Idle r k d) = d
-disp (Live k d n) = d
+disp (Live a) = a .disp
 
 abbrev pub size : Slot → ℕ
 size Fresh = 0
 size (Idle r k d) = 0
-size (Live k d n) = n
+size (Live a) = a .size
 
 -- "a live slot was granted, has 16d + n at most s − 4, and its class is that of n or the next one up; a slot granted but not
 -- live has 16d at most s − 4; a live n is below 131,052; a slot never granted is ready with count 0."
 unfoldable pub slotSound : ℕ → Slot → Bool
 slotSound c Fresh = true
 slotSound c (Idle r k d) = ltb k 256 && leb (16 * d) (slotBytes c - 4)
-slotSound c (Live k d n) =
-    ltb k 256 && leb (16 * d + n) (slotBytes c - 4) && ltb n tooLarge && (eqb c (classOf n) || eqb c (suc (classOf n)))
+slotSound c (Live a) =
+    ltb (a .count) 256 && leb (16 * a .disp + a .size) (slotBytes c - 4) && ltb (a .size) tooLarge
+    && (eqb c (classOf (a .size)) || eqb c (suc (classOf (a .size))))
 
 -- "each group has a live slot"
 unfoldable pub spanSound : Span → Bool

@@ -1,11 +1,18 @@
-// The types that the definitions in specs/ and the calls share.
+// The types that the definitions in specs/ and the calls share, and where things stand in the table room.
 
-// A slot of a group: never granted in this group, so ready with use count 0; granted before and not live, ready or else waiting;
-// or live. It keeps its use count modulo 256 and the displacement of its last start in units, and while live the requested size.
+// What the tables know of a live block: its slot's use count modulo 256, the displacement of its start in units, the requested size.
+pub struct Alloc {
+    pub count: u8,
+    pub disp: usize,
+    pub size: usize,
+}
+
+// A slot of a group: never granted in this group, so ready with use count 0; granted before and not live, ready or else waiting,
+// with its use count and the displacement of its last start; or live.
 pub enum Slot {
     Fresh,
     Idle { ready: bool, count: u8, disp: usize },
-    Live { count: u8, disp: usize, size: usize },
+    Live(Alloc),
 }
 
 // Who holds a row: nobody, a group whose first row it is (its class), or a group that began some rows before (how many).
@@ -15,33 +22,9 @@ pub enum Holder {
     Later(u8),
 }
 
-// What set up answers.
-pub enum SetUp {
-    Done,
+// Why a call is refused.
+pub enum Refusal {
     BadArena,
-}
-
-// What grant answers: the start of the block, or why there is none.
-pub enum Grant {
-    At(usize),
-    Unsound,
-    TooLarge,
-    NoRoom,
-}
-
-// What release answers.
-pub enum Release {
-    Done,
-    Unsound,
-    NoSuchBlock,
-    AlreadyFree,
-    HeaderDamaged,
-    Overrun,
-}
-
-// What resize answers: the start of the block, the old one or another.
-pub enum Resize {
-    At(usize),
     Unsound,
     TooLarge,
     NoSuchBlock,
@@ -51,14 +34,17 @@ pub enum Resize {
     NoRoom,
 }
 
-// What measure answers: the requested size.
-pub enum Measure {
-    Size(usize),
-    Unsound,
-    NoSuchBlock,
-    AlreadyFree,
-    HeaderDamaged,
-    Overrun,
+// Whether the header and the guard of a block are those due, or why a call on it is refused.
+pub enum Damage {
+    Intact,
+    Damaged(Refusal),
+}
+
+// What a call answers: its value, or why it is refused. Grant and resize give the block's start, measure its requested size, set up
+// and release 0.
+pub enum Reply {
+    Done(usize),
+    Refused(Refusal),
 }
 
 // The totals of report: live blocks and their requested bytes; rows held and rows free; ready slots and waiting slots.
@@ -74,5 +60,27 @@ pub struct Totals {
 // What report answers.
 pub enum Report {
     Counted(Totals),
-    Unsound,
+    Refused(Refusal),
 }
+
+// The layout of the table room (docs/TABLES.md): the head, then a record for each row. A group's first row keeps its masks and its
+// slots' records; a slot's record has its use count, displacement and requested size.
+pub const HEAD: usize = 16;
+
+pub const ROW_RECORD: usize = 264;
+
+pub const READY: usize = 8;
+
+pub const WAITING: usize = 12;
+
+pub const SLOTS: usize = 16;
+
+pub const SLOT_RECORD: usize = 8;
+
+pub const COUNT: usize = 1;
+
+pub const DISP: usize = 2;
+
+pub const SIZE: usize = 4;
+
+pub const MOST_SLOTS: usize = 31;

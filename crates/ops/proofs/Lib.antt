@@ -1,5 +1,5 @@
 pub mod Places
-pub mod Calls
-pub mod Moves
 pub mod Reserving
-pub mod Discarding
+pub mod Moves
+pub mod Calls
+pub mod Plans

@@ -1,37 +1,46 @@
 -- What the reads and writes of records are to the pool's state.
-use Prim.Native.Nat.{ℕ, zero, suc, _+_, _*_, _-_, _^_, _≤_, _<_}
-use mathlib.Core.Path.{_≡_, refl, sym, ap, ap₂, _∙_}
-use mathlib.Core.Bool.{Bool}
-use mathlib.Core.List.{List, [], _∷_, _++_, map, append-assoc, append-nil}
-use native.Mathlib.Nat.{add-zero, pow-succ', div-one, div-div-eq-div-mul}
-use native.Mathlib.Omega.{arith}
-use lib.Dec.{T, lit≤}
-use lib.ListN.{length, getD, drop, replicate, length-append, List·getD-map}
-use lib.Seq.{take-at, drop-drop, drop-append-add}
-use Rattle.mem.specs.Lists.{every, any, join}
-use Rattle.mem.specs.Bytes.{zeros, low, mask, part, put}
+use Rattle.mem.proofs.Prelude.{_∙_, _≡_, sym, ap, refl, ap₂, true, Bool, false, List, [], _∷_, _++_, append-assoc, map, _+_, ℕ, _<_, _≤_, _*_, _-_}
+use Rattle.mem.proofs.Prelude.{suc, zero, _^_, arith, T, length, getD, length-append, ones}
+use native.Mathlib.Nat.{pow-succ', div-one, div-div-eq-div-mul}
+use lib.ListN.{List·getD-map}
+use lib.Seq.{take-at}
+use Rattle.mem.specs.Lists.{every, any, sum, join}
+use Rattle.mem.specs.Bytes.{zeros, low, bit, mask, part, put}
 use Rattle.mem.proofs.Tests.{every-in, choose-case}
-use Rattle.mem.proofs.Masks.{low-test, rest-bits}
-use Rattle.mem.proofs.Laws.{zeros-length, zeros-none, zeros-add, join-append, put-at, part-back}
+use Rattle.mem.proofs.Masks.{low-test, rest-bits, ones-sum}
+use Rattle.mem.proofs.Laws.{join-append, put-at, part-back}
 use Rattle.classes.specs.Classes.{rowsOf}
-use Rattle.classes.proofs.Laws.{rows-pos}
 use Rattle.masks.specs.declared.Masks.{Masks}
 use Rattle.model.specs.declared.Slot.{Slot}
 use Rattle.model.specs.declared.Slot.the-variants.{Fresh, Idle, Live}
 use Rattle.model.specs.declared.Holder.{Holder}
-use Rattle.model.specs.declared.Holder.the-variants.{Free, First, Later}
-use Rattle.model.specs.State.{Pool, free, group, isReady, isWaiting, slotSound, wellFormed, rows}
-use Rattle.model.specs.Tables.{slotRecord, rowRecord, laterRecords, viewHolder, spanRecords, encode}
+use Rattle.model.specs.declared.Holder.the-variants.{First}
+use Rattle.model.specs.State.{Pool, group, isReady, isWaiting, isLive, slotSound, wellFormed, rows}
+use Rattle.model.specs.Tables.{rowAt, byMasks, slotRecord, rowRecord, laterRecords, spanRecords, encode}
 use Rattle.model.specs.Plans.{turnReady, refill}
-use Rattle.model.proofs.Tables.{slot-length, slots-length, rowHead, head-length, row-parts, row-length, later-length}
-use Rattle.model.proofs.Tables.{holder-free, holder-first, holder-later, mask-read, view-slot}
-use Rattle.model.proofs.Fresh.{fresh-rows}
-use Rattle.model.proofs.Rooms.{rows-append, roomFront, encode-split, front-length, encode-from}
-use Rattle.records.specs.Records.{rowAt, has, masksIn, slotIn, stored}
+use Rattle.model.proofs.Tables.{slot-length, slots-length, rowHead, head-length, row-parts, masks-laws, mask-read, view-slot}
+use Rattle.model.proofs.Rooms.{rows-append, roomFront, encode-split, front-length}
+use Rattle.rows.proofs.Rooms.{group-first}
+use Rattle.records.specs.Records.{has, masksIn, slotIn, stored}
 
 -- the masks of a group's slots
 abbrev pub masksOf : List Slot → Masks
 masksOf ss = record { ready = mask (map isReady ss); waiting = mask (map isWaiting ss) }
+
+pub mask-ones : (f : Slot → Bool) (ss : List Slot) → ones (mask (map f ss)) ≡ sum (λ x. bit (f x)) ss
+mask-ones f ss = ones-sum (map f ss) ∙ bits ss
+  where
+    bits : (ss : List Slot) → sum bit (map f ss) ≡ sum (λ x. bit (f x)) ss
+    bits [] = refl
+    bits (x ∷ ss) = ap (λ n. bit (f x) + n) (bits ss)
+
+-- a slot is ready, waiting or live
+pub three-sets : (ss : List Slot) → sum (λ x. bit (isReady x)) ss + sum (λ x. bit (isWaiting x)) ss + sum (λ x. bit (isLive x)) ss ≡ length ss
+three-sets [] = refl
+three-sets (Fresh ∷ ss) = omega (arith, three-sets ss)
+three-sets (Idle true k d ∷ ss) = omega (arith, three-sets ss)
+three-sets (Idle false k d ∷ ss) = omega (arith, three-sets ss)
+three-sets (Live a ∷ ss) = omega (arith, three-sets ss)
 
 -- ---- a write to one slot of a group
 
@@ -69,7 +78,8 @@ row-split c ss rest = simp append-assoc
 -- a group's first row, round the record of one slot
 row-round : (c : ℕ) (us : List Slot) (x : Slot) (vs : List Slot) (rest : List ℕ)
     → rowRecord (First c) (us ++ (x ∷ vs)) ++ rest
-    ≡ kind c ++ (sets (us ++ (x ∷ vs)) ++ (join slotRecord us ++ (slotRecord x ++ (join slotRecord vs ++ (zeros (8 * (31 - length (us ++ (x ∷ vs)))) ++ rest)))))
+    ≡ kind c ++ (sets (us ++ (x ∷ vs)) ++ (join slotRecord us ++ (slotRecord
+    x ++ (join slotRecord vs ++ (zeros (8 * (31 - length (us ++ (x ∷ vs)))) ++ rest)))))
 row-round c us x vs rest = row-split c (us ++ (x ∷ vs)) rest ∙ rw (join-append slotRecord us (x ∷ vs)) (simp append-assoc)
 
 module _ (us vs us′ vs′ : List Slot) (x y : Slot) (lu : length us ≡ length us′) (lv : length vs ≡ length vs′)
@@ -86,16 +96,10 @@ module _ (us vs us′ vs′ : List Slot) (x y : Slot) (lu : length us ≡ length
       (kind-length c) (sets-length (us ++ (y ∷ vs))) (sets-length (us′ ++ (x ∷ vs′))) (omega (arith, slots-length us)) (slot-length y) (slot-length x)
       ∙ rw (ju, jv, n) (ap (λ t. front ++ t) (sym (row-round c us′ x vs′ rest))))
 
--- the records from a group on, its first row's first
-pub group-first : (row c : ℕ) (ss : List Slot) (Y : Pool)
-    → join (spanRecords row) (group c ss ∷ Y) ≡ rowRecord (First c) ss ++ (laterRecords (rowsOf row c - 1) 1 ++ join (spanRecords row) Y)
-unfolding spanRecords
-group-first row c ss Y = append-assoc (rowRecord (First c) ss) (laterRecords (rowsOf row c - 1) 1) (join (spanRecords row) Y)
-
 -- the room round a group's first row, which is the same whatever its slots
 module _ (row c : ℕ) (X Y : Pool) where
   groupFront : List ℕ
-  groupFront = roomFront row (rows row X + (rowsOf row c + rows row Y)) X
+  groupFront = roomFront byMasks row (rows row X + (rowsOf row c + rows row Y)) X
 
   groupBack : List ℕ
   groupBack = laterRecords (rowsOf row c - 1) 1 ++ join (spanRecords row) Y
@@ -103,7 +107,8 @@ module _ (row c : ℕ) (X Y : Pool) where
   encode-round : (ss : List Slot) → encode row (X ++ (group c ss ∷ Y)) ≡ groupFront ++ (rowRecord (First c) ss ++ groupBack)
   unfolding groupFront groupBack
   encode-round ss =
-      encode-split row X (group c ss ∷ Y) ∙ ap₂ (λ n t. roomFront row n X ++ t) (rows-append row X (group c ss ∷ Y)) (group-first row c ss Y)
+      encode-split byMasks row X (group c ss ∷ Y) ∙ ap₂ (λ n t. roomFront byMasks row n X ++ t) (rows-append row X (group c ss ∷ Y))
+      (group-first byMasks row c ss Y)
 
 -- one slot of a group becomes x, and of the others no record changes
 pub stored-encode : (row : ℕ) → 0 < row → (X : Pool) (c : ℕ) (us vs us′ vs′ : List Slot) (x y : Slot) (Y : Pool) → T (wellFormed X)
@@ -112,7 +117,7 @@ pub stored-encode : (row : ℕ) → 0 < row → (X : Pool) (c : ℕ) (us vs us�
     ≡ encode row (X ++ (group c (us′ ++ (x ∷ vs′)) ∷ Y))
 unfolding groupFront
 stored-encode row pos X c us vs us′ vs′ x y Y w lu lv ju jv =
-    let l : length (groupFront row c X Y) ≡ rowAt (rows row X) = front-length row pos (rows row X + (rowsOf row c + rows row Y)) X w in
+    let l : length (groupFront row c X Y) ≡ rowAt (rows row X) = front-length masks-laws row pos (rows row X + (rowsOf row c + rows row Y)) X w in
     rw (encode-round row c X Y (us ++ (y ∷ vs)), encode-round row c X Y (us′ ++ (x ∷ vs′)), ← l)
     (row-stored us vs us′ vs′ x y lu lv ju jv c (groupFront row c X Y) (groupBack row c X Y))
 
@@ -124,7 +129,7 @@ masks-read c ss rest h =
     ap₂ {C = Masks} (λ r w. record { ready = r; waiting = w }) (mask-read isReady ss h) (mask-read isWaiting ss h)
 
 pub masks-read-span : (row c : ℕ) (ss : List Slot) (Y : Pool) → length ss ≤ 31 → masksIn (join (spanRecords row) (group c ss ∷ Y)) ≡ masksOf ss
-masks-read-span row c ss Y h = ap masksIn (group-first row c ss Y) ∙ masks-read c ss (laterRecords (rowsOf row c - 1) 1 ++ join (spanRecords row) Y) h
+masks-read-span row c ss Y h = ap masksIn (group-first byMasks row c ss Y) ∙ masks-read c ss (laterRecords (rowsOf row c - 1) 1 ++ join (spanRecords row) Y) h
 
 -- bit j of a mask of slots
 has-slot : (f : Slot → Bool) (ss : List Slot) (j : ℕ) → j < length ss → has j (mask (map f ss)) ≡ f (getD ss j Fresh)
@@ -167,114 +172,10 @@ turn-record : (x : Slot) → slotRecord (turnReady x) ≡ slotRecord x
 unfolding slotRecord
 turn-record Fresh = refl
 turn-record (Idle r k d) = refl
-turn-record (Live k d n) = refl
+turn-record (Live a) = refl
 
 pub refill-records : (ss : List Slot) (k : ℕ) → slotRecord (getD (refill ss) k Fresh) ≡ slotRecord (getD ss k Fresh)
 unfolding refill
 refill-records ss k =
     choose-case (λ l. slotRecord (getD l k Fresh) ≡ slotRecord (getD ss k Fresh)) (any isReady ss) ss (map turnReady ss) (λ e. refl)
     (λ e. ap slotRecord (List·getD-map turnReady ss k Fresh) ∙ turn-record (getD ss k Fresh))
-
--- ---- writes of whole spans
-
-module _ (row : ℕ) where
-  free-record : spanRecords row free ≡ zeros 264
-  unfolding spanRecords rowRecord zeros
-  free-record = refl
-
-  pub free-records : (n : ℕ) → join (spanRecords row) (replicate n free) ≡ zeros (264 * n)
-  free-records zero = sym zeros-none
-  free-records (suc n) =
-      let e : 264 + 264 * n ≡ 264 * suc n = omega arith in
-      ap₂ (λ s t. s ++ t) free-record (free-records n) ∙ sym (zeros-add 264 (264 * n)) ∙ ap zeros e
-
-  module _ (pos : 0 < row) where
-    group-length : (c : ℕ) (ss : List Slot) → length ss ≤ 31 → length (spanRecords row (group c ss)) ≡ 264 * rowsOf row c
-    unfolding spanRecords
-    group-length c ss h =
-        omega (
-          arith,
-          length-append (rowRecord (First c) ss) (laterRecords (rowsOf row c - 1) 1),
-          row-length (First c) ss h,
-          later-length (rowsOf row c - 1) 1,
-          rows-pos row c pos,
-        )
-
-    -- spans are written over others with as many rows
-    spans-put : (X A B Y : Pool) → T (wellFormed X) → rows row A ≡ rows row B → length (join (spanRecords row) B) ≡ length (join (spanRecords row) A)
-        → put (rowAt (rows row X)) (join (spanRecords row) B) (encode row (X ++ (A ++ Y))) ≡ encode row (X ++ (B ++ Y))
-    spans-put X A B Y w n l =
-        let e : rows row (X ++ (A ++ Y)) ≡ rows row (X ++ (B ++ Y)) =
-        omega (arith, n, rows-append row X (A ++ Y), rows-append row X (B ++ Y), rows-append row A Y, rows-append row B Y) in
-        rw (encode-split row X (A ++ Y), encode-split row X (B ++ Y), join-append (spanRecords row) A Y, join-append (spanRecords row) B Y, e)
-        (put-at (rowAt (rows row X)) (roomFront row (rows row (X ++ (B ++ Y))) X) (join (spanRecords row) A) (join (spanRecords row) B) (join (spanRecords row) Y)
-        (front-length row pos (rows row (X ++ (B ++ Y))) X w) l)
-
-    module _ (X : Pool) (c : ℕ) (ss : List Slot) (Y : Pool) (w : T (wellFormed X)) (h : length ss ≤ 31) where
-      same-rows : rows row (replicate (rowsOf row c) free) ≡ rows row (group c ss ∷ [])
-      same-rows = omega (arith, fresh-rows row (rowsOf row c))
-
-      same-bytes : length (join (spanRecords row) (replicate (rowsOf row c) free)) ≡ length (join (spanRecords row) (group c ss ∷ []))
-      same-bytes =
-          omega (
-            arith,
-            ap length (free-records (rowsOf row c)),
-            zeros-length (264 * rowsOf row c),
-            ap length (append-nil (spanRecords row (group c ss))),
-            group-length c ss h,
-          )
-
-      -- a group is made in free rows
-      pub made-encode : put (rowAt (rows row X)) (spanRecords row (group c ss)) (encode row (X ++ (replicate (rowsOf row c) free ++ Y)))
-          ≡ encode row (X ++ (group c ss ∷ Y))
-      made-encode =
-          ap (λ t. put (rowAt (rows row X)) t (encode row (X ++ (replicate (rowsOf row c) free ++ Y)))) (sym (append-nil (spanRecords row (group c ss))))
-          ∙ spans-put X (replicate (rowsOf row c) free) (group c ss ∷ []) Y w same-rows (sym same-bytes)
-
-      -- its rows become free
-      pub dropped-encode : put (rowAt (rows row X)) (zeros (264 * rowsOf row c)) (encode row (X ++ (group c ss ∷ Y)))
-          ≡ encode row (X ++ (replicate (rowsOf row c) free ++ Y))
-      dropped-encode =
-          ap (λ t. put (rowAt (rows row X)) t (encode row (X ++ (group c ss ∷ Y)))) (sym (free-records (rowsOf row c)))
-          ∙ spans-put X (group c ss ∷ []) (replicate (rowsOf row c) free) Y w (sym same-rows) same-bytes
-
--- ---- who holds a row
-
-later-read : (m j k : ℕ) (rest : List ℕ) → k < m → viewHolder (drop (264 * k) (laterRecords m j ++ rest)) ≡ Later (j + k)
-unfolding laterRecords
-later-read zero j k rest h = absurd (omega arith)
-later-read (suc m) j zero rest h = rw (append-assoc (rowRecord (Later j) [])) (holder-later j (laterRecords m (suc j) ++ rest) ∙ ap Later (sym (add-zero j)))
-later-read (suc m) j (suc k) rest h =
-    let l : length (rowRecord (Later j) []) ≡ 264 = row-length (Later j) [] (lit≤ tt) in
-    let e : 264 * suc k ≡ length (rowRecord (Later j) []) + 264 * k = omega arith in
-    let f : suc j + k ≡ j + suc k = omega arith in
-    rw (append-assoc (rowRecord (Later j) []), e, drop-append-add (rowRecord (Later j) []) (laterRecords m (suc j) ++ rest) (264 * k))
-    (later-read m (suc j) k rest (omega arith) ∙ ap Later f)
-
-module _ (row : ℕ) (pos : 0 < row) (X Y : Pool) (w : T (wellFormed X)) where
-  -- the room from row k behind X on
-  row-from : (P : Pool) (k : ℕ) → drop (rowAt (rows row X + k)) (encode row (X ++ P)) ≡ drop (264 * k) (join (spanRecords row) P)
-  row-from P k =
-      let e : rowAt (rows row X + k) ≡ rowAt (rows row X) + 264 * k = omega arith in
-      rw (e, ← drop-drop (264 * k) (rowAt (rows row X)) (encode row (X ++ P)), encode-from row pos X P w)
-
-  pub holder-read-free : (k : ℕ) → k < 1 → viewHolder (drop (rowAt (rows row X + k)) (encode row (X ++ (free ∷ Y)))) ≡ Free
-  unfolding spanRecords
-  holder-read-free k h =
-      let e : 264 * k ≡ 0 = omega arith in
-      ap viewHolder (row-from (free ∷ Y) k) ∙ rw e (holder-free (join (spanRecords row) Y))
-
-  pub holder-read-first : (c : ℕ) (ss : List Slot) (k : ℕ) → k ≡ 0 → viewHolder (drop (rowAt (rows row X + k)) (encode row (X ++ (group c ss ∷ Y)))) ≡ First c
-  holder-read-first c ss k h =
-      let e : 264 * k ≡ 0 = omega arith in
-      ap viewHolder (row-from (group c ss ∷ Y) k) ∙ rw (e, group-first row c ss Y) (holder-first c ss (laterRecords (rowsOf row c - 1) 1 ++ join (spanRecords row) Y))
-
-  pub holder-read-later : (c : ℕ) (ss : List Slot) (k : ℕ) → length ss ≤ 31 → 0 < k → k < rowsOf row c
-      → viewHolder (drop (rowAt (rows row X + k)) (encode row (X ++ (group c ss ∷ Y)))) ≡ Later k
-  holder-read-later c ss k l h b =
-      let e : 264 * k ≡ length (rowRecord (First c) ss) + 264 * (k - 1) = omega (arith, row-length (First c) ss l) in
-      let f : 1 + (k - 1) ≡ k = omega arith in
-      let R : List ℕ = laterRecords (rowsOf row c - 1) 1 ++ join (spanRecords row) Y in
-      ap viewHolder (row-from (group c ss ∷ Y) k)
-      ∙ rw (e, group-first row c ss Y, drop-append-add (rowRecord (First c) ss) R (264 * (k - 1)))
-      (later-read (rowsOf row c - 1) 1 (k - 1) (join (spanRecords row) Y) (omega arith) ∙ ap Later f)

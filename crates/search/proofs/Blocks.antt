@@ -1,15 +1,10 @@
 -- The block at an offset, from the group that has the offset's row.
-use Prim.Native.Nat.{ℕ, suc, _+_, _*_, _-_, _/_, _%_, _≤_, _<_}
-use mathlib.Core.Path.{_≡_, refl, sym, subst, ap, ap₂, _∙_}
-use mathlib.Core.Bool.{Bool, true, false}
-use mathlib.Core.Option.{Option, none, some}
-use mathlib.Core.List.{List, [], _∷_, _++_}
-use native.Mathlib.Nat.{mul-comm, mul-add-div, mul-add-mod-self-left, mod-eq-of-lt, div-eq-of-lt, div-add-mod, le-div-iff-mul-le}
-use native.Mathlib.Omega.{arith}
-use lib.Dec.{T, eqb, ltb, leb}
-use lib.ListN.{length, getD, take, drop}
-use lib.Seq.{split-at, length-take-le, getD-at}
-use borrow.Author.Tests.{eq-eqb, le-ltb, lt-leb, ltb-true, ltb-false, leb-false, ne-eqb}
+use Rattle.mem.proofs.Prelude.{_∙_, _≡_, sym, ap, refl, ap₂, subst, true, Bool, false, some, none, Option, List, [], _∷_, _++_, _+_, ℕ, _<_, _≤_, _*_}
+use Rattle.mem.proofs.Prelude.{_-_, suc, _/_, _%_, mul-comm, le-div-iff-mul-le, arith, eq-eqb, ne-eqb, leb-false, lt-leb, le-ltb, T, eqb, leb, ltb}
+use Rattle.mem.proofs.Prelude.{length, drop, getD, take, length-take-le}
+use native.Mathlib.Nat.{mul-add-div, mul-add-mod-self-left, mod-eq-of-lt, div-eq-of-lt, div-add-mod}
+use lib.Seq.{split-at, getD-at}
+use borrow.Author.Tests.{ltb-true, ltb-false}
 use Rattle.mem.specs.Lists.{choose}
 use Rattle.mem.proofs.Tests.{choose-case, choose-true, choose-false, and-left, every-right}
 use Rattle.classes.specs.Classes.{slotBytes, slotsOf}
@@ -47,17 +42,18 @@ own : (row : ℕ) (X : Pool) (c : ℕ) (us : List Slot) (x : Slot) (vs : List Sl
 unfolding choose
 own row X c us Fresh vs Y g = absurd g
 own row X c us (Idle r k d) vs Y g = sym (choose-true (eqb (16 * d) (16 * d)) Freed Absent (eq-eqb (16 * d) (16 * d) refl))
-own row X c us (Live k d n) vs Y g = sym (choose-true (eqb (16 * d) (16 * d)) _ Absent (eq-eqb (16 * d) (16 * d) refl))
+own row X c us (Live a) vs Y g = sym (choose-true (eqb (16 * a .disp) (16 * a .disp)) _ Absent (eq-eqb (16 * a .disp) (16 * a .disp) refl))
 
 -- with another displacement, or never granted, nothing is
 other : (first c i after : ℕ) (x : Slot) → (T (granted x) → 16 * disp x ≡ after → ⊥) → Absent ≡ slotLooked first c i after x
 other first c i after Fresh h = refl
 other first c i after (Idle r k d) h = sym (choose-false (eqb (16 * d) after) Freed Absent (ne-eqb (16 * d) after (h tt)))
-other first c i after (Live k d n) h = sym (choose-false (eqb (16 * d) after) _ Absent (ne-eqb (16 * d) after (h tt)))
+other first c i after (Live a) h = sym (choose-false (eqb (16 * a .disp) after) _ Absent (ne-eqb (16 * a .disp) after (h tt)))
 
 module _ (row : ℕ) (pos : 0 < row) (X : Pool) (c : ℕ) (ss : List Slot) (Y : Pool) (w : T (wellFormed (X ++ (group c ss ∷ Y)))) (o : ℕ)
     (i : InRows row pos (o / row) X (group c ss)) where
-  found : (p : Place) → lookup row (X ++ (group c ss ∷ Y)) o ≡ some p → looked row (some p) ≡ groupLooked (rows row X) c (o - row * rows row X) (λ j. getD ss j Fresh)
+  found : (p : Place) → lookup row (X ++ (group c ss ∷ Y)) o ≡ some p → looked row (some p)
+      ≡ groupLooked (rows row X) c (o - row * rows row X) (λ j. getD ss j Fresh)
   found p e =
       let f : (poolOf p ≡ X ++ (group c ss ∷ Y)) × T (granted (p .state)) × (start row p ≡ o) = lookup-found row pos (X ++ (group c ss ∷ Y)) o p e in
       let w′ : T (wellFormed (poolOf p)) = subst (λ Q. T (wellFormed Q)) (sym (f .0)) w in
@@ -74,7 +70,8 @@ module _ (row : ℕ) (pos : 0 < row) (X : Pool) (c : ℕ) (ss : List Slot) (Y : 
       let m : slotBytes (p .cls) * slotNumber p ≡ slotBytes c * slotNumber p = ap (λ z. slotBytes z * slotNumber p) cl in
       let n : o - row * rows row X ≡ 16 + (slotBytes c * slotNumber p + 16 * disp (p .state)) =
       omega (arith, f .2, b, m, mul-comm (slotBytes (p .cls)) (slotNumber p)) in
-      let x : getD ss (slotNumber p) Fresh ≡ p .state = ap (λ l. getD l (slotNumber p) Fresh) (sym sl) ∙ getD-at (p .lower) (p .state) (p .upper) Fresh (slotNumber p) refl in
+      let x : getD ss (slotNumber p) Fresh ≡ p .state = ap (λ l. getD l (slotNumber p) Fresh) (sym sl)
+      ∙ getD-at (p .lower) (p .state) (p .upper) Fresh (slotNumber p) refl in
       own row (p .before) (p .cls) (p .lower) (p .state) (p .upper) (p .after) (f .1)
       ∙ ap₂ (λ Z z. slotLooked (rows row Z) z (slotNumber p) (16 * disp (p .state)) (p .state)) (u .0) cl
       ∙ ap (slotLooked (rows row X) c (slotNumber p) (16 * disp (p .state))) (sym x)
@@ -84,7 +81,8 @@ module _ (row : ℕ) (pos : 0 < row) (X : Pool) (c : ℕ) (ss : List Slot) (Y : 
   missed : lookup row (X ++ (group c ss ∷ Y)) o ≡ none → Absent ≡ groupLooked (rows row X) c (o - row * rows row X) (λ j. getD ss j Fresh)
   unfolding groupLooked
   missed e =
-      choose-case (λ r. Absent ≡ r) (ltb n 16) Absent (choose (leb (slotsOf c) j) Absent (slotLooked (rows row X) c j (m % slotBytes c) (getD ss j Fresh))) (λ h. refl)
+      choose-case (λ r. Absent ≡ r) (ltb n 16) Absent (choose (leb (slotsOf c) j) Absent (slotLooked (rows row X) c j (m % slotBytes c) (getD ss j Fresh)))
+      (λ h. refl)
       (λ h. choose-case (λ r. Absent ≡ r) (leb (slotsOf c) j) Absent (slotLooked (rows row X) c j (m % slotBytes c) (getD ss j Fresh)) (λ l. refl)
       (λ l. other (rows row X) c j (m % slotBytes c) (getD ss j Fresh) (nothing (ltb-false n 16 h) (leb-false (slotsOf c) j l))))
     where
@@ -115,7 +113,8 @@ module _ (row : ℕ) (pos : 0 < row) (X : Pool) (c : ℕ) (ss : List Slot) (Y : 
   pub looked-group : looked row (lookup row (X ++ (group c ss ∷ Y)) o) ≡ groupLooked (rows row X) c (o - row * rows row X) (λ j. getD ss j Fresh)
   looked-group = go (lookup row (X ++ (group c ss ∷ Y)) o) refl
     where
-      go : (r : Option Place) → lookup row (X ++ (group c ss ∷ Y)) o ≡ r → looked row r ≡ groupLooked (rows row X) c (o - row * rows row X) (λ j. getD ss j Fresh)
+      go : (r : Option Place) → lookup row (X ++ (group c ss ∷ Y)) o ≡ r → looked row r
+          ≡ groupLooked (rows row X) c (o - row * rows row X) (λ j. getD ss j Fresh)
       go none e = missed e
       go (some p) e = found p e
 
@@ -129,7 +128,8 @@ module _ (row : ℕ) (pos : 0 < row) where
       go none e = refl
       go (some p) e = absurd (f p e)
 
-  pub looked-free : (X Y : Pool) (o : ℕ) → T (wellFormed (X ++ (free ∷ Y))) → InRows row pos (o / row) X free → looked row (lookup row (X ++ (free ∷ Y)) o) ≡ Absent
+  pub looked-free : (X Y : Pool) (o : ℕ) → T (wellFormed (X ++ (free ∷ Y))) → InRows row pos (o / row) X free → looked row (lookup row (X ++ (free ∷ Y)) o)
+      ≡ Absent
   looked-free X Y o w i = no-place (X ++ (free ∷ Y)) o none-there
     where
       none-there : (p : Place) → lookup row (X ++ (free ∷ Y)) o ≡ some p → ⊥
@@ -138,7 +138,8 @@ module _ (row : ℕ) (pos : 0 < row) where
           let sp : List Slot = p .lower ++ (p .state ∷ p .upper) in
           let u : (p .before ≡ X) × (group (p .cls) sp ≡ free) × (p .after ≡ Y) =
           span-unique row pos (o / row) (p .before) (group (p .cls) sp) (p .after) X free Y (f .0)
-          (subst (λ n. InRows row pos (n / row) (p .before) (group (p .cls) sp)) (f .2) (start-row row pos p (subst (λ Q. T (wellFormed Q)) (sym (f .0)) w))) i in
+          (subst (λ n. InRows row pos (n / row) (p .before) (group (p .cls) sp)) (f .2)
+          (start-row row pos p (subst (λ Q. T (wellFormed Q)) (sym (f .0)) w))) i in
           let k : group (p .cls) sp ≡ free = u .1 in
           let z : _≡_ {A = ℕ} 0 1 = cc in
           omega arith
@@ -167,7 +168,8 @@ module _ (row : ℕ) (pos : 0 < row) where
   at-row (s ∷ P) r h = go (ltb r (rowsIn row s)) refl (λ l. at-row P (r - rowsIn row s) (omega arith))
     where
       go : (b : Bool) → ltb r (rowsIn row s) ≡ b → (rowsIn row s ≤ r → AtRow P (r - rowsIn row s)) → AtRow (s ∷ P) r
-      go true e k = record { before = []; span = s; after = P; split = refl; inside = record { from = omega arith; to = omega (arith, ltb-true r (rowsIn row s) e) } }
+      go true e k =
+          record { before = []; span = s; after = P; split = refl; inside = record { from = omega arith; to = omega (arith, ltb-true r (rowsIn row s) e) } }
       go false e k =
           let l : rowsIn row s ≤ r = ltb-false r (rowsIn row s) e in
           let a : AtRow P (r - rowsIn row s) = k l in

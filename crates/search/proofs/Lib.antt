@@ -1,5 +1,3 @@
+pub mod Steps
 pub mod Blocks
 pub mod Offsets
-pub mod Rooms
-pub mod Runs
-pub mod Steps

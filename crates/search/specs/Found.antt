@@ -1,50 +1,47 @@
--- What the searches give, of what the definitions find.
-use Prim.Native.Nat.{ℕ, _+_, _*_, _-_, _/_, _%_}
+-- What the searches make of a group's first row, and what they give of what the definitions find.
+use Prim.Native.Nat.{ℕ, _*_, _-_, _/_, _%_}
+use mathlib.Core.Bool.{Bool, false, _&&_, _||_, not}
+use mathlib.Core.List.{List}
 use mathlib.Core.Option.{Option, none, some}
 use lib.Dec.{ltb, leb, eqb}
 use Rattle.mem.specs.Lists.{choose}
 use Rattle.classes.specs.Classes.{slotBytes, slotsOf}
+use Rattle.masks.specs.declared.Masks.{Masks}
+use Rattle.model.specs.declared.Holder.{Holder}
+use Rattle.model.specs.declared.Holder.the-variants.{Free, First, Later}
 use Rattle.model.specs.declared.Slot.{Slot}
 use Rattle.model.specs.declared.Slot.the-variants.{Fresh, Idle, Live}
-use Rattle.model.specs.State.{Place, isLive, count, disp, size, slotNumber, rows}
-use Rattle.model.specs.Plans.{Site}
-use Rattle.search.specs.declared.Found.{Found}
-use Rattle.search.specs.declared.Found.the-variants.{At, Nothing}
-use Rattle.search.specs.declared.Block.{Block}
+use Rattle.model.specs.State.{Place, isLive, disp}
+use Rattle.model.specs.Tables.{viewHolder}
+use Rattle.rows.specs.Rows.{blockOf}
+use Rattle.records.specs.Records.{masksIn}
 use Rattle.search.specs.declared.Looked.{Looked}
 use Rattle.search.specs.declared.Looked.the-variants.{Present, Freed, Absent}
 
-module _ (row : ℕ) where
-  -- a site by its first row
-  abbrev pub siteFound : Option Site → Found
-  siteFound none = Nothing
-  siteFound (some s) = At (rows row (s .before))
+-- the first row of a group of class c with a slot that is not live
+abbrev pub holderOpens : ℕ → Masks → Holder → Bool
+holderOpens c m Free = false
+holderOpens c m (First k) = eqb k c && (not (eqb (m .ready) 0) || not (eqb (m .waiting) 0))
+holderOpens c m (Later k) = false
 
-  -- a live slot by its place in rows and slots, with what the tables know of it
-  abbrev pub blockOf : Place → Block
-  blockOf p = record {
-    first = rows row (p .before);
-    class = p .cls;
-    slot = slotNumber p;
-    count = count (p .state);
-    disp = disp (p .state);
-    size = size (p .state);
-  }
+unfoldable pub opensIn : ℕ → List ℕ → Bool
+opensIn c t = holderOpens c (masksIn t) (viewHolder t)
 
-  abbrev pub looked : Option Place → Looked
-  looked none = Absent
-  looked (some p) = choose (isLive (p .state)) (Present (blockOf p)) Freed
+-- a displacement of two bytes
+abbrev pub dispSmall : Slot → Bool
+dispSmall x = ltb (disp x) 65536
 
-  -- a block's start
-  abbrev pub startAt : Block → ℕ
-  startAt b = row * b .first + 16 + b .slot * slotBytes (b .class) + 16 * b .disp
+-- what is looked up, as the code has it
+abbrev pub looked : ℕ → Option Place → Looked
+looked row none = Absent
+looked row (some p) = choose (isLive (p .state)) (Present (blockOf row p)) Freed
 
 -- slot i of the group of class c whose first row is given, with the bytes by which an offset lies after the slot's beginning
 abbrev pub slotLooked : ℕ → ℕ → ℕ → ℕ → Slot → Looked
 slotLooked first c i after Fresh = Absent
 slotLooked first c i after (Idle r k d) = choose (eqb (16 * d) after) Freed Absent
-slotLooked first c i after (Live k d n) =
-    choose (eqb (16 * d) after) (Present (record { first = first; class = c; slot = i; count = k; disp = d; size = n })) Absent
+slotLooked first c i after (Live a) =
+    choose (eqb (16 * a .disp) after) (Present (record { first = first; class = c; slot = i; alloc = a })) Absent
 
 -- what stands some bytes after the first byte of that group, whose slots are given by their numbers
 unfoldable pub groupLooked : ℕ → ℕ → ℕ → (ℕ → Slot) → Looked

@@ -1,34 +1,19 @@
-// Searches over sound tables: a group that can serve a class, a run of free rows, the block at an offset.
+// Searches over sound tables by masks: a group that can serve a class, and the block at an offset.
 ghost use mathlib.Core.Path.{_≡_};
 ghost use mathlib.Core.Bool.{true};
 ghost use mathlib.Core.List.{[]};
 ghost use Prim.Native.Nat.{_+_, _≤_, _<_};
-ghost use lib.ListN.{length, drop, getD};
+ghost use lib.ListN.{length, drop};
 ghost use Rattle.classes.specs.Classes.{Lawful};
-ghost use Rattle.model.specs.Tables.{sound, view, viewHolder};
-ghost use Rattle.model.specs.Plans.{openFrom, runFrom, lookup};
-ghost use Rattle.records.specs.Records.{rowAt, masksIn, slotIn};
-ghost use Rattle.search.specs.Found.{siteFound, looked, slotLooked, groupLooked};
-ghost use Rattle.search.specs.Steps.{opensIn, rowsHeld, classHeld, nextRun, firstOf, reaches, dispSmall};
-use masks::Masks;
+ghost use Rattle.model.specs.Tables.{rowAt, rowRecordBytes, sound, view};
+ghost use Rattle.model.specs.Plans.{openFrom, lookup};
+ghost use Rattle.rows.specs.Rows.{siteFound};
+ghost use Rattle.records.specs.Records.{slotsHere};
+ghost use Rattle.search.specs.Found.{opensIn, looked, slotLooked, groupLooked, dispSmall};
 use model::Holder;
 use model::Slot;
-
-// The first row of what was looked for.
-pub enum Found {
-    At(usize),
-    Nothing,
-}
-
-// A live block: its group's first row and class, its slot, and what the tables know of it.
-pub struct Block {
-    pub first: usize,
-    pub class: usize,
-    pub slot: usize,
-    pub count: u8,
-    pub disp: usize,
-    pub size: usize,
-}
+use rows::Block;
+use rows::Found;
 
 // What stands at an offset: a live block, the last start of a slot that is not live, or nothing.
 pub enum Looked {
@@ -37,18 +22,12 @@ pub enum Looked {
     Absent,
 }
 
-// The free rows that end before a row, from the first of them on.
-pub struct Run {
-    pub from: usize,
-    pub next: usize,
-}
-
 // Whether the group whose first row it is has class c and a slot that is not live.
 fn opens_at(room: &[u8], i: usize, c: usize) -> bool
-    requires { ⌜ (i < 512) × (rowAt i + 264 ≤ length (now room)) ⌝ }
+    requires { ⌜ (i < 512) × (rowAt i + rowRecordBytes ≤ length (now room)) ⌝ }
     ensures { λ r. ⌜ r ≡ opensIn c (drop (rowAt i) (now (room .entry))) ⌝ }
 {
-    let h = records::holder_at(room, i);
+    let h = rows::holder_at(room, i);
     let Holder::First(k) = h else {
         return false;
     };
@@ -60,20 +39,6 @@ fn opens_at(room: &[u8], i: usize, c: usize) -> bool
         return true;
     }
     m.waiting != 0
-}
-
-// The rows of the span that a row begins.
-fn rows_held(row: usize, h: Holder) -> usize
-    requires { ⌜ classHeld h < 48 ⌝ }
-    requires { ⌜ Lawful row ⌝ }
-    ensures { λ r. ⌜ r ≡ rowsHeld row h ⌝ }
-    ensures small { λ r. ⌜ (1 ≤ r) × (r ≤ 256) ⌝ }
-{
-    match h {
-        Holder::Free => 1,
-        Holder::First(c) => classes::rows(row, mem::wide(c)),
-        Holder::Later(_) => 1,
-    }
 }
 
 // The lowest group of a class with a slot that is not live.
@@ -89,73 +54,9 @@ pub fn find_open(row: usize, len: usize, room: &[u8], c: usize) -> Found
         if opens_at(room, i, c) {
             return Found::At(i);
         }
-        i += rows_held(row, records::holder_at(room, i));
+        i += rows::rows_held(row, rows::holder_at(room, i));
     }
     Found::Nothing
-}
-
-// A run of free rows, one span further: a free row makes it longer, a group begins it anew.
-fn next_run(row: usize, run: Run, h: Holder) -> Run
-    requires { ⌜ (classHeld h < 48) × (run .next < 512) ⌝ }
-    requires { ⌜ Lawful row ⌝ }
-    ensures { λ r. ⌜ r ≡ nextRun row run h ⌝ }
-{
-    let after = run.next + rows_held(row, h);
-    match h {
-        Holder::First(_) => Run {
-            from: after,
-            next: after,
-        },
-        Holder::Free => Run {
-            from: run.from,
-            next: after,
-        },
-        Holder::Later(_) => Run {
-            from: run.from,
-            next: after,
-        },
-    }
-}
-
-// The lowest run of as many free rows as a group of a class takes.
-pub fn find_run(row: usize, len: usize, room: &[u8], c: usize) -> Found
-    requires { ⌜ sound row len (now room) ≡ true ⌝ }
-    requires { ⌜ c < 48 ⌝ }
-    requires { ⌜ Lawful row ⌝ }
-    ensures { λ r. ⌜ r ≡ siteFound row (runFrom row [] c (view row (now (room .entry)))) ⌝ }
-{
-    let n = len / row;
-    let need = classes::rows(row, c);
-    let mut from = 0;
-    let mut i = 0;
-    while i < n {
-        let run = next_run(
-            row,
-            Run {
-                from: from,
-                next: i,
-            },
-            records::holder_at(room, i),
-        );
-        from = run.from;
-        i = run.next;
-        if i - from == need {
-            return Found::At(from);
-        }
-    }
-    Found::Nothing
-}
-
-// The first row of the group that has a row.
-fn first_of(i: usize, h: Holder) -> Found
-    requires { ⌜ reaches i h ≡ true ⌝ }
-    ensures { λ r. ⌜ r ≡ firstOf i h ⌝ }
-{
-    match h {
-        Holder::Free => Found::Nothing,
-        Holder::First(_) => Found::At(i),
-        Holder::Later(k) => Found::At(i - mem::wide(k)),
-    }
 }
 
 // A slot as what stands some bytes after its beginning.
@@ -176,15 +77,13 @@ fn look_slot(first: usize, c: usize, i: usize, after: usize, x: Slot) -> Looked
                 Looked::Absent
             }
         }
-        Slot::Live { count, disp, size } => {
-            if 16 * disp == after {
+        Slot::Live(a) => {
+            if 16 * a.disp == after {
                 Looked::Present(Block {
                     first: first,
                     class: c,
                     slot: i,
-                    count: count,
-                    disp: disp,
-                    size: size,
+                    alloc: a,
                 })
             } else {
                 Looked::Absent
@@ -195,9 +94,9 @@ fn look_slot(first: usize, c: usize, i: usize, after: usize, x: Slot) -> Looked
 
 // What stands some bytes after the first byte of a group.
 fn look_group(room: &[u8], first: usize, c: usize, inside: usize) -> Looked
-    requires { ⌜ (first < 512) × (rowAt first + 264 ≤ length (now room)) ⌝ }
+    requires { ⌜ (first < 512) × (rowAt first + rowRecordBytes ≤ length (now room)) ⌝ }
     requires { ⌜ c < 48 ⌝ }
-    ensures { λ r. ⌜ r ≡ groupLooked first c inside (λ j. slotIn (masksIn (drop (rowAt first) (now (room .entry)))) j (drop (rowAt first) (now (room .entry)))) ⌝ }
+    ensures { λ r. ⌜ r ≡ groupLooked first c inside (slotsHere (drop (rowAt first) (now (room .entry)))) ⌝ }
 {
     if inside < 16 {
         return Looked::Absent;
@@ -222,9 +121,12 @@ pub fn find_block(row: usize, len: usize, room: &[u8], offset: usize) -> Looked
         return Looked::Absent;
     }
     let i = offset / row;
-    let Found::At(first) = first_of(i, records::holder_at(room, i)) else {
+    let Found::At(first) = rows::first_of(i, rows::holder_at(room, i)) else {
         return Looked::Absent;
     };
-    let c = mem::wide(room[records::row_at(first) + 1]);
-    look_group(room, first, c, offset - row * first)
+    let h = rows::holder_at(room, first);
+    let Holder::First(c) = h else {
+        return Looked::Absent;
+    };
+    look_group(room, first, mem::wide(c), offset - row * first)
 }

@@ -1,22 +1,17 @@
 -- A slot's record as two numbers of four bytes, and the loop over the slots that reads it so.
-use Prim.Native.Nat.{ℕ, suc, _+_, _*_, _-_, _/_, _%_, _^_, _≤_, _<_}
-use mathlib.Core.Path.{_≡_, refl, sym, ap, ap₂, _∙_}
-use mathlib.Core.Bool.{Bool, true, false, _&&_, _||_, not, and-assoc, and-true, and-false}
-use mathlib.Core.List.{List, _++_}
-use native.Mathlib.Nat.{add-zero, pow-suc, div-div-eq-div-mul}
-use native.Mathlib.Numerals.{add-one, add-two}
-use native.Mathlib.Omega.{arith}
-use lib.Dec.{leb, ltb, eqb, eqb→eq, ltb→lt, lt→ltb, lit≤}
-use lib.ListN.{length, getD, take, drop}
-use lib.Seq.{drop-drop}
-use borrow.Author.Tests.{ne-eqb, le-leb, eqb-true, eqb-false}
+use Rattle.mem.proofs.Prelude.{_∙_, _≡_, sym, ap, refl, ap₂, true, Bool, false, _&&_, not, _||_, and-assoc, and-false, and-true, List, _++_, _+_, ℕ}
+use Rattle.mem.proofs.Prelude.{_<_, _≤_, _*_, _-_, suc, _/_, _^_, _%_, add-zero, pow-suc, add-one, add-two, arith, ne-eqb, le-leb, eqb-false}
+use Rattle.mem.proofs.Prelude.{eqb-true, eqb, leb, lit≤, ltb, eqb→eq, ltb→lt, lt→ltb, length, drop, getD, take, drop-drop}
+use native.Mathlib.Nat.{div-div-eq-div-mul}
 use Rattle.mem.specs.Bytes.{zeros, number, same, part}
-use Rattle.mem.proofs.Tests.{same-test, eq→eqb}
+use Rattle.mem.proofs.Tests.{same-test, eq→eqb, and-both, and-left, and-right}
 use Rattle.mem.proofs.Laws.{number-part, zeros-add, zeros-length, same-part-low}
 use Rattle.classes.specs.Classes.{tooLarge}
 use Rattle.model.specs.Tables.{sizesIn}
-use Rattle.soundness.specs.Checks.{starts, slotChecked, recordChecked, slotsChecked}
-use Rattle.soundness.proofs.Laws.{starts-from, starts-zeros, fresh-law, ready-law, idle-law, live-law, slots-turn, slots-end}
+use Rattle.mem.specs.Lists.{starts}
+use Rattle.mem.proofs.Starts.{starts-from, starts-zeros}
+use Rattle.soundness.specs.Checks.{slotChecked, recordChecked, slotsChecked}
+use Rattle.soundness.proofs.Laws.{fresh-law, ready-law, idle-law, live-law, slots-turn, slots-end}
 
 -- ---- the tests, in the order of the code
 
@@ -24,30 +19,30 @@ or-false : (a : Bool) → (a || false) ≡ a
 or-false true = refl
 or-false false = refl
 
-live-order : (a b c d e z : Bool) → (a && b && (c && d && e)) ≡ (not false && (a || false) && b && c && (false || d) && (true || z) && e)
-live-order true true true true e z = refl
-live-order true true true false e z = refl
-live-order true true false d e z = refl
-live-order true false c d e z = refl
-live-order false b c d e z = refl
+live-order : (a b c d e z m : Bool) → (b && e) ≡ m → (a && b && (c && d && e)) ≡ (not false && (a || false) && c && (false || d) && (true || z) && m)
+live-order true true true true e z m h = h
+live-order true true true false e z m h = refl
+live-order true true false d e z m h = refl
+live-order true false true true e z m h = h
+live-order true false true false e z m h = refl
+live-order true false false d e z m h = refl
+live-order false b c d e z m h = refl
 
 idle-order : (most : ℕ) (a : Bool) (d h : ℕ) → (a && eqb h 0 && leb (16 * d) most)
-    ≡ (a && ltb h 16777216 && leb (16 * d + h % 16777216) most && true && eqb h 0 && ltb (h % 16777216) tooLarge)
+    ≡ (a && leb (16 * d + h % 16777216) most && true && eqb h 0 && ltb h tooLarge)
 unfolding tooLarge
 idle-order most a d h = go (eqb h 0) refl
   where
-    go : (b : Bool) → eqb h 0 ≡ b → (a && b && leb (16 * d) most)
-        ≡ (a && ltb h 16777216 && leb (16 * d + h % 16777216) most && true && b && ltb (h % 16777216) tooLarge)
+    go : (b : Bool) → eqb h 0 ≡ b → (a && b && leb (16 * d) most) ≡ (a && leb (16 * d + h % 16777216) most && true && b && ltb h tooLarge)
     go true e = rw (eqb-true h 0 e) (simp (add-zero, and-true))
     go false e = simp and-false
 
-fresh-order : (most l h : ℕ) → (eqb l 0 && eqb h 0)
-    ≡ (eqb l 0 && ltb h 16777216 && leb (16 * (l / 65536) + h % 16777216) most && true && eqb h 0 && ltb (h % 16777216) tooLarge)
+fresh-order : (most l h : ℕ) → (eqb l 0 && eqb h 0) ≡ (eqb l 0 && leb (16 * (l / 65536) + h % 16777216) most && true && eqb h 0 && ltb h tooLarge)
 unfolding tooLarge
 fresh-order most l h = go (eqb l 0) refl (eqb h 0) refl
   where
     go : (a : Bool) → eqb l 0 ≡ a → (b : Bool) → eqb h 0 ≡ b → (a && b)
-        ≡ (a && ltb h 16777216 && leb (16 * (l / 65536) + h % 16777216) most && true && b && ltb (h % 16777216) tooLarge)
+        ≡ (a && leb (16 * (l / 65536) + h % 16777216) most && true && b && ltb h tooLarge)
     go true e true f = rw (eqb-true l 0 e, eqb-true h 0 f, le-leb (16 * (0 / 65536) + 0 % 16777216) most (omega arith))
     go true e false f = simp and-false
     go false e b f = refl
@@ -96,11 +91,17 @@ module _ (s : List ℕ) (B : (i : ℕ) → getD s i 0 < 256) (at : ℕ) (fit : a
   high-size : hi % 16777216 ≡ number (part (at + 4) 3 s)
   high-size = omega (arith, high-split, size-small)
 
-  high-top : ltb hi 16777216 ≡ eqb (getD s (at + 7) 0) 0
-  high-top =
-      same-test (ltb hi 16777216) (eqb (getD s (at + 7) 0) 0)
-      (λ t. eq→eqb (getD s (at + 7) 0) 0 (omega (arith, ltb→lt hi 16777216 t, high-split)))
-      (λ t. lt→ltb hi 16777216 (omega (arith, eqb→eq (getD s (at + 7) 0) 0 t, high-split, size-small)))
+  -- a size that can be asked for, and a zero after it
+  high-bound : (eqb (getD s (at + 7) 0) 0 && ltb (number (part (at + 4) 3 s)) tooLarge) ≡ ltb hi tooLarge
+  unfolding tooLarge
+  high-bound =
+      same-test _ (ltb hi 131052)
+      (λ t. let e = eqb→eq (getD s (at + 7) 0) 0 (and-left (eqb (getD s (at + 7) 0) 0) (ltb (number (part (at + 4) 3 s)) 131052) t) in
+      let l = ltb→lt (number (part (at + 4) 3 s)) 131052 (and-right (eqb (getD s (at + 7) 0) 0) (ltb (number (part (at + 4) 3 s)) 131052) t) in
+      lt→ltb hi 131052 (omega (arith, high-split)))
+      (λ t. let l = ltb→lt hi 131052 t in
+      and-both (eqb (getD s (at + 7) 0) 0) (ltb (number (part (at + 4) 3 s)) 131052)
+      (eq→eqb (getD s (at + 7) 0) 0 (omega (arith, high-split))) (lt→ltb (number (part (at + 4) 3 s)) 131052 (omega (arith, high-split))))
 
   zeros-high : same (part (at + 4) 4 s) (zeros 4) ≡ eqb hi 0
   zeros-high = starts-zeros (at + 4) 4 s ∙ zeros-quad s B (at + 4) (omega arith)
@@ -138,9 +139,10 @@ module _ (s : List ℕ) (B : (i : ℕ) → getD s i 0 < 256) (at : ℕ) (fit : a
     record-law false true = waiting-law
     record-law false false =
         live-law s B at fit most least
-        ∙ rw (low-tag, low-disp, high-size, high-top)
+        ∙ rw (low-tag, low-disp, high-size)
         (live-order (eqb (getD s at 0) 1) (eqb (getD s (at + 7) 0) 0) (leb (16 * number (part (at + 2) 2 s) + number (part (at + 4) 3 s)) most)
-        (ltb least (number (part (at + 4) 3 s) + 4)) (ltb (number (part (at + 4) 3 s)) tooLarge) (eqb hi 0))
+        (ltb least (number (part (at + 4) 3 s) + 4)) (ltb (number (part (at + 4) 3 s)) tooLarge) (eqb hi 0)
+        (ltb hi tooLarge) high-bound)
 
 -- ---- the loop
 

@@ -1,64 +1,41 @@
 -- What the sums over bytes are to the totals of the pool's state.
-use Prim.Native.Nat.{ℕ, _+_, _-_, _*_, _/_, _≤_, _<_}
-use mathlib.Core.Path.{_≡_, refl, sym, subst, ap, ap₂, _∙_}
-use mathlib.Core.Bool.{Bool, true, false}
-use mathlib.Core.List.{List, [], _∷_, _++_, map, append-assoc, append-nil}
-use native.Mathlib.Nat.{add-zero, mul-comm, mul-div-cancel-left, le-of-mul-le-mul-left}
-use native.Mathlib.Omega.{arith}
-use lib.Count.{ones}
-use lib.Dec.{T, ltb, leb→le, ltb→lt}
-use lib.ListN.{length, drop}
-use lib.Seq.{drop-at}
+use Rattle.mem.proofs.Prelude.{_∙_, _≡_, sym, ap, refl, ap₂, subst, true, Bool, false, List, [], _∷_, _++_, append-assoc, append-nil, _+_, ℕ, _<_}
+use Rattle.mem.proofs.Prelude.{_≤_, _*_, _-_, _/_, add-zero, arith, T, ltb, ltb→lt, length, drop, drop-at, ones}
 use Rattle.mem.specs.Lists.{every, sum, join}
-use Rattle.mem.specs.Bytes.{zeros, number, part, mask, bit}
-use Rattle.mem.proofs.Tests.{and-left, and-right, true-T, every-left, every-right}
-use Rattle.mem.proofs.Masks.{ones-sum}
+use Rattle.mem.specs.Bytes.{zeros, number, part, bit}
+use Rattle.mem.proofs.Tests.{and-left, and-right}
 use Rattle.mem.proofs.Laws.{number-low}
 use Rattle.classes.specs.Classes.{slotsOf, tooLarge}
 use Rattle.classes.proofs.Laws.{rows-pos}
 use Rattle.model.specs.declared.Slot.{Slot}
 use Rattle.model.specs.declared.Slot.the-variants.{Fresh, Idle, Live}
-use Rattle.model.specs.declared.Holder.{Holder}
-use Rattle.model.specs.declared.Holder.the-variants.{Free, First}
+use Rattle.model.specs.declared.Holder.the-variants.{First}
 use Rattle.model.specs.declared.Totals.{Totals}
 use Rattle.model.specs.State.{Span, Pool, free, group, isReady, isWaiting, isLive, size, slotSound, spanSound, wellFormed, rows, rowsIn}
 use Rattle.model.specs.Plans.{slotSum, freeRow, heldRows, totals}
-use Rattle.model.specs.Tables.{slotRecord, rowRecord, spanRecords, encode, roomBytes, sizesIn, view, viewHolder, arenaRight, sound}
-use Rattle.model.proofs.Tables.{slot-length, rowHead, head-length, row-parts, group-slots, group-few, encode-length, holder-free, holder-first, Sound, sound-facts}
-use Rattle.model.proofs.Rooms.{rows-append, encode-from}
-use Rattle.records.specs.Records.{rowAt, masksIn}
-use Rattle.records.proofs.Laws.{group-first, masks-read-span}
+use Rattle.model.specs.Tables.{rowAt, byMasks, slotRecord, rowRecord, spanRecords, sizesIn, view, viewHolder, rowRecordBytes}
+use Rattle.model.proofs.Tables.{masks-laws, slot-length, rowHead, head-length, row-parts, group-slots, group-few}
+use Rattle.model.proofs.Rooms.{rows-append}
+use Rattle.rows.specs.Rows.{Lent}
+use Rattle.rows.proofs.Rooms.{group-first, records-holder, some-rows, row-count, few-rows, row-inside, before-sound, span-sound, span-rows, span-from}
+use Rattle.records.specs.Records.{masksIn}
+use Rattle.records.proofs.Laws.{mask-ones, three-sets, masks-read-span}
 use Rattle.totals.specs.Sums.{idle, Countable, Small, addHeld, addGroup, addSpan}
 
 -- ---- sums over the slots of a group
-
-mask-ones : (f : Slot → Bool) (ss : List Slot) → ones (mask (map f ss)) ≡ sum (λ x. bit (f x)) ss
-mask-ones f ss = ones-sum (map f ss) ∙ bits ss
-  where
-    bits : (ss : List Slot) → sum bit (map f ss) ≡ sum (λ x. bit (f x)) ss
-    bits [] = refl
-    bits (x ∷ ss) = ap (λ n. bit (f x) + n) (bits ss)
-
--- a slot is live, ready or waiting
-parts : (ss : List Slot) → sum (λ x. bit (isLive x)) ss + (sum (λ x. bit (isReady x)) ss + sum (λ x. bit (isWaiting x)) ss) ≡ length ss
-parts [] = refl
-parts (Fresh ∷ ss) = omega (arith, parts ss)
-parts (Idle true k d ∷ ss) = omega (arith, parts ss)
-parts (Idle false k d ∷ ss) = omega (arith, parts ss)
-parts (Live k d n ∷ ss) = omega (arith, parts ss)
 
 size-small : (c : ℕ) (x : Slot) → T (slotSound c x) → size x ≤ 131052
 unfolding slotSound tooLarge
 size-small c Fresh t = omega arith
 size-small c (Idle r k d) t = omega arith
-size-small c (Live k d n) t =
-    let u : T (ltb n 131052) = search (and-left, and-right) in omega (arith, ltb→lt n 131052 u)
+size-small c (Live a) t =
+    let u : T (ltb (a .size) 131052) = search (and-left, and-right) in omega (arith, ltb→lt (a .size) 131052 u)
 
 size-read : (c : ℕ) (x : Slot) (rest : List ℕ) → T (slotSound c x) → number (part 4 3 (slotRecord x ++ rest)) ≡ size x
 unfolding slotRecord zeros
 size-read c Fresh rest t = refl
 size-read c (Idle r k d) rest t = refl
-size-read c (Live k d n) rest t = number-low 3 n (omega (arith, size-small c (Live k d n) t))
+size-read c (Live a) rest t = number-low 3 (a .size) (omega (arith, size-small c (Live a) t))
 
 sizes-read : (c : ℕ) (ss : List Slot) (rest : List ℕ) → T (every (slotSound c) ss) → sizesIn (length ss) (join slotRecord ss ++ rest) ≡ sum size ss
 unfolding sizesIn
@@ -68,7 +45,8 @@ sizes-read c (x ∷ ss) rest t =
     (ap₂ (λ a b. a + b) (size-read c x (join slotRecord ss ++ rest) (and-left (slotSound c x) (every (slotSound c) ss) t))
     (sizes-read c ss rest (and-right (slotSound c x) (every (slotSound c) ss) t)))
 
-group-sizes : (c : ℕ) (ss : List Slot) (rest : List ℕ) → T (spanSound (group c ss)) → sizesIn (slotsOf c) (drop 16 (rowRecord (First c) ss ++ rest)) ≡ sum size ss
+group-sizes : (c : ℕ) (ss : List Slot) (rest : List ℕ) → T (spanSound (group c ss)) → sizesIn (slotsOf c) (drop 16 (rowRecord (First c) ss ++ rest))
+    ≡ sum size ss
 unfolding spanSound
 group-sizes c ss rest t =
     rw (
@@ -85,11 +63,6 @@ group-sizes c ss rest t =
 sum-snoc : {A : Type 0} (f : A → ℕ) (xs : List A) (x : A) → sum f (xs ++ (x ∷ [])) ≡ sum f xs + f x
 sum-snoc f [] x = omega arith
 sum-snoc f (y ∷ xs) x = omega (arith, sum-snoc f xs x)
-
--- who holds the first row of a span
-abbrev holderOf : Span → Holder
-holderOf free = Free
-holderOf (group c ss) = First c
 
 module _ (row : ℕ) where
   -- totals with a span more
@@ -113,11 +86,6 @@ module _ (row : ℕ) where
   rows-passed (free ∷ X) = omega (arith, rows-passed X)
   rows-passed (group c ss ∷ X) = omega (arith, rows-passed X)
 
-  holder-read : (x : Span) (Y : Pool) → viewHolder (join (spanRecords row) (x ∷ Y)) ≡ holderOf x
-  unfolding spanRecords
-  holder-read free Y = holder-free (join (spanRecords row) Y)
-  holder-read (group c ss) Y = ap viewHolder (group-first row c ss Y) ∙ holder-first c ss _
-
   module _ (c : ℕ) (ss : List Slot) (Y : Pool) (t : T (spanSound (group c ss))) where
     ready-read : ones (masksIn (join (spanRecords row) (group c ss ∷ Y)) .ready) ≡ sum (λ x. bit (isReady x)) ss
     ready-read = ap (λ m. ones (m .ready)) (masks-read-span row c ss Y (group-few c ss t)) ∙ mask-ones isReady ss
@@ -126,19 +94,19 @@ module _ (row : ℕ) where
     waiting-read = ap (λ m. ones (m .waiting)) (masks-read-span row c ss Y (group-few c ss t)) ∙ mask-ones isWaiting ss
 
     idle-few : idle (join (spanRecords row) (group c ss ∷ Y)) ≤ slotsOf c
-    idle-few = omega (arith, ready-read, waiting-read, parts ss, group-slots c ss t)
+    idle-few = omega (arith, ready-read, waiting-read, three-sets ss, group-slots c ss t)
 
     live-read : slotsOf c - idle (join (spanRecords row) (group c ss ∷ Y)) ≡ sum (λ x. bit (isLive x)) ss
-    live-read = omega (arith, ready-read, waiting-read, parts ss, group-slots c ss t)
+    live-read = omega (arith, ready-read, waiting-read, three-sets ss, group-slots c ss t)
 
     sizes-read-span : sizesIn (slotsOf c) (drop 16 (join (spanRecords row) (group c ss ∷ Y))) ≡ sum size ss
-    sizes-read-span = ap (λ l. sizesIn (slotsOf c) (drop 16 l)) (group-first row c ss Y) ∙ group-sizes c ss _ t
+    sizes-read-span = ap (λ l. sizesIn (slotsOf c) (drop 16 l)) (group-first byMasks row c ss Y) ∙ group-sizes c ss _ t
 
   span-adds : (s : Totals) (x : Span) (Y : Pool) → T (spanSound x) → addSpan row s (join (spanRecords row) (x ∷ Y)) ≡ plus s x
   unfolding addSpan addGroup
-  span-adds s free Y t = ap (addHeld row s (join (spanRecords row) (free ∷ Y))) (holder-read free Y) ∙ simp add-zero
+  span-adds s free Y t = ap (addHeld row s (join (spanRecords row) (free ∷ Y))) (records-holder masks-laws row Y free) ∙ simp add-zero
   span-adds s (group c ss) Y t =
-      ap (addHeld row s (join (spanRecords row) (group c ss ∷ Y))) (holder-read (group c ss) Y)
+      ap (addHeld row s (join (spanRecords row) (group c ss ∷ Y))) (records-holder masks-laws row Y (group c ss))
       ∙ rw (live-read c ss Y t, sizes-read-span c ss Y t, ready-read c ss Y t, waiting-read c ss Y t, add-zero)
 
 -- ---- the totals of a pool fit their type
@@ -193,7 +161,7 @@ pub record Passed (row : ℕ) (t : List ℕ) (s : Totals) : Type 0 where
 
 -- what holds at row i, the first of the next span
 pub record Step (row : ℕ) (t : List ℕ) (s : Totals) (i : ℕ) : Type 0 where
-  pub inside : (i < 512) × (rowAt i + 264 ≤ length t)
+  pub inside : (i < 512) × (rowAt i + rowRecordBytes ≤ length t)
   pub right : (c : ℕ) → viewHolder (drop (rowAt i) t) ≡ First c → Countable (drop (rowAt i) t) c
   pub small : Small s
   pub again : Passed row t (addSpan row s (drop (rowAt i) t))
@@ -203,73 +171,37 @@ pub start : (row : ℕ) (t : List ℕ) → Passed row t (record { blocks = 0; by
 unfolding totals
 start row t = record { before = []; after = view row t; split = refl; counted = refl; few = omega arith }
 
-some-rows : (row : ℕ) → 0 < row → (x : Span) → 1 ≤ rowsIn row x
-some-rows row pos free = omega arith
-some-rows row pos (group c ss) = rows-pos row c pos
-
 span-right : (row : ℕ) (x : Span) (Y : Pool) → T (spanSound x) → (c : ℕ) → viewHolder (join (spanRecords row) (x ∷ Y)) ≡ First c
     → Countable (join (spanRecords row) (x ∷ Y)) c
 unfolding spanSound
-span-right row free Y t c e = let f = sym (holder-read row free Y) ∙ e in let z : _≡_ {A = ℕ} 0 1 = cc in absurd (omega arith)
+span-right row free Y t c e = let f = sym (records-holder masks-laws row Y free) ∙ e in let z : _≡_ {A = ℕ} 0 1 = cc in absurd (omega arith)
 span-right row (group k ss) Y t c e =
-    let f = sym (holder-read row (group k ss) Y) ∙ e in
+    let f = sym (records-holder masks-laws row Y (group k ss)) ∙ e in
     let g : k ≡ c = cc in
     subst (Countable (join (spanRecords row) (group k ss ∷ Y))) g
     (ltb→lt k 48 (search (and-left, and-right)), idle-few row k ss Y t)
 
-module _ (row : ℕ) (pos : 0 < row) (n : ℕ) (t : List ℕ) (e : sound row n t ≡ true) where
-  facts : Sound row n t
-  facts = sound-facts row n t (true-T (sound row n t) e)
-
-  row-count : n / row ≡ rows row (view row t)
-  row-count = ap (λ m. m / row) (facts .long) ∙ mul-div-cancel-left (rows row (view row t)) pos
-
-  few-rows : rows row (view row t) ≤ 512
-  unfolding arenaRight
-  few-rows =
-      let a : T (arenaRight row n) = facts .lawful in
-      let l : n ≤ 512 * row = leb→le n (512 * row) (search (and-left, and-right)) in
-      le-of-mul-le-mul-left {k = row} (omega (arith, facts .long, mul-comm 512 row)) pos
-
-  room-length : length t ≡ 16 + 264 * rows row (view row t)
-  unfolding roomBytes
-  room-length = ap length (facts .form) ∙ encode-length row pos (view row t) (facts .formed)
-
+module _ {row n : ℕ} {t : List ℕ} (r : Lent byMasks row n t) where
   module _ (X : Pool) (x : Span) (Y : Pool) (split : view row t ≡ X ++ (x ∷ Y)) where
-    whole : T (wellFormed (X ++ (x ∷ Y)))
-    whole = subst (λ P. T (wellFormed P)) split (facts .formed)
-
-    before-sound : T (wellFormed X)
-    before-sound = every-left spanSound X (x ∷ Y) whole
-
-    span-sound : T (spanSound x)
-    span-sound = and-left (spanSound x) (wellFormed Y) (every-right spanSound X (x ∷ Y) whole)
-
-    span-rows : rows row X + rowsIn row x ≤ rows row (view row t)
-    span-rows = omega (arith, ap (rows row) split, rows-append row X (x ∷ Y))
-
-    span-from : drop (rowAt (rows row X)) t ≡ join (spanRecords row) (x ∷ Y)
-    span-from = ap (drop (rowAt (rows row X))) (facts .form ∙ ap (encode row) split) ∙ encode-from row pos X (x ∷ Y) before-sound
-
     added : addSpan row (totals row X) (drop (rowAt (rows row X)) t) ≡ totals row (X ++ (x ∷ []))
-    added = ap (addSpan row (totals row X)) span-from ∙ span-adds row (totals row X) x Y span-sound ∙ sym (totals-snoc row X x)
+    added = ap (addSpan row (totals row X)) (span-from r X x Y split) ∙ span-adds row (totals row X) x Y (span-sound r X x Y split) ∙ sym (totals-snoc row X x)
 
     now-rows : rows row (X ++ (x ∷ [])) ≡ rows row X + rowsIn row x
     now-rows = omega (arith, rows-append row X (x ∷ []))
 
     at-span : Step row t (totals row X) (rows row X)
     at-span = record {
-      inside = (omega (arith, few-rows, span-rows, some-rows row pos x), omega (arith, room-length, span-rows, some-rows row pos x));
-      right = rw span-from (span-right row x Y span-sound);
-      small = totals-small row pos X before-sound (omega (arith, few-rows, span-rows));
+      inside = row-inside r (rows row X) (omega (arith, span-rows r X x Y split, some-rows row (r .pos) x));
+      right = rw (span-from r X x Y split) (span-right row x Y (span-sound r X x Y split));
+      small = totals-small row (r .pos) X (before-sound r X x Y split) (omega (arith, few-rows r, span-rows r X x Y split));
       again = rw added (record {
         before = X ++ (x ∷ []);
         after = Y;
         split = split ∙ sym (append-assoc X (x ∷ []) Y);
         counted = refl;
-        few = omega (arith, few-rows, span-rows, now-rows, rows-passed row (X ++ (x ∷ [])));
+        few = omega (arith, few-rows r, span-rows r X x Y split, now-rows, rows-passed row (X ++ (x ∷ [])));
       });
-      less = rw added (omega (arith, some-rows row pos x, now-rows, rows-passed row (X ++ (x ∷ []))));
+      less = rw added (omega (arith, some-rows row (r .pos) x, now-rows, rows-passed row (X ++ (x ∷ []))));
     }
 
   module _ (s : Totals) (p : Passed row t s) where
@@ -281,7 +213,7 @@ module _ (row : ℕ) (pos : 0 < row) (n : ℕ) (t : List ℕ) (e : sound row n t
     step h = go (p .after) (p .split)
       where
         go : (Y : Pool) → view row t ≡ p .before ++ Y → Step row t s (s .held + s .free)
-        go [] e = absurd (omega (arith, row-count, passed, ap (rows row) (e ∙ append-nil (p .before))))
+        go [] e = absurd (omega (arith, row-count r, passed, ap (rows row) (e ∙ append-nil (p .before))))
         go (x ∷ Y) e = rw (passed, p .counted) (at-span (p .before) x Y e)
 
     pub done : n / row ≤ s .held + s .free → s ≡ totals row (view row t)
@@ -289,4 +221,4 @@ module _ (row : ℕ) (pos : 0 < row) (n : ℕ) (t : List ℕ) (e : sound row n t
       where
         go : (Y : Pool) → view row t ≡ p .before ++ Y → s ≡ totals row (view row t)
         go [] e = p .counted ∙ ap (totals row) (sym (e ∙ append-nil (p .before)))
-        go (x ∷ Y) e = absurd (omega (arith, row-count, passed, span-rows (p .before) x Y e, some-rows row pos x))
+        go (x ∷ Y) e = absurd (omega (arith, row-count r, passed, span-rows r (p .before) x Y e, some-rows row (r .pos) x))

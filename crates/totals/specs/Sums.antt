@@ -7,7 +7,7 @@ use Rattle.classes.specs.Classes.{slotsOf, rowsOf}
 use Rattle.model.specs.declared.Holder.{Holder}
 use Rattle.model.specs.declared.Holder.the-variants.{Free, First, Later}
 use Rattle.model.specs.declared.Totals.{Totals}
-use Rattle.model.specs.Tables.{sizesIn, viewHolder}
+use Rattle.model.specs.Tables.{slotsAt, sizesIn, viewHolder}
 use Rattle.records.specs.Records.{masksIn}
 
 -- the slots of a group that are not live
@@ -36,7 +36,7 @@ module _ (row : ℕ) where
   unfoldable pub addGroup : Totals → List ℕ → ℕ → Totals
   addGroup s t c = record {
     blocks = s .blocks + (slotsOf c - idle t);
-    bytes = s .bytes + sizesIn (slotsOf c) (drop 16 t);
+    bytes = s .bytes + sizesIn (slotsOf c) (drop slotsAt t);
     held = s .held + rowsOf row c;
     free = s .free;
     ready = s .ready + ones (masksIn t .ready);

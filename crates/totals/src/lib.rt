@@ -5,23 +5,22 @@ ghost use Prim.Native.Nat.{ℕ, _+_, _*_, _≤_, _<_};
 ghost use lib.ListN.{length, drop};
 ghost use Rattle.classes.specs.Classes.{Lawful};
 ghost use Rattle.model.specs.declared.Holder.the-variants.{First};
-ghost use Rattle.model.specs.Tables.{sizesIn, sound, view, viewHolder};
+ghost use Rattle.model.specs.Tables.{rowAt, rowRecordBytes, slotRecordBytes, mostSlots, sizesIn, sound, view, viewHolder};
 ghost use Rattle.model.specs.Plans.{totals};
-ghost use Rattle.records.specs.Records.{rowAt};
 ghost use Rattle.totals.specs.Sums.{Countable, Small, addGroup, addSpan};
 use model::Holder;
 use model::Totals;
 
 // The sum of the requested sizes in n slot records: one that is not live holds 0.
 fn sizes(room: &[u8], at: usize, n: usize) -> usize
-    requires { ⌜ (n ≤ 31) × (at + 8 * n ≤ length (now room)) ⌝ }
+    requires { ⌜ (n ≤ mostSlots) × (at + slotRecordBytes * n ≤ length (now room)) ⌝ }
     ensures { λ r. ⌜ r ≡ sizesIn n (drop at (now (room .entry))) ⌝ }
     ensures small { λ r. ⌜ r ≤ 16777216 * n ⌝ }
 {
     let mut sum = 0;
     let mut j = 0;
     while j < n {
-        sum += mem::get3(room, at + 8 * j + 4);
+        sum += mem::get3(room, at + model::SLOT_RECORD * j + model::SIZE);
         j += 1;
     }
     sum
@@ -29,7 +28,7 @@ fn sizes(room: &[u8], at: usize, n: usize) -> usize
 
 // Totals with one group more, of class c, whose first row is row i.
 fn add_group(row: usize, s: Totals, room: &[u8], i: usize, c: usize) -> Totals
-    requires { ⌜ (i < 512) × (rowAt i + 264 ≤ length (now room)) ⌝ }
+    requires { ⌜ (i < 512) × (rowAt i + rowRecordBytes ≤ length (now room)) ⌝ }
     requires { ⌜ Countable (drop (rowAt i) (now room)) c ⌝ }
     requires { ⌜ Small s ⌝ }
     requires { ⌜ Lawful row ⌝ }
@@ -42,7 +41,7 @@ fn add_group(row: usize, s: Totals, room: &[u8], i: usize, c: usize) -> Totals
     let waiting = u32::count_ones(m.waiting) as usize;
     Totals {
         blocks: s.blocks + live,
-        bytes: s.bytes + sizes(room, records::row_at(i) + 16, n),
+        bytes: s.bytes + sizes(room, rows::row_at(i) + model::SLOTS, n),
         held: s.held + classes::rows(row, c),
         free: s.free,
         ready: s.ready + ready,
@@ -52,13 +51,13 @@ fn add_group(row: usize, s: Totals, room: &[u8], i: usize, c: usize) -> Totals
 
 // Totals with one span more, whose first row is row i.
 fn add_span(row: usize, s: Totals, room: &[u8], i: usize) -> Totals
-    requires { ⌜ (i < 512) × (rowAt i + 264 ≤ length (now room)) ⌝ }
+    requires { ⌜ (i < 512) × (rowAt i + rowRecordBytes ≤ length (now room)) ⌝ }
     requires { ⌜ ((c : ℕ) → viewHolder (drop (rowAt i) (now room)) ≡ First c → Countable (drop (rowAt i) (now room)) c) ⌝ }
     requires { ⌜ Small s ⌝ }
     requires { ⌜ Lawful row ⌝ }
     ensures { λ r. ⌜ r ≡ addSpan row s (drop (rowAt i) (now (room .entry))) ⌝ }
 {
-    let h = records::holder_at(room, i);
+    let h = rows::holder_at(room, i);
     let Holder::First(c) = h else {
         return Totals {
             blocks: s.blocks,

@@ -14,23 +14,40 @@ struct Time {
     most: f64,
 }
 
+/// Nanoseconds per turn of one run.
+fn run(turns: usize, turn: &mut impl FnMut()) -> f64 {
+    let begun = Instant::now();
+    for _ in 0..turns {
+        turn();
+    }
+    begun.elapsed().as_nanos() as f64 / turns as f64
+}
+
+fn sorted(mut runs: Vec<f64>) -> Time {
+    runs.sort_by(f64::total_cmp);
+    Time { median: runs[runs.len() / 2], least: runs[0], most: runs[runs.len() - 1] }
+}
+
 /// Nanoseconds per turn: median, least and most of the runs.
 fn time(turns: usize, mut turn: impl FnMut()) -> Time {
-    let mut runs: Vec<f64> = (0..RUNS)
-        .map(|_| {
-            let begun = Instant::now();
-            for _ in 0..turns {
-                turn();
-            }
-            begun.elapsed().as_nanos() as f64 / turns as f64
-        })
-        .collect();
-    runs.sort_by(f64::total_cmp);
-    Time { median: runs[RUNS / 2], least: runs[0], most: runs[RUNS - 1] }
+    sorted((0..RUNS).map(|_| run(turns, &mut turn)).collect())
+}
+
+/// Two things timed in turn, so that the machine's speed is the same for both: each one's time, and the ratio of the two in a run.
+fn time_beside(turns: usize, mut one: impl FnMut(), mut other: impl FnMut()) -> (Time, Time, Time) {
+    let runs: Vec<(f64, f64)> = (0..RUNS).map(|_| (run(turns, &mut one), run(turns, &mut other))).collect();
+    let each = |f: fn(&(f64, f64)) -> f64| sorted(runs.iter().map(f).collect());
+    (each(|r| r.0), each(|r| r.1), each(|r| r.0 / r.1))
 }
 
 fn show(t: &Time) -> String {
     format!("{:>9.0} ({:.0} to {:.0})", t.median, t.least, t.most)
+}
+
+/// All bytes of a room, read once.
+#[inline(never)]
+fn plain_read(room: &[u8]) -> u8 {
+    room.iter().fold(0, |seen, &b| seen | b)
 }
 
 /// Grants blocks of 160 bytes until a share of the rows is held.
@@ -116,7 +133,7 @@ fn main() {
     }
 
     println!("\nthe soundness check alone (a measure of offset 1, answer 4) beside a plain read of the room");
-    println!("{:<30} {:>26} {:>26} {:>8}", "arena", "check", "plain read", "ratio");
+    println!("{:<30} {:>26} {:>26} {:>20}", "arena", "check", "plain read", "ratio of a run");
     for kib in [4, 16, 64, 256] {
         let len = 1024 * kib;
         for (name, size) in [("all rows free", None), ("full of 160-byte blocks", Some(160)), ("full of 12-byte blocks", Some(12))] {
@@ -126,19 +143,24 @@ fn main() {
                 while pool.grant(n).is_ok() {}
             }
             let turns = 60_000 / kib + 100;
-            let check = time(turns, || {
-                black_box(pool.measure(black_box(1)).is_err());
-            });
             let bytes = pool.room().to_vec();
-            let read = time(turns, || {
-                black_box(black_box(&bytes).iter().fold(0u8, |seen, &b| seen | b));
-            });
+            let (check, read, ratio) = time_beside(
+                turns,
+                || {
+                    black_box(pool.measure(black_box(1)).is_err());
+                },
+                || {
+                    black_box(plain_read(black_box(&bytes)));
+                },
+            );
             println!(
-                "{:<30} {:>26} {:>26} {:>8.1}",
+                "{:<30} {:>26} {:>26} {:>5.1} ({:.1} to {:.1})",
                 format!("{kib} KiB, {name}"),
                 show(&check),
                 show(&read),
-                check.median / read.median
+                ratio.median,
+                ratio.least,
+                ratio.most
             );
         }
     }

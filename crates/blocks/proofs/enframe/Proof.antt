@@ -1,8 +1,5 @@
 -- `enframe` meets its contract: its three writes make the frame.
-use mathlib.Core.Path.{_≡_, _∙_}
-use native.Mathlib.Omega.{arith}
-use borrow.Author.Needs.{needs}
-use lib.ListN.{length}
+use Rattle.mem.proofs.Prelude.{_∙_, _≡_, arith, needs, length}
 use Rattle.classes.specs.Classes.{slotBytes}
 use Rattle.blocks.proofs.Laws.{frame-put}
 use Rattle.blocks.proofs.enframe.Statement.{statement}
@@ -28,14 +25,5 @@ returns c =
 
 pub enframe-spec : {M : Type 1} → statement M
 enframe-spec =
-    tie.close
-    (tie.spec
-    (λ c κs. search needs)
-    (λ c κs. search needs)
-    (λ c. search needs)
-    (λ c. search needs)
-    (λ c κs. search needs)
-    (λ c κs. search needs)
-    (λ c κs. search needs)
-    (λ c. search needs)
-    returns)
+    tie.close (tie.spec (λ c κs. search needs) (λ c κs. search needs) (λ c. search needs) (λ c. search needs) (λ c κs. search needs) (λ c κs. search needs)
+    (λ c κs. search needs) (λ c. search needs) returns)

@@ -1,14 +1,10 @@
 -- `enframe_at` meets its contract: the slot's part becomes the frame.
-use mathlib.Core.Path.{_≡_}
-use Prim.Native.Nat.{_+_, _*_, _-_}
-use native.Mathlib.Omega.{arith}
-use borrow.Author.Needs.{needs}
-use denote.Ref.{now}
+use Rattle.mem.proofs.Prelude.{_≡_, _+_, _*_, _-_, arith, now, needs}
 use Rattle.mem.proofs.Laws.{part-length, put-part}
 use Rattle.classes.specs.Classes.{slotBytes}
 use Rattle.classes.proofs.Laws.{bytes-units}
 use Rattle.model.specs.Blocks.{frame}
-use Rattle.blocks.proofs.Laws.{frame-length}
+use Rattle.model.proofs.Blocks.{frame-length}
 use Rattle.blocks.proofs.enframe_at.Statement.{statement}
 use Rattle.blocks.proofs.enframe_at.Tie as tie
 
@@ -33,14 +29,5 @@ returns c =
 
 pub enframe-at-spec : {M : Type 1} → statement M
 enframe-at-spec =
-    tie.close
-    (tie.spec
-    (λ c κs. search needs)
-    (λ c. search needs)
-    (λ c. search needs)
-    (λ c. search needs)
-    (λ c. search needs)
-    (λ c. omega (arith, bytes-units (c .before .before .args .c)))
-    enframe-requires
-    (λ c. search needs)
-    returns)
+    tie.close (tie.spec (λ c κs. search needs) (λ c. search needs) (λ c. search needs) (λ c. search needs) (λ c. search needs)
+    (λ c. omega (arith, bytes-units (c .before .before .args .c))) enframe-requires (λ c. search needs) returns)

@@ -1,9 +1,6 @@
 -- `guard` meets its contract: its digits are those of `low`.
-use mathlib.Core.Path.{_≡_}
-use Prim.Native.Nat.{_/_}
-use native.Mathlib.Omega.{arith}
-use borrow.Author.Needs.{needs}
-use Rattle.blocks.proofs.Laws.{guard-bytes}
+use Rattle.mem.proofs.Prelude.{_≡_, _/_, arith, needs}
+use Rattle.model.proofs.Blocks.{guard-bytes}
 use Rattle.blocks.proofs.guard.Statement.{statement}
 use Rattle.blocks.proofs.guard.Tie as tie
 
@@ -15,11 +12,4 @@ returns c =
     rw (e, f, guard-bytes r (c .pre .0))
 
 pub guard-spec : {M : Type 1} → statement M
-guard-spec =
-    tie.close
-    (tie.spec
-    (λ c. search needs)
-    (λ c. search needs)
-    (λ c. search needs)
-    (λ c. search needs)
-    returns)
+guard-spec = tie.close (tie.spec (λ c. search needs) (λ c. search needs) (λ c. search needs) (λ c. search needs) returns)

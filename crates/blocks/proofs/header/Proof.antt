@@ -1,10 +1,6 @@
 -- `header` meets its contract.
-use mathlib.Core.Path.{_≡_}
-use mathlib.Core.Logic.{⊎-elim}
-use Prim.Native.Nat.{ℕ, _*_, _≤_, _<_, min}
+use Rattle.mem.proofs.Prelude.{_≡_, ⊎-elim, ℕ, _<_, _≤_, _*_, min, arith, needs}
 use native.Mathlib.Nat.{mul-le-mul}
-use native.Mathlib.Omega.{arith}
-use borrow.Author.Needs.{needs}
 use Rattle.classes.proofs.Laws.{bytes-units}
 use Rattle.model.specs.Blocks.{header}
 use Rattle.blocks.proofs.header.Statement.{statement}
@@ -34,15 +30,5 @@ returns c =
 
 pub header-spec : {M : Type 1} → statement M
 header-spec =
-    tie.close
-    (tie.spec
-    (λ c κs. search needs)
-    (λ c κs. search needs)
-    mul-place
-    add-place
-    (λ c. omega (arith, lesser (c .before .before)))
-    (λ c. omega (arith, lesser (c .before .before)))
-    (λ c. omega (arith, lesser (c .before .before)))
-    (λ c. search needs)
-    (λ c. search needs)
-    returns)
+    tie.close (tie.spec (λ c κs. search needs) (λ c κs. search needs) mul-place add-place (λ c. omega (arith, lesser (c .before .before)))
+    (λ c. omega (arith, lesser (c .before .before))) (λ c. omega (arith, lesser (c .before .before))) (λ c. search needs) (λ c. search needs) returns)

@@ -1,16 +1,10 @@
 -- `inspect` meets its contract: its two comparisons are the tests of the definition.
-use mathlib.Core.Path.{_≡_, _∙_}
-use mathlib.Core.Bool.{true}
-use mathlib.Core.List.{List}
-use Prim.Native.Nat.{ℕ, _+_, _*_, _-_, _<_}
-use native.Mathlib.Omega.{arith}
-use borrow.Author.Needs.{needs}
-use borrow.Author.Tests.{not-true, not-false}
-use denote.Ref.{now}
-use lib.ListN.{length}
+use Rattle.mem.proofs.Prelude.{_∙_, _≡_, true, List, _+_, ℕ, _<_, _*_, _-_, arith, now, needs, not-false, not-true, length}
 use Rattle.mem.specs.Lists.{choose}
+use Rattle.model.specs.declared.Refusal.the-variants.{Overrun}
+use Rattle.model.specs.declared.Damage.the-variants.{Intact, Damaged}
 use Rattle.model.specs.Blocks.{reserved, headerRight, guardRight, damageIn}
-use Rattle.blocks.proofs.Laws.{guard-none, guard-length}
+use Rattle.model.proofs.Blocks.{guard-none, guard-length}
 use Rattle.blocks.proofs.inspect.Statement.{statement}
 use Rattle.blocks.proofs.inspect.Tie as tie
 
@@ -29,7 +23,7 @@ header-test c =
 
 -- with the header right, the guard decides
 passed : (c : tie.Else1) → (let a = c .before .before .before .before .before .before .args in
-    damageIn (a .c) (a .i) (a .d) (a .n) (now (a .slot)) ≡ choose (guardRight (a .c) (a .d) (a .n) (now (a .slot))) 0 7)
+    damageIn (a .c) (a .i) (a .d) (a .n) (now (a .slot)) ≡ choose (guardRight (a .c) (a .d) (a .n) (now (a .slot))) Intact (Damaged Overrun))
 unfolding damageIn choose
 passed c = rw (← header-test (c .before), not-false (c .before .same-bytes .result) (c .if1 .left))
 
@@ -75,25 +69,6 @@ returns-4 c =
 
 pub inspect-spec : {M : Type 1} → statement M
 inspect-spec =
-    tie.close
-    (tie.spec
-    (λ c. search needs)
-    (λ c κs. search needs)
-    (λ c. search needs)
-    (λ c. search needs)
-    (λ c. search needs)
-    (λ c. search needs)
-    (λ c. search needs)
-    (λ c κs. search needs)
-    returns
-    (λ c κs. search needs)
-    returns-2
-    (λ c κs. search needs)
-    (λ c. search needs)
-    (λ c. search needs)
-    (λ c. search needs)
-    (λ c. search needs)
-    (λ c. search needs)
-    (λ c κs. search needs)
-    returns-3
-    returns-4)
+    tie.close (tie.spec (λ c. search needs) (λ c κs. search needs) (λ c. search needs) (λ c. search needs) (λ c. search needs) (λ c. search needs)
+    (λ c. search needs) (λ c κs. search needs) returns (λ c κs. search needs) returns-2 (λ c κs. search needs) (λ c. search needs) (λ c. search needs)
+    (λ c. search needs) (λ c. search needs) (λ c. search needs) (λ c κs. search needs) returns-3 returns-4)

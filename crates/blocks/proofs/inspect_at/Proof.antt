@@ -1,9 +1,5 @@
 -- `inspect_at` meets its contract: the slot's part has the bytes of its class.
-use mathlib.Core.Path.{_≡_, _∙_}
-use Prim.Native.Nat.{_+_, _*_, _-_}
-use native.Mathlib.Omega.{arith}
-use borrow.Author.Needs.{needs}
-use denote.Ref.{now}
+use Rattle.mem.proofs.Prelude.{_∙_, _≡_, _+_, _*_, _-_, arith, now, needs}
 use Rattle.mem.proofs.Laws.{part-length}
 use Rattle.classes.specs.Classes.{slotBytes}
 use Rattle.classes.proofs.Laws.{bytes-units}
@@ -26,13 +22,5 @@ returns c = c .inspect .ensures ∙ rw (bytes (c .before .before))
 
 pub inspect-at-spec : {M : Type 1} → statement M
 inspect-at-spec =
-    tie.close
-    (tie.spec
-    (λ c κs. search needs)
-    (λ c. search needs)
-    (λ c. search needs)
-    (λ c. search needs)
-    (λ c. search needs)
-    (λ c. omega (arith, bytes-units (c .before .before .args .c)))
-    inspect-requires
-    returns)
+    tie.close (tie.spec (λ c κs. search needs) (λ c. search needs) (λ c. search needs) (λ c. search needs) (λ c. search needs)
+    (λ c. omega (arith, bytes-units (c .before .before .args .c))) inspect-requires returns)

@@ -1,10 +1,5 @@
 -- `reframe` meets its contract: its last two writes are one.
-use mathlib.Core.Path.{_≡_, sym, _∙_}
-use Prim.Native.Nat.{_+_, _*_, _-_}
-use native.Mathlib.Omega.{arith}
-use borrow.Author.Needs.{needs}
-use denote.Ref.{now}
-use lib.ListN.{length}
+use Rattle.mem.proofs.Prelude.{_∙_, _≡_, sym, _+_, _*_, _-_, arith, now, needs, length}
 use Rattle.mem.specs.Bytes.{zeros, put}
 use Rattle.mem.proofs.Laws.{put-append, zeros-length}
 use Rattle.classes.specs.Classes.{slotBytes}
@@ -39,20 +34,6 @@ returns c =
 
 pub reframe-spec : {M : Type 1} → statement M
 reframe-spec =
-    tie.close
-    (tie.spec
-    (λ c κs. search needs)
-    (λ c. search needs)
-    (λ c. search needs)
-    (λ c κs. search needs)
-    (λ c. search needs)
-    (λ c. search needs)
-    (λ c. search needs)
-    (λ c. search needs)
-    (λ c. search needs)
-    (λ c. search needs)
-    (λ c κs. search needs)
-    (λ c κs. search needs)
-    (λ c κs. search needs)
-    (λ c. search needs)
-    returns)
+    tie.close (tie.spec (λ c κs. search needs) (λ c. search needs) (λ c. search needs) (λ c κs. search needs) (λ c. search needs) (λ c. search needs)
+    (λ c. search needs) (λ c. search needs) (λ c. search needs) (λ c. search needs) (λ c κs. search needs) (λ c κs. search needs) (λ c κs. search needs)
+    (λ c. search needs) returns)

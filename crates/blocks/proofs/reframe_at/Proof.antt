@@ -1,18 +1,12 @@
 -- `reframe_at` meets its contract: what is written into the slot's part is written into the arena.
-use mathlib.Core.Path.{_≡_, sym, ap, _∙_}
-use mathlib.Core.List.{List, _++_}
-use Prim.Native.Nat.{ℕ, _+_, _*_, _-_, _≤_}
-use native.Mathlib.Omega.{arith}
-use borrow.Author.Needs.{needs}
-use denote.Ref.{now}
-use lib.ListN.{length, take, drop, take-append-drop, length-append}
-use lib.Seq.{length-take-le}
+use Rattle.mem.proofs.Prelude.{_∙_, _≡_, sym, ap, List, _++_, _+_, ℕ, _≤_, _*_, _-_, arith, now, needs, length, drop, length-append, take}
+use Rattle.mem.proofs.Prelude.{take-append-drop, length-take-le}
 use Rattle.mem.specs.Bytes.{zeros, part, put}
 use Rattle.mem.proofs.Laws.{part-length, put-length, put-middle, zeros-length}
 use Rattle.classes.specs.Classes.{slotBytes}
 use Rattle.classes.proofs.Laws.{bytes-units}
 use Rattle.model.specs.Blocks.{reserved, header, spare}
-use Rattle.blocks.proofs.Laws.{header-length, spare-length}
+use Rattle.model.proofs.Blocks.{header-length, spare-length}
 use Rattle.blocks.proofs.reframe_at.Statement.{statement}
 use Rattle.blocks.proofs.reframe_at.Tie as tie
 
@@ -53,14 +47,5 @@ returns c =
 
 pub reframe-at-spec : {M : Type 1} → statement M
 reframe-at-spec =
-    tie.close
-    (tie.spec
-    (λ c κs. search needs)
-    (λ c. search needs)
-    (λ c. search needs)
-    (λ c. search needs)
-    (λ c. search needs)
-    (λ c. omega (arith, bytes-units (c .before .before .args .c)))
-    reframe-requires
-    (λ c. search needs)
-    returns)
+    tie.close (tie.spec (λ c κs. search needs) (λ c. search needs) (λ c. search needs) (λ c. search needs) (λ c. search needs)
+    (λ c. omega (arith, bytes-units (c .before .before .args .c))) reframe-requires (λ c. search needs) returns)

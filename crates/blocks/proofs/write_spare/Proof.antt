@@ -1,10 +1,5 @@
 -- `write_spare` meets its contract: zeros, then the guard over their end, if there is one.
-use mathlib.Core.Path.{_≡_, _∙_}
-use Prim.Native.Nat.{_+_, _-_}
-use native.Mathlib.Omega.{arith}
-use borrow.Author.Needs.{needs}
-use denote.Ref.{now}
-use lib.ListN.{length}
+use Rattle.mem.proofs.Prelude.{_∙_, _≡_, _+_, _-_, arith, now, needs, length}
 use Rattle.blocks.proofs.Laws.{spare-short, spare-put}
 use Rattle.blocks.proofs.write_spare.Statement.{statement}
 use Rattle.blocks.proofs.write_spare.Tie as tie
@@ -34,15 +29,5 @@ returns-2 c =
 
 pub write-spare-spec : {M : Type 1} → statement M
 write-spare-spec =
-    tie.close
-    (tie.spec
-    (λ c. search needs)
-    (λ c κs. search needs)
-    (λ c. search needs)
-    returns
-    (λ c κs. search needs)
-    (λ c. search needs)
-    (λ c. search needs)
-    (λ c κs. search needs)
-    (λ c. search needs)
-    returns-2)
+    tie.close (tie.spec (λ c. search needs) (λ c κs. search needs) (λ c. search needs) returns (λ c κs. search needs) (λ c. search needs)
+    (λ c. search needs) (λ c κs. search needs) (λ c. search needs) returns-2)

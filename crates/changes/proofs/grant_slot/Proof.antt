@@ -1,9 +1,5 @@
 -- `grant_slot` meets its contract.
-use mathlib.Core.Path.{_≡_}
-use Prim.Native.Nat.{ℕ, _+_, _*_, _-_, _/_, _%_, _^_}
-use native.Mathlib.Numerals.{add-one}
-use native.Mathlib.Omega.{arith}
-use borrow.Author.Needs.{needs}
+use Rattle.mem.proofs.Prelude.{_≡_, _+_, ℕ, _*_, _-_, _/_, _^_, _%_, add-one, arith, needs}
 use Rattle.classes.specs.Classes.{unitsOf, slotBytes}
 use Rattle.model.specs.declared.Slot.{Slot}
 use Rattle.model.specs.State.{count}
@@ -12,7 +8,7 @@ use Rattle.changes.proofs.grant_slot.Statement.{statement}
 use Rattle.changes.proofs.grant_slot.Tie as tie
 
 granted : (c n u k v w : ℕ) (x : Slot) → k ≡ count x → u ≡ unitsOf c → v ≡ (k + 1) % 2 ^ 8 → w ≡ k
-    → Slot.Live v (w % ((16 * u - 4 - n) / 16 + 1)) n ≡ grantSlot c n x
+    → Slot.Live (record { count = v; disp = w % ((16 * u - 4 - n) / 16 + 1); size = n }) ≡ grantSlot c n x
 unfolding grantSlot slotBytes
 granted c n u k v w x e f g h = rw (add-one ((16 * u - 4 - n) / 16), g, h, f, e)
 
@@ -30,15 +26,5 @@ returns c =
 
 pub grant-slot-spec : {M : Type 1} → statement M
 grant-slot-spec =
-    tie.close
-    (tie.spec
-    (λ c κs. search needs)
-    (λ c κs. search needs)
-    (λ c. search needs)
-    (λ c. search needs)
-    sub-n
-    (λ c κs. search needs)
-    (λ c κs. search needs)
-    (λ c. search needs)
-    (λ c. search needs)
-    returns)
+    tie.close (tie.spec (λ c κs. search needs) (λ c κs. search needs) (λ c. search needs) (λ c. search needs) sub-n (λ c κs. search needs)
+    (λ c κs. search needs) (λ c. search needs) (λ c. search needs) returns)

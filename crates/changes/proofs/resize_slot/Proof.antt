@@ -1,26 +1,29 @@
 -- `resize_slot` meets its contract.
-use mathlib.Core.Path.{_≡_}
-use mathlib.Core.List.{List}
-use Prim.Native.Nat.{ℕ}
-use borrow.Author.Needs.{needs}
-use denote.Ref.{now}
-use lib.ListN.{drop}
-use Rattle.masks.specs.declared.Masks.{Masks}
+use Rattle.mem.proofs.Prelude.{ap, _+_, _<_, _≤_, arith, now, needs, length}
+use Rattle.classes.proofs.Laws.{rows-pos}
 use Rattle.model.specs.declared.Slot.{Slot}
-use Rattle.records.specs.Records.{rowAt, masksIn, stored}
+use Rattle.model.specs.Tables.{rowAt, rowRecordBytes}
+use Rattle.changes.proofs.Laws.{held-rows, resized-slot}
 use Rattle.changes.proofs.resize_slot.Statement.{statement}
 use Rattle.changes.proofs.resize_slot.Tie as tie
 
-written : (i j : ℕ) (m : Masks) (x : Slot) (s s′ : List ℕ) → m ≡ masksIn (drop (rowAt i) s) → s′ ≡ stored (rowAt i) m j x s
-    → s′ ≡ stored (rowAt i) (masksIn (drop (rowAt i) s)) j x s
-written i j m x s s′ e f = rw (f, e)
+-- the group's first row stands in the room, and the slot is one of a group's
+inside : (s : tie.Start)
+    → ((s .args .b .first < 512) × (rowAt (s .args .b .first) + rowRecordBytes ≤ length (now (s .args .room)))) × (s .args .b .slot < 31)
+inside s =
+    let q = s .pre in
+    let d = held-rows (q .0) (now (s .args .room)) (s .args .b) (q .1) (q .2) in
+    let k = rows-pos (q .0) (s .args .b .class) (q .2 .pos) in
+    ((omega (arith, d .2), omega (arith, d .3)), d .1)
 
 returns : tie.Need-returns
-returns c =
-    let b = c .before .before .before .before in
-    let a = b .before .before .before .args in
-    written (a .i) (a .j) (b .masks-at .result) (Slot.Live (a .k) (a .d) (a .n)) (now (a .room)) (c .before .before .store .last .0)
-    (b .masks-at .ensures) (c .before .before .store .ensures)
+returns c row p h =
+    let m = c .before .before .before .before .before .masks-at in
+    let a = c .before .before .before .before .before .before .before .before .args in
+    resized-slot row (now (a .room)) (a .b) p h (m .result) (m .ensures) (a .n) (record { count = a .b .alloc .count; disp = a .b .alloc .disp; size = a .n })
+    (c .before .before .store .last .0)
+    (ap {B = Slot} (λ b. Slot.Live (record { count = b .alloc .count; disp = b .alloc .disp; size = a .n })) (h .block)) (c .before .before .store .ensures)
 
 pub resize-slot-spec : {M : Type 1} → statement M
-resize-slot-spec = tie.close (tie.spec (λ c κs. search needs) (λ c κs. search needs) (λ c. search needs) returns)
+resize-slot-spec =
+    tie.close (tie.spec (λ c κs. inside (c .before .before) .0) (λ c κs. inside (c .before .before .before .before .before)) (λ c. search needs) returns)

@@ -1,7 +1,5 @@
 -- The constants are the row size itself.
-use borrow.Author.Needs.{needs}
-use Prim.Native.Nat.{_/_}
-use mathlib.Core.Path.{sym, ap}
+use Rattle.mem.proofs.Prelude.{sym, ap, _/_, needs}
 use Rattle.classes.proofs.whole_rows.Statement.{statement}
 use Rattle.classes.proofs.whole_rows.Tie as tie
 

@@ -1,9 +1,6 @@
 -- The bit stays below 2 ^ 32: the shift loses nothing.
-use borrow.Author.Needs.{needs}
-use mathlib.Core.Path.{_∙_}
+use Rattle.mem.proofs.Prelude.{_∙_, _^_, arith, needs}
 use native.Mathlib.Nat.{one-mul}
-use native.Mathlib.Omega.{arith}
-use Prim.Native.Nat.{_^_}
 use lib.Dec.{lit<}
 use lib.Pow.{shl-exact}
 use Rattle.masks.proofs.bit_of.Statement.{statement}

@@ -1,12 +1,5 @@
 -- `clear` meets its contract.
-use mathlib.Core.Path.{_≡_, sym}
-use mathlib.Core.List.{List, _++_}
-use Prim.Native.Nat.{ℕ, _-_, _≤_}
-use native.Mathlib.Omega.{arith}
-use borrow.Author.Needs.{needs}
-use denote.Ref.{now}
-use lib.ListN.{length, take, drop}
-use lib.Seq.{drop-drop}
+use Rattle.mem.proofs.Prelude.{_≡_, sym, List, _++_, ℕ, _≤_, _-_, arith, now, needs, length, drop, take, drop-drop}
 use Rattle.mem.specs.Bytes.{zeros, part, put}
 use Rattle.mem.proofs.Laws.{part-length, put-split, zeros-length}
 use Rattle.mem.proofs.clear.Statement.{statement}
@@ -26,12 +19,4 @@ returns c =
     written (now (a .s)) (c .before .before .fill-zero .last .0) (a .from) (a .to) (h .0) (h .1) (c .before .before .fill-zero .ensures)
 
 pub clear-spec : {M : Type 1} → statement M
-clear-spec =
-    tie.close
-    (tie.spec
-    (λ c. search needs)
-    (λ c. search needs)
-    (λ c. search needs)
-    (λ c κs. search needs)
-    (λ c. search needs)
-    returns)
+clear-spec = tie.close (tie.spec (λ c. search needs) (λ c. search needs) (λ c. search needs) (λ c κs. search needs) (λ c. search needs) returns)

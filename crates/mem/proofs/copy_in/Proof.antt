@@ -1,14 +1,7 @@
 -- `copy_in` meets its contract. The invariant: writing what is left of `v` makes the whole written.
-use mathlib.Core.Path.{_≡_, refl, sym, _∙_}
-use mathlib.Core.List.{List}
-use Prim.Native.Nat.{ℕ, suc, _+_, _-_, _<_, _≤_}
-use native.Mathlib.Nat.{add-zero}
-use native.Mathlib.Numerals.{add-one}
-use native.Mathlib.Omega.{arith}
-use borrow.Author.Needs.{needs}
-use denote.Ref.{now}
-use lib.ListN.{length, getD, set, drop, length-set, drop-of-length-le}
-use lib.Seq.{drop-cons}
+use Rattle.mem.proofs.Prelude.{_∙_, _≡_, sym, refl, List, _+_, ℕ, _<_, _≤_, _-_, suc, add-zero, add-one, arith, now, needs, length, drop, getD}
+use Rattle.mem.proofs.Prelude.{set, length-set, drop-cons}
+use lib.ListN.{drop-of-length-le}
 use Rattle.mem.specs.Bytes.{put}
 use Rattle.mem.proofs.Laws.{put-nil, put-cons}
 use Rattle.mem.proofs.copy_in.Statement.{statement}
@@ -44,16 +37,5 @@ returns c =
 
 pub copy-in-spec : {M : Type 1} → statement M
 copy-in-spec =
-    tie.close
-    (tie.spec
-    Inv-loop
-    μ-loop
-    loop-holds
-    (λ c. search needs)
-    (λ c. search needs)
-    (λ c. search needs)
-    (λ c. search needs)
-    (λ c. search needs)
-    loop-again
-    (λ c. search needs)
-    returns)
+    tie.close (tie.spec Inv-loop μ-loop loop-holds (λ c. search needs) (λ c. search needs) (λ c. search needs) (λ c. search needs) (λ c. search needs)
+    loop-again (λ c. search needs) returns)

@@ -1,12 +1,6 @@
 -- `copy_within` meets its contract. The invariant: writing what is left, as it now stands, makes the whole written.
-use mathlib.Core.Path.{_≡_, refl, sym, _∙_}
-use mathlib.Core.Logic.{_⊎_, inl, inr, ⊎-elim}
-use mathlib.Core.List.{List}
-use Prim.Native.Nat.{ℕ, suc, _+_, _-_, _<_, _≤_}
-use native.Mathlib.Nat.{add-zero, sub-zero}
-use native.Mathlib.Omega.{arith}
-use borrow.Author.Needs.{needs}
-use lib.ListN.{length, getD, set, length-set}
+use Rattle.mem.proofs.Prelude.{_∙_, _≡_, sym, refl, ⊎-elim, inl, inr, _⊎_, List, _+_, ℕ, _<_, _≤_, _-_, suc, add-zero, sub-zero, arith, needs}
+use Rattle.mem.proofs.Prelude.{length, getD, set, length-set}
 use Rattle.mem.specs.Bytes.{put, part}
 use Rattle.mem.proofs.Laws.{put-nil, put-cons, part-cons, part-set}
 use Rattle.mem.proofs.copy_within.Statement.{statement}
@@ -53,17 +47,5 @@ returns c =
 
 pub copy-within-spec : {M : Type 1} → statement M
 copy-within-spec =
-    tie.close
-    (tie.spec
-    Inv-loop
-    μ-loop
-    loop-holds
-    (λ c. search needs)
-    (λ c. search needs)
-    (λ c. search needs)
-    (λ c. search needs)
-    (λ c. search needs)
-    (λ c. search needs)
-    loop-again
-    (λ c. search needs)
-    returns)
+    tie.close (tie.spec Inv-loop μ-loop loop-holds (λ c. search needs) (λ c. search needs) (λ c. search needs) (λ c. search needs) (λ c. search needs)
+    (λ c. search needs) loop-again (λ c. search needs) returns)

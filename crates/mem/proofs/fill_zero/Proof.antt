@@ -1,13 +1,6 @@
 -- `fill_zero` meets its contract. The invariant: zeros written over what is left make the whole zero.
-use mathlib.Core.Path.{_≡_, refl, sym, _∙_}
-use mathlib.Core.List.{List}
-use Prim.Native.Nat.{ℕ, suc, _+_, _-_, _<_, _≤_}
-use native.Mathlib.Nat.{sub-zero}
-use native.Mathlib.Numerals.{add-one}
-use native.Mathlib.Omega.{arith}
-use borrow.Author.Needs.{needs}
-use denote.Ref.{now}
-use lib.ListN.{length, set, length-set}
+use Rattle.mem.proofs.Prelude.{_∙_, _≡_, sym, refl, List, _+_, ℕ, _<_, _≤_, _-_, suc, sub-zero, add-one, arith, now, needs, length, set}
+use Rattle.mem.proofs.Prelude.{length-set}
 use Rattle.mem.specs.Bytes.{zeros, put}
 use Rattle.mem.proofs.Laws.{put-nil, put-cons, put-all, zeros-length, zeros-none, zeros-left}
 use Rattle.mem.proofs.fill_zero.Statement.{statement}
@@ -42,14 +35,4 @@ returns c =
 
 pub fill-zero-spec : {M : Type 1} → statement M
 fill-zero-spec =
-    tie.close
-    (tie.spec
-    Inv-loop
-    μ-loop
-    loop-holds
-    (λ c. search needs)
-    (λ c. search needs)
-    (λ c. search needs)
-    loop-again
-    (λ c. search needs)
-    returns)
+    tie.close (tie.spec Inv-loop μ-loop loop-holds (λ c. search needs) (λ c. search needs) (λ c. search needs) loop-again (λ c. search needs) returns)

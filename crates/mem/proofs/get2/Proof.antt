@@ -1,8 +1,5 @@
 -- `get2` meets its contract: the number is taken apart byte by byte.
-use native.Mathlib.Numerals.{add-one}
-use native.Mathlib.Omega.{arith}
-use borrow.Author.Needs.{needs}
-use denote.Ref.{now}
+use Rattle.mem.proofs.Prelude.{add-one, arith, now, needs}
 use Rattle.mem.proofs.Laws.{number-part}
 use Rattle.mem.proofs.get2.Statement.{statement}
 use Rattle.mem.proofs.get2.Tie as tie
@@ -16,13 +13,5 @@ returns c =
 
 pub get2-spec : {M : Type 1} → statement M
 get2-spec =
-    tie.close
-    (tie.spec
-    (λ c. search needs)
-    (λ c κs. search needs)
-    (λ c. search needs)
-    (λ c. search needs)
-    (λ c κs. search needs)
-    (λ c. search needs)
-    (λ c. search needs)
-    returns)
+    tie.close (tie.spec (λ c. search needs) (λ c κs. search needs) (λ c. search needs) (λ c. search needs) (λ c κs. search needs) (λ c. search needs)
+    (λ c. search needs) returns)

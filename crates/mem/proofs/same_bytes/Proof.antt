@@ -1,15 +1,7 @@
 -- `same_bytes` meets its contract. The invariant: the test of the whole is the test of what is left.
-use mathlib.Core.Path.{_≡_, refl, sym, _∙_, ap₂}
-use mathlib.Core.Bool.{false}
-use mathlib.Core.List.{List}
-use Prim.Native.Nat.{ℕ, _+_, _-_, _<_, _≤_}
-use native.Mathlib.Numerals.{add-one}
-use native.Mathlib.Omega.{arith}
-use borrow.Author.Needs.{needs}
-use borrow.Author.Tests.{ne-eqb, eq-eqb}
-use denote.Ref.{now}
-use lib.ListN.{length, drop, getD, drop-of-length-le}
-use lib.Seq.{drop-cons}
+use Rattle.mem.proofs.Prelude.{_∙_, _≡_, sym, refl, ap₂, false, List, _+_, ℕ, _<_, _≤_, _-_, add-one, arith, now, needs, eq-eqb, ne-eqb}
+use Rattle.mem.proofs.Prelude.{length, drop, getD, drop-cons}
+use lib.ListN.{drop-of-length-le}
 use Rattle.mem.specs.Bytes.{same}
 use Rattle.mem.proofs.Laws.{same-lengths}
 use Rattle.mem.proofs.same_bytes.Statement.{statement}
@@ -57,16 +49,5 @@ returns-3 c =
 
 pub same-bytes-spec : {M : Type 1} → statement M
 same-bytes-spec =
-    tie.close
-    (tie.spec
-    Inv-loop
-    μ-loop
-    returns
-    loop-holds
-    (λ c. search needs)
-    (λ c. search needs)
-    returns-2
-    (λ c. search needs)
-    (λ c. search needs)
-    loop-again
-    returns-3)
+    tie.close (tie.spec Inv-loop μ-loop returns loop-holds (λ c. search needs) (λ c. search needs) returns-2 (λ c. search needs) (λ c. search needs)
+    loop-again returns-3)

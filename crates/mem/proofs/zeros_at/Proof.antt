@@ -1,15 +1,7 @@
 -- `zeros_at` meets its contract. The invariant: the test of the whole is that nothing was seen and that what is left is zero.
-use mathlib.Core.Path.{_≡_, sym, _∙_}
-use mathlib.Core.Bool.{_&&_, and-true, and-assoc}
-use mathlib.Core.List.{List}
-use Prim.Native.Nat.{ℕ, suc, _+_, _-_, _<_, _≤_}
-use native.Mathlib.Nat.{add-zero, sub-zero}
-use native.Mathlib.Omega.{arith}
-use borrow.Author.Needs.{needs}
-use denote.Ref.{now}
+use Rattle.mem.proofs.Prelude.{_∙_, _≡_, sym, _&&_, and-assoc, and-true, List, _+_, ℕ, _<_, _≤_, _-_, suc, add-zero, sub-zero, arith, now}
+use Rattle.mem.proofs.Prelude.{needs, eqb, length, getD}
 use lib.Bits.{bitOr}
-use lib.Dec.{eqb}
-use lib.ListN.{length, getD}
 use Rattle.mem.specs.Bytes.{zeros, part, same}
 use Rattle.mem.proofs.Laws.{part-cons, zeros-none, zeros-left}
 use Rattle.mem.proofs.Tests.{or-none}
@@ -49,14 +41,4 @@ returns c =
 
 pub zeros-at-spec : {M : Type 1} → statement M
 zeros-at-spec =
-    tie.close
-    (tie.spec
-    Inv-loop
-    μ-loop
-    loop-holds
-    (λ c. search needs)
-    (λ c. search needs)
-    (λ c. search needs)
-    (λ c. search needs)
-    loop-again
-    returns)
+    tie.close (tie.spec Inv-loop μ-loop loop-holds (λ c. search needs) (λ c. search needs) (λ c. search needs) (λ c. search needs) loop-again returns)

@@ -1,4 +1,4 @@
-use borrow.Author.Needs.{needs}
+use Rattle.mem.proofs.Prelude.{needs}
 use Rattle.ops.proofs.inspect.Statement.{statement}
 use Rattle.ops.proofs.inspect.Tie as tie
 

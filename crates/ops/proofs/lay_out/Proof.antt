@@ -1,4 +1,4 @@
-use borrow.Author.Needs.{needs}
+use Rattle.mem.proofs.Prelude.{needs}
 use Rattle.ops.proofs.lay_out.Statement.{statement}
 use Rattle.ops.proofs.lay_out.Tie as tie
 

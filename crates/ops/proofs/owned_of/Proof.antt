@@ -1,7 +1,5 @@
 -- The number of a slot is below 31, so its bytes before it fit.
-use Prim.Native.Nat.{_*_, _≤_}
-use native.Mathlib.Omega.{arith}
-use borrow.Author.Needs.{needs}
+use Rattle.mem.proofs.Prelude.{_≤_, _*_, arith, needs}
 use Rattle.classes.specs.Classes.{slotBytes}
 use Rattle.classes.proofs.Laws.{few-bytes}
 use Rattle.ops.proofs.Places.{small-product}
@@ -16,14 +14,27 @@ mul-result-3 : tie.Need-mul-result-3
 mul-result-3 c = omega (arith, small-product (c .before .before .before .args .b .slot) (16 * c .before .units .result) (omega arith) (omega arith))
 
 add-result-2 : tie.Need-add-result-2
-add-result-2 c = omega (arith, before (c .before .before), small-product (c .before .before .before .args .b .slot) (16 * c .before .units .result) (omega arith) (omega arith))
+add-result-2 c =
+    omega (
+      arith,
+      before (c .before .before),
+      small-product (c .before .before .before .args .b .slot) (16 * c .before .units .result) (omega arith)
+          (omega arith),
+    )
 
 returns : tie.Need-returns
 unfolding slotBytes
-returns c =
-    (rw (c .before .units .ensures .0), omega (arith, before (c .before .before), small-product (c .before .before .before .args .b .slot) (16 * c .before .units .result) (omega arith) (omega arith)))
+returns c = (
+  rw (c .before .units .ensures .0),
+  omega (
+    arith,
+    before (c .before .before),
+    small-product (c .before .before .before .args .b .slot)
+        (16 * c .before .units .result) (omega arith) (omega arith),
+  ),
+)
 
 pub owned-of-spec : {M : Type 1} → statement M
 owned-of-spec =
-    tie.close
-    (tie.spec (λ c. omega (arith, before c)) (λ c. omega (arith, before c)) (λ c κs. search needs) (λ c. search needs) mul-result-3 add-result-2 returns)
+    tie.close (tie.spec (λ c. omega (arith, before c)) (λ c. omega (arith, before c)) (λ c κs. search needs) (λ c. search needs) mul-result-3 add-result-2
+    returns)

@@ -1,97 +1,152 @@
--- The old block lives on in the tables that the grant leaves, and the new one is apart from it.
-use Prim.Native.Nat.{min}
-use mathlib.Core.Path.{_≡_, sym, subst, ap, ap₂, _∙_}
-use mathlib.Core.Bool.{true}
-use mathlib.Core.Logic.{inl, inr, ⊎-elim}
-use native.Mathlib.Omega.{arith}
-use borrow.Author.Needs.{needs}
-use lib.ListN.{length}
+-- A grant, a copy and a release; the old block is still there for the release, and apart from the new one.
+use Rattle.mem.proofs.Prelude.{_∙_, _≡_, sym, ap, ap₂, subst, ⊎-elim, inl, inr, some, min, arith, now, needs, length}
 use Rattle.mem.specs.Bytes.{put, part}
 use Rattle.mem.proofs.Laws.{put-length}
-use Rattle.classes.proofs.Laws.{lawful-pos}
-use Rattle.model.specs.declared.Resize.{Resize}
-use Rattle.model.specs.Plans.{release}
-use Rattle.model.specs.Tables.{view, sound}
-use Rattle.model.specs.Calls.{written}
-use Rattle.search.specs.Found.{startAt}
-use Rattle.ops.proofs.Places.{lives-stands}
-use Rattle.ops.proofs.Moves.{moved-nowhere, moved-to}
+use Rattle.model.specs.State.{Place, poolOf}
+use Rattle.model.specs.Plans.{reserve}
+use Rattle.model.specs.Tables.{byMasks, view, sound, encode}
+use Rattle.rows.specs.Rows.{Lent, blockOf, startAt, Holds}
+use Rattle.rows.proofs.Rooms.{by-masks}
+use Rattle.ops.specs.Blocks.{Standing, roomAfter}
+use Rattle.ops.proofs.Places.{held-stands}
+use Rattle.ops.proofs.Moves.{reserved-place, reserved-none, reserve-leaves, beside, copy-apart, taken-size, moved, moved-nowhere}
 use Rattle.ops.proofs.resize_by_move.Statement.{statement}
 use Rattle.ops.proofs.resize_by_move.Tie as tie
-use denote.Ref.{now}
+
+room : (s : tie.Start) → Lent byMasks (s .args .row) (length (now (s .args .arena))) (now (s .args .room))
+room s = by-masks (s .pre .0) (s .pre .1 .1 .1)
 
 returns : tie.Need-returns
-returns c =
-    let z = c .before .before .before .before .before .before .before .before in
-    let a = z .args in
-    let m = moved-nowhere (a .row) (lawful-pos (a .row) (z .pre .1 .1 .1)) (length (now (a .arena))) (now (a .room)) (a .n) (z .pre .0) (z .pre .1 .1 .0) (a .b) (z .pre .1 .0) (sym (c .before .before .before .before .reserve-slot .ensures .0) ∙ c .enum-told .given .1) in
-    (m .answer, (m .arena (now (a .arena)), c .before .before .before .before .reserve-slot .ensures .1 ∙ m .room))
+returns c p h =
+    let d = c .before .before .before .before in
+    let s = d .before .before .before .before in
+    let a = s .args in
+    let e = reserved-none (a .row) (reserve (a .row) (view (a .row) (now (a .room))) (a .n)) (sym (d .reserve-slot .ensures .0) ∙ c .enum-told .given .1) in
+    rw (d .reserve-slot .ensures .1 ∙ ap (roomAfter (a .row) (now (a .room))) e) (moved-nowhere (room s) (a .n) h (now (a .arena)) e)
+
+-- the place that is taken, and the room with it
+new : (c : tie.After-known-told) → (let d = c .before .before .before .before .before in
+    let a = d .before .before .before .before .args in
+    (q : Place) × (reserve (a .row) (view (a .row) (now (a .room))) (a .n) ≡ some q) × (blockOf (a .row) q ≡ c .before .q .given .0 .0))
+new c =
+    let d = c .before .before .before .before .before in
+    let a = d .before .before .before .before .args in
+    reserved-place (a .row) (reserve (a .row) (view (a .row) (now (a .room))) (a .n)) (c .before .q .given .0 .0)
+    (sym (d .reserve-slot .ensures .0) ∙ c .before .q .given .1)
+
+after : (c : tie.After-known-told) → (let d = c .before .before .before .before .before in
+    d .reserve-slot .last .1 .1 .0 ≡ encode (d .before .before .before .before .args .row) (poolOf (new c .0)))
+after c =
+    let d = c .before .before .before .before .before in
+    let a = d .before .before .before .before .args in
+    d .reserve-slot .ensures .1 ∙ ap (roomAfter (a .row) (now (a .room))) (new c .1)
+
+-- the new block stands in the arena, and the old one
+stands : (c : tie.After-known-told) → (let a = c .before .before .before .before .before .before .before .before .before .args in
+    Standing (a .row) (length (now (a .arena))) (c .before .q .given .0 .0))
+stands c =
+    let s = c .before .before .before .before .before .before .before .before .before in
+    let (q, f, e) = new c in
+    rw (sym e) (reserve-leaves (room s) (s .args .n) (s .pre .1 .1 .0) q f .stands)
+
+old : (s : tie.Start) → Standing (s .args .row) (length (now (s .args .arena))) (s .args .b)
+old s = held-stands (room s) (s .pre .1 .0 .1)
 
 start-of-requires : tie.Need-start-of-requires
 start-of-requires c κs =
-    let z = c .before .before .before .before .before .before .before .before .before in
-    let a = z .args in
-    let s = moved-to (a .row) (lawful-pos (a .row) (z .pre .1 .1 .1)) (length (now (a .arena))) (now (a .room)) (a .n) (z .pre .0) (z .pre .1 .1 .0) (a .b) (z .pre .1 .0) (c .before .q .given .0 .0) (c .before .before .before .before .before .reserve-slot .last .1 .1 .0) (sym (c .before .before .before .before .before .reserve-slot .ensures .0) ∙ c .before .q .given .1) (c .before .before .before .before .before .reserve-slot .ensures .1) .stands in
-    ((s .class, s .slot, omega (arith, s .few)), (omega (arith, s .bytes), z .pre .1 .1 .1))
-
-lay-out-requires : tie.Need-lay-out-requires
-lay-out-requires c κs =
-    let z = c .before .before .before .before .before .before .before .before .before .before .before in
-    let a = z .args in
-    (moved-to (a .row) (lawful-pos (a .row) (z .pre .1 .1 .1)) (length (now (a .arena))) (now (a .room)) (a .n) (z .pre .0) (z .pre .1 .1 .0) (a .b) (z .pre .1 .0) (c .before .before .before .q .given .0 .0) (c .before .before .before .before .before .before .before .reserve-slot .last .1 .1 .0) (sym (c .before .before .before .before .before .before .before .reserve-slot .ensures .0) ∙ c .before .before .before .q .given .1) (c .before .before .before .before .before .before .before .reserve-slot .ensures .1) .stands, z .pre .1 .1 .1)
-
-start-of-requires-2 : tie.Need-start-of-requires-2
-start-of-requires-2 c κs =
-    let z = c .before .before .before .before .before .before .before .before .before .before .before .before .before .before .before in
-    let a = z .args in
-    let s = lives-stands (a .row) (lawful-pos (a .row) (z .pre .1 .1 .1)) (length (now (a .arena))) (now (a .room)) (a .b) (z .pre .0) (z .pre .1 .0) in
-    ((s .class, s .slot, omega (arith, s .few)), (omega (arith, s .bytes), z .pre .1 .1 .1))
-
-copy-within-requires : tie.Need-copy-within-requires
-copy-within-requires c κs =
-    let z = c .before .before .before .before .before .before .before .before .before .before .before .before .before .before .before .before .before in
-    let a = z .args in
-    let m = moved-to (a .row) (lawful-pos (a .row) (z .pre .1 .1 .1)) (length (now (a .arena))) (now (a .room)) (a .n) (z .pre .0) (z .pre .1 .1 .0) (a .b) (z .pre .1 .0) (c .before .before .before .before .before .before .before .before .before .q .given .0 .0) (c .before .before .before .before .before .before .before .before .before .before .before .before .before .reserve-slot .last .1 .1 .0) (sym (c .before .before .before .before .before .before .before .before .before .before .before .before .before .reserve-slot .ensures .0) ∙ c .before .before .before .before .before .before .before .before .before .q .given .1) (c .before .before .before .before .before .before .before .before .before .before .before .before .before .reserve-slot .ensures .1) in
-    let s = m .stands in
-    let o = lives-stands (a .row) (lawful-pos (a .row) (z .pre .1 .1 .1)) (length (now (a .arena))) (now (a .room)) (a .b) (z .pre .0) (z .pre .1 .0) in
-    let l : length (c .before .before .before .before .before .lay-out .last .1 .0) ≡ length (now (a .arena)) = ap length (c .before .before .before .before .before .lay-out .ensures) ∙ put-length _ _ (now (a .arena)) in
-    let from : c .before .start-of2 .result ≡ startAt (a .row) (a .b) = c .before .start-of2 .ensures in
-    let to : c .before .before .before .before .before .before .before .start-of .result ≡ startAt (a .row) (c .before .before .before .before .before .before .before .before .before .q .given .0 .0) = c .before .before .before .before .before .before .before .start-of .ensures in
-    let k : c .lesser .result ≡ min (a .b .size) (a .n) = c .lesser .ensures in (
-      (omega (arith, l, from, k, o .owned, o .bytes), omega (arith, l, to, k, s .owned, s .bytes, m .size)),
-      ⊎-elim (λ x. inl (omega (arith, x, from, to, k))) (λ x. inr (omega (arith, x, from, to, k))) (m .apart),
-    )
-
-discard-requires : tie.Need-discard-requires
-discard-requires c κs =
-    let z = c .before .before .before .before .before .before .before .before .before .before .before .before .before .before .before .before .before .before .before .before .before .before in
-    let a = z .args in
-    let m = moved-to (a .row) (lawful-pos (a .row) (z .pre .1 .1 .1)) (length (now (a .arena))) (now (a .room)) (a .n) (z .pre .0) (z .pre .1 .1 .0) (a .b) (z .pre .1 .0) (c .before .before .before .before .before .before .before .before .before .before .before .before .before .before .q .given .0 .0) (c .before .before .before .before .before .before .before .before .before .before .before .before .before .before .before .before .before .before .reserve-slot .last .1 .1 .0) (sym (c .before .before .before .before .before .before .before .before .before .before .before .before .before .before .before .before .before .before .reserve-slot .ensures .0) ∙ c .before .before .before .before .before .before .before .before .before .before .before .before .before .before .q .given .1) (c .before .before .before .before .before .before .before .before .before .before .before .before .before .before .before .before .before .before .reserve-slot .ensures .1) in
-    let l : length (c .before .before .before .before .copy-within .last .0) ≡ length (now (a .arena)) =
-    ap length (c .before .before .before .before .copy-within .ensures) ∙ put-length _ _ (c .before .before .before .before .before .before .before .before .before .before .lay-out .last .1 .0) ∙ ap length (c .before .before .before .before .before .before .before .before .before .before .lay-out .ensures) ∙ put-length _ _ (now (a .arena)) in
-    (subst (λ k. sound (a .row) k (c .before .before .before .before .before .before .before .before .before .before .before .before .before .before .before .before .before .before .reserve-slot .last .1 .1 .0) ≡ true) (sym l) (m .sound-after), (m .lives, z .pre .1 .1 .1))
-
-returns-2 : tie.Need-returns-2
-returns-2 c =
-    let z = c .before .before .before .before .before .before .before .before .before .before .before .before .before .before .before .before .before .before .before .before .before .before .before .before .before .before .before in
-    let a = z .args in
-    let m = moved-to (a .row) (lawful-pos (a .row) (z .pre .1 .1 .1)) (length (now (a .arena))) (now (a .room)) (a .n) (z .pre .0) (z .pre .1 .1 .0) (a .b) (z .pre .1 .0) (c .before .before .before .before .before .before .before .before .before .before .before .before .before .before .before .before .before .before .before .q .given .0 .0) (c .before .before .before .before .before .before .before .before .before .before .before .before .before .before .before .before .before .before .before .before .before .before .before .reserve-slot .last .1 .1 .0) (sym (c .before .before .before .before .before .before .before .before .before .before .before .before .before .before .before .before .before .before .before .before .before .before .before .reserve-slot .ensures .0) ∙ c .before .before .before .before .before .before .before .before .before .before .before .before .before .before .before .before .before .before .before .q .given .1) (c .before .before .before .before .before .before .before .before .before .before .before .before .before .before .before .before .before .before .before .before .before .before .before .reserve-slot .ensures .1) in
-    let u = c .before .before .before .before .before .before .before .before .before .before .before .before .before .before .before .before .before .before .before .before .before .before .before .reserve-slot .last .1 .1 .0 in
-    let x = c .before .before .before .before .before .before .before .before .before .before .before .before .before .before .before .lay-out .last .1 .0 in
-    let q = c .before .before .before .before .before .before .before .before .before .before .before .before .before .before .before .before .before .before .before .q .given .0 .0 in
-    let copied : c .before .before .before .before .before .before .before .before .before .copy-within .last .0 ≡ put (startAt (a .row) q) (part (startAt (a .row) (a .b)) (min (a .b .size) (a .n)) x) x =
-    c .before .before .before .before .before .before .before .before .before .copy-within .ensures ∙ ap (λ z. put z (part (c .before .before .before .before .before .before .before .before .before .before .before .start-of2 .result) (c .before .before .before .before .before .before .before .before .before .before .lesser .result) x) x) (c .before .before .before .before .before .before .before .before .before .before .before .before .before .before .before .before .before .start-of .ensures)
-    ∙ ap₂ (λ z k. put (startAt (a .row) q) (part z k x) x) (c .before .before .before .before .before .before .before .before .before .before .before .start-of2 .ensures) (c .before .before .before .before .before .before .before .before .before .before .lesser .ensures) in (
-      ap Resize.At (c .before .before .before .before .before .before .before .before .before .before .before .before .before .before .before .before .before .start-of .ensures) ∙ m .answer,
+    let h = stands c in (
+      (h .class, h .slot, omega (arith, h .few)),
       (
-        c .before .before .before .before .discard .ensures .0 ∙ ap (λ z. written z (release (a .row) (view (a .row) u) (startAt (a .row) (a .b)) .changes)) copied
-            ∙ m .arena (now (a .arena)) x (c .before .before .before .before .before .before .before .before .before .before .before .before .before .before .before .lay-out .ensures),
-        c .before .before .before .before .discard .ensures .1 ∙ m .room,
+        omega (arith, h .bytes),
+        c .before .before .before .before .before .before .before .before .before .pre .1 .1 .1,
       ),
     )
 
+start-of-requires-2 : tie.Need-start-of-requires-2
+start-of-requires-2 c κs =
+    let s = c .before .before .before .before .before .before .before .before .before .before .before .before .before .before .before in
+    let h = old s in
+    ((h .class, h .slot, omega (arith, h .few)), (omega (arith, h .bytes), s .pre .1 .1 .1))
+
+copy-within-requires : tie.Need-copy-within-requires
+copy-within-requires c κs =
+    let k = c .before .before .before .before .before .before .before .before in
+    let s = k .before .before .before .before .before .before .before .before .before in
+    let a = s .args in
+    let (q, f, e) = new k in
+    let h = stands k in
+    let o = old s in
+    let x = c .before .before .before .before .before .lay-out in
+    let l : length (x .last .1 .0) ≡ length (now (a .arena)) = ap length (x .ensures) ∙ put-length _ _ (now (a .arena)) in
+    let from = c .before .start-of2 .ensures in
+    let to = c .before .before .before .before .before .before .before .start-of .ensures ∙ ap (startAt (a .row)) (sym e) in
+    let z = taken-size (room s) (a .n) (s .pre .1 .1 .0) q f (s .pre .1 .0 .1) in
+    let zb = ap (λ b. b .alloc .size) e in
+    let m = c .lesser .ensures in (
+      (
+        omega (arith, l, from, m, o .owned, o .bytes),
+        omega (
+          arith,
+          l,
+          c .before .before .before .before .before .before .before .start-of .ensures,
+          m,
+          h .owned,
+          h .bytes,
+          z,
+          zb,
+        ),
+      ),
+      ⊎-elim (λ x. inl (omega (arith, x, from, to, m))) (λ x. inr (omega (arith, x, from, to, m)))
+          (copy-apart (room s) (a .n) (s .pre .1 .1 .0) q f (s .pre .1 .0 .1) (min (a .b .alloc .size) (a .n)) (omega arith) (omega (arith, z))),
+    )
+
+-- the old block in the room that the grant left
+still : (c : tie.After-known-told) → (let s = c .before .before .before .before .before .before .before .before .before in
+    let a = s .args in
+    (p : Place) (h : Holds byMasks (a .row) (now (a .room)) (a .b) p)
+    → Holds byMasks (a .row) (c .before .before .before .before .before .reserve-slot .last .1 .1 .0) (a .b)
+    (beside (room s) (a .n) (s .pre .1 .1 .0) (new c .0) (new c .1) h .place))
+still c p h =
+    let s = c .before .before .before .before .before .before .before .before .before in
+    let o = beside (room s) (s .args .n) (s .pre .1 .1 .0) (new c .0) (new c .1) h in
+    subst (λ u. Holds byMasks (s .args .row) u (s .args .b) (o .place)) (sym (after c)) (o .holds)
+
+discard-requires : tie.Need-discard-requires
+discard-requires c κs =
+    let k = c .before .before .before .before .before .before .before .before .before .before .before .before .before in
+    let s = k .before .before .before .before .before .before .before .before .before in
+    let a = s .args in
+    let x = c .before .before .before .before .before .before .before .before .before .before .lay-out in
+    let y = c .before .before .before .before .copy-within in
+    let l : length (y .last .0) ≡ length (now (a .arena)) = ap length (y .ensures) ∙ put-length _ _ (x .last .1 .0) ∙ ap length (x .ensures)
+    ∙ put-length _ _ (now (a .arena)) in
+    let (q, f, e) = new k in (
+      ap₂ (sound (a .row)) l (after k) ∙ reserve-leaves (room s) (a .n) (s .pre .1 .1 .0) q f .room .sound,
+      ((_, still k (s .pre .1 .0 .0) (s .pre .1 .0 .1)), s .pre .1 .1 .1),
+    )
+
+returns-2 : tie.Need-returns-2
+returns-2 c p h =
+    let k = c .before .before .before .before .before .before .before .before .before .before .before .before .before .before .before .before .before .before in
+    let s = k .before .before .before .before .before .before .before .before .before in
+    let a = s .args in
+    let x = c .before .before .before .before .before .before .before .before .before .before .before .before .before .before .before .lay-out in
+    let w = c .before .before .before .before .before .before .before .before .before in
+    let y = w .copy-within in
+    let d = c .before .before .before .before .discard in
+    let at = w .before .before .before .before .before .before .before .before .start-of in
+    let from = c .before .before .before .before .before .before .before .before .before .before .before .start-of2 in
+    let m = c .before .before .before .before .before .before .before .before .before .before .lesser in
+    let b = k .before .q .given .0 .0 in
+    let g = d .ensures _ (still k p h) in
+    let copied : y .last .0 ≡ put (startAt (a .row) b) (part (startAt (a .row) (a .b)) (min (a .b .alloc .size) (a .n)) (x .last .1 .0)) (x .last .1 .0) =
+    y .ensures ∙ rw (at .ensures, from .ensures, m .ensures) in
+    moved (room s) (a .n) (s .pre .1 .1 .0) (new k .0) (new k .1) h b (now (a .arena)) (x .last .1 .0) (y .last .0) (d .last .1 .0) (d .last .1 .1 .0)
+    (at .result)
+    (new k .2) (x .ensures) copied (g .0) (g .1) (at .ensures)
+
 pub resize-by-move-spec : {M : Type 1} → statement M
 resize-by-move-spec =
-    tie.close
-    (tie.spec (λ c κs. search needs) (λ c. search needs) (λ c. search needs) (λ c. search needs) returns start-of-requires lay-out-requires start-of-requires-2 (λ c κs. search needs)
-    copy-within-requires discard-requires (λ c. search needs) (λ c. search needs) returns-2)
+    tie.close (tie.spec (λ c κs. search needs) (λ c. search needs) (λ c. search needs) (λ c. search needs) returns start-of-requires
+    (λ c κs. (stands (c .before .before), c .before .before .before .before .before .before .before .before .before .before .before .pre .1 .1 .1))
+    start-of-requires-2 (λ c κs. search needs) copy-within-requires discard-requires (λ c. search needs) (λ c. search needs) returns-2)

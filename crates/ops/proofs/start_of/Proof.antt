@@ -1,5 +1,4 @@
-use native.Mathlib.Omega.{arith}
-use borrow.Author.Needs.{needs}
+use Rattle.mem.proofs.Prelude.{arith, needs}
 use Rattle.classes.specs.Classes.{slotBytes}
 use Rattle.classes.proofs.Laws.{units-small}
 use Rattle.ops.proofs.start_of.Statement.{statement}

@@ -1,12 +1,5 @@
 -- Each comparison is one of the two tests.
-use Prim.Native.Nat.{suc, _-_, _*_}
-use mathlib.Core.Path.{sym, ap, _∙_}
-use mathlib.Core.Bool.{Bool, _&&_}
-use native.Mathlib.Omega.{arith}
-use native.Mathlib.Numerals.{add-one}
-use lib.Dec.{leb}
-use borrow.Author.Needs.{needs}
-use borrow.Author.Tests.{le-leb, lt-leb}
+use Rattle.mem.proofs.Prelude.{_∙_, sym, ap, Bool, _&&_, _*_, _-_, suc, add-one, arith, needs, le-leb, lt-leb, leb}
 use Rattle.classes.specs.Classes.{slotBytes, classOf}
 use Rattle.ops.proofs.stays_in.Statement.{statement}
 use Rattle.ops.proofs.stays_in.Tie as tie
@@ -24,7 +17,7 @@ unfolding slotBytes
 returns c =
     let a = c .before .before .before .args in
     sym (ap (λ (v : Bool). v && leb (a .b .class) (suc (classOf (a .n))))
-    (lt-leb (a .n) (slotBytes (a .b .class) - 4 - 16 * a .b .disp) (omega (arith, c .if1 .taken, c .before .before .units .ensures .0))))
+    (lt-leb (a .n) (slotBytes (a .b .class) - 4 - 16 * a .b .alloc .disp) (omega (arith, c .if1 .taken, c .before .before .units .ensures .0))))
 
 returns-2 : tie.Need-returns-2
 unfolding slotBytes
@@ -32,9 +25,10 @@ returns-2 c =
     let a = c .before .before .before .before .before .args in
     ap (leb (a .b .class)) (add-one (c .before .class-of .result) ∙ ap suc (c .before .class-of .ensures .0))
     ∙ sym (ap (λ (v : Bool). v && leb (a .b .class) (suc (classOf (a .n))))
-    (le-leb (a .n) (slotBytes (a .b .class) - 4 - 16 * a .b .disp) (omega (arith, c .before .before .if1 .left, c .before .before .before .before .units .ensures .0))))
+    (le-leb (a .n) (slotBytes (a .b .class) - 4 - 16 * a .b .alloc .disp)
+    (omega (arith, c .before .before .if1 .left, c .before .before .before .before .units .ensures .0))))
 
 pub stays-in-spec : {M : Type 1} → statement M
 stays-in-spec =
-    tie.close
-    (tie.spec (λ c κs. search needs) (λ c. search needs) (λ c. search needs) mul-if1-2 sub-if1-2 returns (λ c κs. search needs) (λ c. search needs) returns-2)
+    tie.close (tie.spec (λ c κs. search needs) (λ c. search needs) (λ c. search needs) mul-if1-2 sub-if1-2 returns (λ c κs. search needs)
+    (λ c. search needs) returns-2)

@@ -1,73 +1,84 @@
 -- By what is reserved.
-use mathlib.Core.Path.{sym, ap, _∙_}
-use mathlib.Core.List.{[], _∷_}
-use native.Mathlib.Omega.{arith}
-use borrow.Author.Needs.{needs}
-use borrow.Author.Tests.{not-true, not-false}
-use lib.Dec.{lit≤}
+use Rattle.mem.proofs.Prelude.{_∙_, sym, ap, [], _∷_, _<_, arith, now, needs, not-false, not-true, lit≤, length}
 use Rattle.classes.specs.Classes.{rowBytes, tooLarge}
 use Rattle.model.specs.Answers.{done}
 use Rattle.model.specs.Plans.{grants}
-use Rattle.model.specs.Calls.{Result}
+use Rattle.model.specs.Tables.{byMasks}
 use Rattle.model.proofs.Calls.{call-unsound}
-use Rattle.ops.proofs.Calls.{grant-too-large}
-use Rattle.ops.proofs.Moves.{granted-at, granted-none}
+use Rattle.rows.specs.Rows.{Lent}
+use Rattle.rows.proofs.Rooms.{by-masks}
+use Rattle.ops.proofs.Calls.{grant-too-large, GrantedAt, granted-at, granted-none}
+use Rattle.pool.proofs.Fresh.{parts}
 use Rattle.pool.proofs.grant.Statement.{statement}
 use Rattle.pool.proofs.grant.Tie as tie
-use denote.Ref.{now}
 
 returns : tie.Need-returns
 unfolding rowBytes
 returns c =
     let a = c .before .before .before .before .before .args in
-    let e = call-unsound rowBytes (now (a .arena)) (now (a .room)) (grants (a .n)) tt (sym (c .before .sound .ensures) ∙ not-true (c .before .sound .result) (c .if1 .taken)) in
-    (sym (ap (λ (r : Result). r .answer) e), (sym (ap (λ (r : Result). r .arena) e), sym (ap (λ (r : Result). r .room) e)))
+    let w = c .before .sound in
+    parts (sym (call-unsound rowBytes (now (a .arena)) (now (a .room)) (grants (a .n)) tt (sym (w .ensures) ∙ not-true (w .result) (c .if1 .taken))))
+
+-- the tables are sound
+lent : (c : tie.Else1) → (let a = c .before .before .before .before .before .args in Lent byMasks rowBytes (length (now (a .arena))) (now (a .room)))
+unfolding rowBytes
+lent c = by-masks (sym (c .before .sound .ensures) ∙ not-false (c .before .sound .result) (c .if1 .left)) (lit≤ tt, lit≤ tt)
 
 returns-2 : tie.Need-returns-2
 unfolding rowBytes tooLarge
 returns-2 c =
     let a = c .before .before .before .before .before .before .args in
-    let e = grant-too-large rowBytes (now (a .arena)) (now (a .room)) (sym (c .before .before .sound .ensures) ∙ not-false (c .before .before .sound .result) (c .before .if1 .left)) (a .n) (c .if2 .taken) in
-    (sym (ap (λ (r : Result). r .answer) e), (sym (ap (λ (r : Result). r .arena) e), sym (ap (λ (r : Result). r .room) e)))
+    parts (sym (grant-too-large (now (a .arena)) (lent (c .before)) (a .n) (c .if2 .taken)))
+
+small : (c : tie.Else2) → c .before .before .before .before .before .before .args .n < tooLarge
+unfolding tooLarge
+small c = c .if2 .left
 
 reserve-slot-requires : tie.Need-reserve-slot-requires
 unfolding rowBytes tooLarge
-reserve-slot-requires c κs = ((sym (c .before .before .before .sound .ensures) ∙ not-false (c .before .before .before .sound .result) (c .before .before .if1 .left)), (c .before .if2 .left, (lit≤ tt, lit≤ tt)))
+reserve-slot-requires c κs = (lent (c .before .before) .sound, (small (c .before), (lit≤ tt, lit≤ tt)))
 
 returns-3 : tie.Need-returns-3
 unfolding rowBytes tooLarge
 returns-3 c =
-    let a = c .before .before .before .before .before .before .before .before .before .before .before .before .args in
-    let e = granted-none rowBytes (lit≤ tt) (now (a .arena)) (now (a .room)) (a .n) (sym (c .before .before .before .before .before .before .before .before .sound .ensures) ∙ not-false (c .before .before .before .before .before .before .before .before .sound .result) (c .before .before .before .before .before .before .before .if1 .left)) (c .before .before .before .before .before .before .if2 .left) (sym (c .before .before .before .before .reserve-slot .ensures .0) ∙ c .enum-told .given .1) in
-    (sym (ap (λ (r : Result). r .answer) (e .0)), (sym (ap (λ (r : Result). r .arena) (e .0)), c .before .before .before .before .reserve-slot .ensures .1 ∙ e .1 ∙ sym (ap (λ (r : Result). r .room) (e .0))))
+    let r = c .before .before .before .before in
+    let z = r .before .before in
+    let a = z .before .before .before .before .before .before .args in
+    let e = granted-none (now (a .arena)) (lent (z .before)) (a .n) (small z) (sym (r .reserve-slot .ensures .0) ∙ c .enum-told .given .1) in
+    let p = parts (sym (e .0)) in
+    (p .0, (p .1 .0, r .reserve-slot .ensures .1 ∙ e .1 ∙ p .1 .1))
+
+-- the block that is granted
+block : (c : tie.After-known-told) → (let z = c .before .before .before .before .before .before .before in
+    let a = z .before .before .before .before .before .before .args in
+    GrantedAt (now (a .arena)) (lent (z .before)) (a .n) (small z) (c .before .b .given .0 .0))
+unfolding rowBytes tooLarge
+block c =
+    let r = c .before .before .before .before .before in
+    let z = r .before .before in
+    let a = z .before .before .before .before .before .before .args in
+    granted-at (now (a .arena)) (lent (z .before)) (a .n) (small z) (c .before .b .given .0 .0) (sym (r .reserve-slot .ensures .0) ∙ c .before .b .given .1)
 
 lay-out-requires : tie.Need-lay-out-requires
 unfolding rowBytes tooLarge
-lay-out-requires c κs =
-    let a = c .before .before .before .before .before .before .before .before .before .before .before .before .before .before .args in
-    (granted-at rowBytes (lit≤ tt) (now (a .arena)) (now (a .room)) (a .n) (sym (c .before .before .before .before .before .before .before .before .before .before .sound .ensures) ∙ not-false (c .before .before .before .before .before .before .before .before .before .before .sound .result) (c .before .before .before .before .before .before .before .before .before .if1 .left)) (c .before .before .before .before .before .before .before .before .if2 .left) (c .before .before .b .given .0 .0) (sym (c .before .before .before .before .before .before .reserve-slot .ensures .0) ∙ c .before .before .b .given .1) .stands, (lit≤ tt, lit≤ tt))
+lay-out-requires c κs = (block (c .before) .stands, (lit≤ tt, lit≤ tt))
 
 start-of-requires : tie.Need-start-of-requires
 unfolding rowBytes tooLarge
 start-of-requires c κs =
-    let a = c .before .before .before .before .before .before .before .before .before .before .before .before .before .before .before .before .before .args in
-    let s = granted-at rowBytes (lit≤ tt) (now (a .arena)) (now (a .room)) (a .n) (sym (c .before .before .before .before .before .before .before .before .before .before .before .before .before .sound .ensures) ∙ not-false (c .before .before .before .before .before .before .before .before .before .before .before .before .before .sound .result) (c .before .before .before .before .before .before .before .before .before .before .before .before .if1 .left)) (c .before .before .before .before .before .before .before .before .before .before .before .if2 .left) (c .before .before .before .before .before .b .given .0 .0) (sym (c .before .before .before .before .before .before .before .before .before .reserve-slot .ensures .0) ∙ c .before .before .before .before .before .b .given .1) .stands in
-    ((s .class, s .slot, omega (arith, s .few)), (omega (arith, s .bytes), (lit≤ tt, lit≤ tt)))
+    let h = block (c .before .before .before .before) .stands in
+    ((h .class, h .slot, omega (arith, h .few)), (omega (arith, h .bytes), (lit≤ tt, lit≤ tt)))
 
 returns-4 : tie.Need-returns-4
 unfolding rowBytes tooLarge
 returns-4 c =
-    let a = c .before .before .before .before .before .before .before .before .before .before .before .before .before .before .before .before .before .before .args in
-    let e = granted-at rowBytes (lit≤ tt) (now (a .arena)) (now (a .room)) (a .n) (sym (c .before .before .before .before .before .before .before .before .before .before .before .before .before .before .sound .ensures) ∙ not-false (c .before .before .before .before .before .before .before .before .before .before .before .before .before .before .sound .result) (c .before .before .before .before .before .before .before .before .before .before .before .before .before .if1 .left)) (c .before .before .before .before .before .before .before .before .before .before .before .before .if2 .left) (c .before .before .before .before .before .before .b .given .0 .0) (sym (c .before .before .before .before .before .before .before .before .before .before .reserve-slot .ensures .0) ∙ c .before .before .before .before .before .before .b .given .1) .result in (
-      ap (λ k. done (k ∷ [])) (c .start-of .ensures) ∙ sym (ap (λ (r : Result). r .answer) e),
-      (
-        c .before .before .before .lay-out .ensures ∙ sym (ap (λ (r : Result). r .arena) e),
-        c .before .before .before .before .before .before .before .before .before .before .reserve-slot .ensures .1 ∙ sym (ap (λ (r : Result). r .room) e),
-      ),
+    let k = c .before .before .before .before .before in
+    let p = parts (sym (block k .result)) in (
+      ap (λ k. done (k ∷ [])) (c .start-of .ensures) ∙ p .0,
+      (c .before .before .before .lay-out .ensures ∙ p .1 .0, k .before .before .before .before .before .reserve-slot .ensures .1 ∙ p .1 .1),
     )
 
 pub grant-spec : {M : Type 1} → statement M
 grant-spec =
-    tie.close
-    (tie.spec (λ c κs. search needs) (λ c. search needs) returns (λ c. search needs) returns-2 reserve-slot-requires (λ c. search needs) (λ c. search needs) (λ c. search needs)
-    returns-3 lay-out-requires start-of-requires (λ c. search needs) (λ c. search needs) returns-4)
+    tie.close (tie.spec (λ c κs. search needs) (λ c. search needs) returns (λ c. search needs) returns-2 reserve-slot-requires (λ c. search needs)
+    (λ c. search needs) (λ c. search needs) returns-3 lay-out-requires start-of-requires (λ c. search needs) (λ c. search needs) returns-4)

@@ -1,69 +1,50 @@
 -- By what is located.
-use mathlib.Core.Path.{sym, ap, _∙_}
-use borrow.Author.Needs.{needs}
-use borrow.Author.Tests.{not-true, not-false}
-use lib.Dec.{lit≤}
+use Rattle.mem.proofs.Prelude.{_∙_, sym, ap, refl, [], _∷_, now, needs, not-false, not-true, lit≤, length}
 use Rattle.classes.specs.Classes.{rowBytes}
-use Rattle.model.specs.Plans.{measures}
-use Rattle.model.specs.Calls.{Result}
+use Rattle.model.specs.Answers.{done}
+use Rattle.model.specs.Plans.{measures, measureAt}
+use Rattle.model.specs.Tables.{byMasks, view}
 use Rattle.model.proofs.Calls.{call-unsound}
-use Rattle.model.specs.Answers.{Answer}
-use Rattle.ops.specs.declared.Located.the-variants.{Intact, NoSuchBlock, AlreadyFree, HeaderDamaged, Overrun}
-use Rattle.ops.proofs.Calls.{measured-as}
+use Rattle.rows.specs.Rows.{Lent}
+use Rattle.rows.proofs.Rooms.{by-masks}
+use Rattle.ops.proofs.Calls.{called-at, called-refused, measuring}
+use Rattle.pool.proofs.Fresh.{parts}
 use Rattle.pool.proofs.measure.Statement.{statement}
 use Rattle.pool.proofs.measure.Tie as tie
-use denote.Ref.{now}
 
 returns : tie.Need-returns
 unfolding rowBytes
 returns c =
     let a = c .before .before .before .before .args in
-    sym (ap (λ (r : Result). r .answer) (call-unsound rowBytes (now (a .arena)) (now (a .room)) (measures (a .offset)) tt (sym (c .before .sound .ensures) ∙ not-true (c .before .sound .result) (c .if1 .taken))))
+    let w = c .before .sound in
+    parts (sym (call-unsound rowBytes (now (a .arena)) (now (a .room)) (measures (a .offset)) tt (sym (w .ensures) ∙ not-true (w .result) (c .if1 .taken)))) .0
+
+-- the tables are sound
+lent : (c : tie.Else1) → (let a = c .before .before .before .before .args in Lent byMasks rowBytes (length (now (a .arena))) (now (a .room)))
+unfolding rowBytes
+lent c = by-masks (sym (c .before .sound .ensures) ∙ not-false (c .before .sound .result) (c .if1 .left)) (lit≤ tt, lit≤ tt)
 
 locate-requires : tie.Need-locate-requires
 unfolding rowBytes
-locate-requires c κs = (sym (c .before .sound .ensures) ∙ not-false (c .before .sound .result) (c .if1 .left), (lit≤ tt, lit≤ tt))
-
-abbrev answered : Result → Answer
-answered r = r .answer
+locate-requires c κs = (lent c .sound, (lit≤ tt, lit≤ tt))
 
 returns-2 : tie.Need-returns-2
 unfolding rowBytes
 returns-2 c =
-    let a = c .before .before .before .before .before .before .before .before .args in
-    let s = sym (c .before .before .before .before .before .sound .ensures) ∙ not-false (c .before .before .before .before .before .sound .result) (c .before .before .before .before .if1 .left) in
-    ap answered (measured-as rowBytes (lit≤ tt) (now (a .arena)) (now (a .room)) s (a .offset) (Intact (c .before .b .given .0 .0)) (sym (c .before .b .given .1) ∙ c .before .before .before .locate .ensures))
+    let z = c .before .before .before .before in
+    let a = z .before .before .before .before .args in
+    let b = called-at (now (a .arena)) (lent z) (a .offset) (measureAt rowBytes (view rowBytes (now (a .room)))) (λ p. refl) (c .before .b .given .0 .0)
+    (sym (c .before .b .given .1) ∙ c .before .before .before .locate .ensures) in
+    ap (λ b. done (b .alloc .size ∷ [])) (b .holds .block) ∙ parts (sym (measuring (now (a .arena)) (lent z) (a .offset) ∙ b .result)) .0
 
 returns-3 : tie.Need-returns-3
 unfolding rowBytes
 returns-3 c =
-    let a = c .before .before .before .before .before .before .before .args in
-    let s = sym (c .before .before .before .before .sound .ensures) ∙ not-false (c .before .before .before .before .sound .result) (c .before .before .before .if1 .left) in
-    ap answered (measured-as rowBytes (lit≤ tt) (now (a .arena)) (now (a .room)) s (a .offset) NoSuchBlock (sym (c .enum-told .given .1) ∙ c .before .before .locate .ensures))
-
-returns-4 : tie.Need-returns-4
-unfolding rowBytes
-returns-4 c =
-    let a = c .before .before .before .before .before .before .before .args in
-    let s = sym (c .before .before .before .before .sound .ensures) ∙ not-false (c .before .before .before .before .sound .result) (c .before .before .before .if1 .left) in
-    ap answered (measured-as rowBytes (lit≤ tt) (now (a .arena)) (now (a .room)) s (a .offset) AlreadyFree (sym (c .enum-told2 .given .1) ∙ c .before .before .locate .ensures))
-
-returns-5 : tie.Need-returns-5
-unfolding rowBytes
-returns-5 c =
-    let a = c .before .before .before .before .before .before .before .args in
-    let s = sym (c .before .before .before .before .sound .ensures) ∙ not-false (c .before .before .before .before .sound .result) (c .before .before .before .if1 .left) in
-    ap answered (measured-as rowBytes (lit≤ tt) (now (a .arena)) (now (a .room)) s (a .offset) HeaderDamaged (sym (c .enum-told3 .given .1) ∙ c .before .before .locate .ensures))
-
-returns-6 : tie.Need-returns-6
-unfolding rowBytes
-returns-6 c =
-    let a = c .before .before .before .before .before .before .before .args in
-    let s = sym (c .before .before .before .before .sound .ensures) ∙ not-false (c .before .before .before .before .sound .result) (c .before .before .before .if1 .left) in
-    ap answered (measured-as rowBytes (lit≤ tt) (now (a .arena)) (now (a .room)) s (a .offset) Overrun (sym (c .enum-told4 .given .1) ∙ c .before .before .locate .ensures))
+    let z = c .before .before .before .before in
+    let a = z .before .before .before .before .args in
+    parts (sym (measuring (now (a .arena)) (lent z) (a .offset)
+    ∙ called-refused (now (a .arena)) (lent z) (a .offset) (measureAt rowBytes (view rowBytes (now (a .room)))) (λ p. refl) (c .before .r .given .0 .0)
+    (sym (c .before .r .given .1) ∙ c .before .before .before .locate .ensures))) .0
 
 pub measure-spec : {M : Type 1} → statement M
-measure-spec =
-    tie.close
-    (tie.spec (λ c κs. search needs) returns locate-requires (λ c. search needs) (λ c. search needs) (λ c. search needs) (λ c. search needs) (λ c. search needs)
-    returns-2 returns-3 returns-4 returns-5 returns-6)
+measure-spec = tie.close (tie.spec (λ c κs. search needs) returns locate-requires (λ c. search needs) (λ c. search needs) returns-2 returns-3)

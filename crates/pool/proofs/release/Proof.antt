@@ -1,93 +1,69 @@
 -- By what is located.
-use mathlib.Core.Path.{sym, ap, _∙_}
-use borrow.Author.Needs.{needs}
-use borrow.Author.Tests.{not-true, not-false}
-use lib.Dec.{lit≤}
+use Rattle.mem.proofs.Prelude.{_∙_, sym, now, needs, not-false, not-true, lit≤, length}
 use Rattle.classes.specs.Classes.{rowBytes}
-use Rattle.model.specs.Plans.{releases}
-use Rattle.model.specs.Calls.{Result}
+use Rattle.model.specs.Plans.{releases, releaseAt}
+use Rattle.model.specs.Tables.{byMasks}
 use Rattle.model.proofs.Calls.{call-unsound}
-use Rattle.ops.specs.declared.Located.the-variants.{Intact, NoSuchBlock, AlreadyFree, HeaderDamaged, Overrun}
-use Rattle.ops.proofs.Places.{located-lives}
-use Rattle.ops.proofs.Calls.{released-as}
+use Rattle.rows.specs.Rows.{Lent}
+use Rattle.rows.proofs.Rooms.{by-masks}
+use Rattle.ops.proofs.Calls.{Called, called-at, called-refused, releasing, release-names, release-done}
+use Rattle.pool.proofs.Fresh.{parts}
 use Rattle.pool.proofs.release.Statement.{statement}
 use Rattle.pool.proofs.release.Tie as tie
-use denote.Ref.{now}
 
 returns : tie.Need-returns
 unfolding rowBytes
 returns c =
     let a = c .before .before .before .before .before .args in
     let w = c .before .sound in
-    let e = sym (call-unsound rowBytes (now (a .arena)) (now (a .room)) (releases (a .offset)) tt (sym (w .ensures) ∙ not-true (w .result) (c .if1 .taken))) in
-    (ap (λ (r : Result). r .answer) e, (ap (λ (r : Result). r .arena) e, ap (λ (r : Result). r .room) e))
+    parts (sym (call-unsound rowBytes (now (a .arena)) (now (a .room)) (releases (a .offset)) tt (sym (w .ensures) ∙ not-true (w .result) (c .if1 .taken))))
+
+-- the tables are sound
+lent : (c : tie.Else1) → (let a = c .before .before .before .before .before .args in Lent byMasks rowBytes (length (now (a .arena))) (now (a .room)))
+unfolding rowBytes
+lent c = by-masks (sym (c .before .sound .ensures) ∙ not-false (c .before .sound .result) (c .if1 .left)) (lit≤ tt, lit≤ tt)
 
 locate-requires : tie.Need-locate-requires
 unfolding rowBytes
-locate-requires c κs = (sym (c .before .before .before .sound .ensures) ∙ not-false (c .before .before .before .sound .result) (c .before .before .if1 .left), (lit≤ tt, lit≤ tt))
+locate-requires c κs = (lent (c .before .before) .sound, (lit≤ tt, lit≤ tt))
+
+-- the block that is located
+block : (c : tie.After-known-told) → (let z = c .before .before .before .before .before .before in
+    let a = z .before .before .before .before .before .args in
+    Called (now (a .arena)) (lent z) (a .offset) (releaseAt rowBytes) (release-names rowBytes) (c .before .b .given .0 .0))
+unfolding rowBytes
+block c =
+    let z = c .before .before .before .before .before .before in
+    let a = z .before .before .before .before .before .args in
+    called-at (now (a .arena)) (lent z) (a .offset) (releaseAt rowBytes) (release-names rowBytes) (c .before .b .given .0 .0)
+    (sym (c .before .b .given .1) ∙ c .before .before .before .locate .ensures)
 
 discard-requires : tie.Need-discard-requires
 unfolding rowBytes
 discard-requires c κs =
-    let a = c .before .before .before .before .before .before .before .before .before .before .before .before .before .args in
-    let w = c .before .before .before .before .before .before .before .before .before .sound in
-    let b = c .before .before .before .b .given in (
-      sym (w .ensures) ∙ not-false (w .result) (c .before .before .before .before .before .before .before .before .if1 .left),
-      (located-lives rowBytes (lit≤ tt) (now (a .arena)) (now (a .room)) (a .offset) (b .0 .0) (sym (c .before .before .before .before .before .locate .ensures) ∙ b .1), (lit≤ tt, lit≤ tt)),
-    )
+    let k = c .before .before in
+    (lent (k .before .before .before .before .before .before) .sound, ((block k .place, block k .holds), (lit≤ tt, lit≤ tt)))
 
 returns-2 : tie.Need-returns-2
 unfolding rowBytes
 returns-2 c =
-    let a = c .before .before .before .before .before .before .before .before .before .before .before .before .before .before .before .before .before .before .args in
-    let w = c .before .before .before .before .before .before .before .before .before .before .before .before .before .before .sound in
-    let s = sym (w .ensures) ∙ not-false (w .result) (c .before .before .before .before .before .before .before .before .before .before .before .before .before .if1 .left) in
-    let b = c .before .before .before .before .before .before .before .before .b .given in
-    let l = c .before .before .before .before .before .before .before .before .before .before .locate .ensures in
-    let e = released-as rowBytes (lit≤ tt) (now (a .arena)) (now (a .room)) s (a .offset) (Intact (b .0 .0)) (sym (b .1) ∙ l) in
-    let d = c .before .before .before .before .discard .ensures in
-    (ap (λ (r : Result). r .answer) e, (d .0 ∙ ap (λ (r : Result). r .arena) e, d .1 ∙ ap (λ (r : Result). r .room) e))
+    let k = c .before .before .before .before .before .before .before in
+    let z = k .before .before .before .before .before .before in
+    let a = z .before .before .before .before .before .args in
+    let p = parts (sym (releasing (now (a .arena)) (lent z) (a .offset) ∙ block k .result)) in
+    let d = c .before .before .before .before .discard .ensures (block k .place) (block k .holds) in
+    (sym (release-done rowBytes (block k .place)) ∙ p .0, (d .0 ∙ p .1 .0, d .1 ∙ p .1 .1))
 
 returns-3 : tie.Need-returns-3
 unfolding rowBytes
 returns-3 c =
-    let a = c .before .before .before .before .before .before .before .before .before .before .args in
-    let w = c .before .before .before .before .before .before .sound in
-    let s = sym (w .ensures) ∙ not-false (w .result) (c .before .before .before .before .before .if1 .left) in
-    let e = released-as rowBytes (lit≤ tt) (now (a .arena)) (now (a .room)) s (a .offset) NoSuchBlock (sym (c .enum-told .given .1) ∙ c .before .before .locate .ensures) in
-    (ap (λ (r : Result). r .answer) e, (ap (λ (r : Result). r .arena) e, ap (λ (r : Result). r .room) e))
-
-returns-4 : tie.Need-returns-4
-unfolding rowBytes
-returns-4 c =
-    let a = c .before .before .before .before .before .before .before .before .before .before .args in
-    let w = c .before .before .before .before .before .before .sound in
-    let s = sym (w .ensures) ∙ not-false (w .result) (c .before .before .before .before .before .if1 .left) in
-    let e = released-as rowBytes (lit≤ tt) (now (a .arena)) (now (a .room)) s (a .offset) AlreadyFree (sym (c .enum-told2 .given .1) ∙ c .before .before .locate .ensures) in
-    (ap (λ (r : Result). r .answer) e, (ap (λ (r : Result). r .arena) e, ap (λ (r : Result). r .room) e))
-
-returns-5 : tie.Need-returns-5
-unfolding rowBytes
-returns-5 c =
-    let a = c .before .before .before .before .before .before .before .before .before .before .args in
-    let w = c .before .before .before .before .before .before .sound in
-    let s = sym (w .ensures) ∙ not-false (w .result) (c .before .before .before .before .before .if1 .left) in
-    let e = released-as rowBytes (lit≤ tt) (now (a .arena)) (now (a .room)) s (a .offset) HeaderDamaged (sym (c .enum-told3 .given .1) ∙ c .before .before .locate .ensures) in
-    (ap (λ (r : Result). r .answer) e, (ap (λ (r : Result). r .arena) e, ap (λ (r : Result). r .room) e))
-
-returns-6 : tie.Need-returns-6
-unfolding rowBytes
-returns-6 c =
-    let a = c .before .before .before .before .before .before .before .before .before .before .args in
-    let w = c .before .before .before .before .before .before .sound in
-    let s = sym (w .ensures) ∙ not-false (w .result) (c .before .before .before .before .before .if1 .left) in
-    let e = released-as rowBytes (lit≤ tt) (now (a .arena)) (now (a .room)) s (a .offset) Overrun (sym (c .enum-told4 .given .1) ∙ c .before .before .locate .ensures) in
-    (ap (λ (r : Result). r .answer) e, (ap (λ (r : Result). r .arena) e, ap (λ (r : Result). r .room) e))
+    let z = c .before .before .before .before .before .before in
+    let a = z .before .before .before .before .before .args in
+    parts (sym (releasing (now (a .arena)) (lent z) (a .offset)
+    ∙ called-refused (now (a .arena)) (lent z) (a .offset) (releaseAt rowBytes) (release-names rowBytes) (c .before .r .given .0 .0)
+    (sym (c .before .r .given .1) ∙ c .before .before .before .locate .ensures)))
 
 pub release-spec : {M : Type 1} → statement M
 release-spec =
-    tie.close
-    (tie.spec (λ c κs. search needs) (λ c. search needs) returns locate-requires (λ c. search needs) discard-requires (λ c. search needs)
-    (λ c. search needs) (λ c. search needs) (λ c. search needs) (λ c. search needs) (λ c. search needs) returns-2 (λ c. search needs)
-    (λ c. search needs) returns-3 (λ c. search needs) (λ c. search needs) returns-4 (λ c. search needs) (λ c. search needs) returns-5
-    (λ c. search needs) (λ c. search needs) returns-6)
+    tie.close (tie.spec (λ c κs. search needs) (λ c. search needs) returns locate-requires (λ c. search needs) discard-requires (λ c. search needs)
+    (λ c. search needs) (λ c. search needs) returns-2 (λ c. search needs) (λ c. search needs) returns-3)

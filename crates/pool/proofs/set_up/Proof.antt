@@ -1,35 +1,28 @@
 -- Refused by the room's size, or done: zeros, and tables with no groups.
-use Prim.Native.Nat.{_*_, _≤_}
-use mathlib.Core.Path.{sym, ap, _∙_}
-use native.Mathlib.Omega.{arith}
-use borrow.Author.Needs.{needs}
-use lib.Dec.{leb→le}
-use lib.ListN.{length}
+use Rattle.mem.proofs.Prelude.{_∙_, sym, _≤_, _*_, arith, now, needs, leb→le, length}
 use Rattle.mem.proofs.Tests.{and-left, and-right}
 use Rattle.classes.specs.Classes.{rowBytes}
-use Rattle.model.specs.Tables.{arenaRight}
-use Rattle.model.specs.Calls.{Result}
-use Rattle.pool.proofs.Fresh.{Fitting, fitting, set-up-refused, set-up-made, formatted}
+use Rattle.model.specs.Tables.{arenaRight, roomBytes}
+use Rattle.pool.proofs.Fresh.{parts, Fitting, fitting, set-up-refused, set-up-made, formatted}
 use Rattle.pool.proofs.set_up.Statement.{statement}
 use Rattle.pool.proofs.set_up.Tie as tie
-use denote.Ref.{now}
 
 returns : tie.Need-returns
 returns c =
     let a = c .before .before .before .before .args in
     let r = c .before .room-len in
     let e = sym (set-up-refused rowBytes (now (a .arena)) (now (a .room)) (λ h. sym (r .ensures) ∙ c .if1 .taken)) in
-    (ap (λ (r : Result). r .answer) e, (ap (λ (r : Result). r .arena) e, ap (λ (r : Result). r .room) e))
+    parts e
 
 returns-2 : tie.Need-returns-2
 returns-2 c =
     let a = c .before .before .before .before .before .args in
     let r = c .before .before .room-len in
     let e = sym (set-up-refused rowBytes (now (a .arena)) (now (a .room)) (λ h. absurd (c .if2 .taken (h ∙ sym (r .ensures))))) in
-    (ap (λ (r : Result). r .answer) e, (ap (λ (r : Result). r .arena) e, ap (λ (r : Result). r .room) e))
+    parts e
 
 format-requires : tie.Need-format-requires
-unfolding rowBytes arenaRight
+unfolding rowBytes arenaRight roomBytes
 format-requires c κs =
     let a = c .before .before .before .before .before .before .before .before .before .before .args in
     let r = c .before .before .before .before .before .before .before .room-len in
@@ -39,7 +32,7 @@ format-requires c κs =
     (λ z. c .before .before .before .before .before .before .if1 .left (r .ensures ∙ z)) in
     let t = f .lawful in
     let l : m ≤ 512 * 512 = leb→le m (512 * 512) (search (and-left, and-right)) in
-    (f .long, omega arith)
+    (omega (arith, f .long), omega arith)
 
 returns-3 : tie.Need-returns-3
 returns-3 c =
@@ -48,15 +41,14 @@ returns-3 c =
     let f =
     fitting rowBytes (now (a .arena)) (now (a .room)) (c .before .before .before .before .before .before .before .before .if2 .left ∙ r .ensures)
     (λ z. c .before .before .before .before .before .before .before .before .before .if1 .left (r .ensures ∙ z)) in
-    let e = sym (set-up-made rowBytes (now (a .arena)) (now (a .room)) f) in (
-      ap (λ (r : Result). r .answer) e,
+    let e = parts (sym (set-up-made rowBytes (now (a .arena)) (now (a .room)) f)) in (
+      e .0,
       (
-        c .before .before .before .before .before .before .fill-zero .ensures ∙ ap (λ (r : Result). r .arena) e,
-        c .before .before .format .ensures ∙ formatted rowBytes (now (a .arena)) (now (a .room)) f ∙ ap (λ (r : Result). r .room) e,
+        c .before .before .before .before .before .before .fill-zero .ensures ∙ e .1 .0,
+        c .before .before .format .ensures ∙ formatted rowBytes (now (a .arena)) (now (a .room)) f ∙ e .1 .1,
       ),
     )
 
 pub set-up-spec : {M : Type 1} → statement M
 set-up-spec =
-    tie.close
-    (tie.spec (λ c κs. search needs) returns returns-2 (λ c κs. search needs) format-requires (λ c. search needs) (λ c. search needs) returns-3)
+    tie.close (tie.spec (λ c κs. search needs) returns returns-2 (λ c κs. search needs) format-requires (λ c. search needs) (λ c. search needs) returns-3)

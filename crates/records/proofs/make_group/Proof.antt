@@ -1,13 +1,6 @@
 -- `make_group` meets its contract.
-use mathlib.Core.Path.{_≡_, refl, sym, ap, _∙_}
-use mathlib.Core.List.{List, _∷_, _++_, map}
-use Prim.Native.Nat.{ℕ, zero, suc, _+_, _*_, _-_, _^_, _≤_}
-use native.Mathlib.Nat.{pow-suc}
-use native.Mathlib.Omega.{arith}
-use borrow.Author.Needs.{needs}
-use denote.Ref.{now}
-use lib.Dec.{lit≤}
-use lib.ListN.{length, replicate, length-replicate}
+use Rattle.mem.proofs.Prelude.{_∙_, _≡_, sym, ap, refl, List, [], _++_, map, _+_, ℕ, _≤_, _*_, _-_, suc, zero, _^_, pow-suc, arith, now, needs, lit≤}
+use Rattle.mem.proofs.Prelude.{length, replicate, length-replicate}
 use lib.Pow.{pow-pos}
 use Rattle.mem.specs.Lists.{join}
 use Rattle.mem.specs.Bytes.{zeros, low, mask, put}
@@ -17,9 +10,8 @@ use Rattle.classes.proofs.Laws.{slots-small, rows-pos}
 use Rattle.model.specs.declared.Slot.{Slot}
 use Rattle.model.specs.declared.Holder.{Holder}
 use Rattle.model.specs.State.{group, isReady, isWaiting}
-use Rattle.model.specs.Tables.{slotRecord, rowRecord, laterRecords, spanRecords}
+use Rattle.model.specs.Tables.{rowAt, slotRecord, rowRecord, laterRecords, spanRecords, spanRecordsBy}
 use Rattle.model.proofs.Tables.{row-length}
-use Rattle.records.specs.Records.{rowAt}
 use Rattle.records.proofs.make_group.Statement.{statement}
 use Rattle.records.proofs.make_group.Tie as tie
 
@@ -41,7 +33,7 @@ fresh-records (suc n) =
 
 -- the record of their first row
 first : (c n : ℕ) → n ≤ 31
-    → put 8 (low 4 (2 ^ n - 1) ++ low 4 0) (1 ∷ c ∷ zeros 262) ≡ rowRecord (Holder.First c) (replicate n Slot.Fresh)
+    → put 8 (low 4 (2 ^ n - 1) ++ low 4 0) (rowRecord (Holder.First c) []) ≡ rowRecord (Holder.First c) (replicate n Slot.Fresh)
 unfolding rowRecord zeros
 first c n h =
     let l : length (replicate n Slot.Fresh) ≡ n = length-replicate n Slot.Fresh in
@@ -51,11 +43,11 @@ first c n h =
     sym (rw (fresh-ready n, fresh-waiting n, z))
 
 -- the three writes together
-made : (row i c n b p k : ℕ) (v s s₁ s₂ s₃ : List ℕ) → s₁ ≡ put (rowAt i) (1 ∷ c ∷ zeros 262) s → n ≡ slotsOf c → b ≡ 2 ^ n
+made : (row i c n b p k : ℕ) (v s s₁ s₂ s₃ : List ℕ) → s₁ ≡ put (rowAt i) (rowRecord (Holder.First c) []) s → n ≡ slotsOf c → b ≡ 2 ^ n
     → v ≡ low 4 (b - 1) ++ low 4 0 → p ≡ rowAt i → s₂ ≡ put (p + 8) v s₁ → k ≡ rowsOf row c
     → s₃ ≡ put (rowAt (i + 1)) (laterRecords (k - 1) 1) s₂
     → s₃ ≡ put (rowAt i) (spanRecords row (group c (replicate (slotsOf c) Slot.Fresh))) s
-unfolding spanRecords zeros
+unfolding spanRecordsBy zeros rowRecord
 made row i c n b p k v s s₁ s₂ s₃ e₁ en eb ev ep e₂ ek e₃ =
     let ss : List Slot = replicate (slotsOf c) Slot.Fresh in
     let l : length ss ≡ slotsOf c = length-replicate (slotsOf c) Slot.Fresh in
@@ -63,14 +55,15 @@ made row i c n b p k v s s₁ s₂ s₃ e₁ en eb ev ep e₂ ek e₃ =
     omega (arith, row-length (Holder.First c) ss (omega (arith, slots-small c))) in
     let h : s₂ ≡ put (rowAt i) (rowRecord (Holder.First c) ss) s =
     rw (e₂, e₁, ev, eb, en, ep)
-    (put-put (rowAt i) 8 (low 4 (2 ^ slotsOf c - 1) ++ low 4 0) (1 ∷ c ∷ zeros 262) s (lit≤ tt)
+    (put-put (rowAt i) 8 (low 4 (2 ^ slotsOf c - 1) ++ low 4 0) (rowRecord (Holder.First c) []) s (lit≤ tt)
     ∙ ap (λ r. put (rowAt i) r s) (first c (slotsOf c) (slots-small c))) in
     rw (e₃, h, ek, f) (sym (put-append (rowAt i) (rowRecord (Holder.First c) ss) (laterRecords (rowsOf row c - 1) 1) s))
 
 write-row-requires : tie.Need-write-row-requires
-write-row-requires c κs = let a = c .before .before .args in (omega (arith, rows-pos (a .row) (a .c) (omega arith)), omega (arith, rows-pos (a .row) (a .c) (omega arith)))
+write-row-requires c κs =
+    let a = c .before .before .args in (omega (arith, rows-pos (a .row) (a .c) (omega arith)), omega (arith, rows-pos (a .row) (a .c) (omega arith)))
 
-sub-ready : tie.Need-sub-t14
+sub-ready : tie.Need-sub-t15
 sub-ready c = omega (arith, c .bit-of .ensures, pow-pos (c .before .slots .result))
 
 copy-in-requires : tie.Need-copy-in-requires
@@ -95,20 +88,6 @@ returns c =
 
 pub make-group-spec : {M : Type 1} → statement M
 make-group-spec =
-    tie.close
-    (tie.spec
-    (λ c. search needs)
-    write-row-requires
-    (λ c κs. search needs)
-    (λ c. search needs)
-    (λ c κs. search needs)
-    sub-ready
-    (λ c κs. search needs)
-    (λ c κs. search needs)
-    (λ c. search needs)
-    (λ c. search needs)
-    copy-in-requires
-    (λ c κs. search needs)
-    (λ c κs. search needs)
-    (λ c. search needs)
-    returns)
+    tie.close (tie.spec (λ c. search needs) write-row-requires (λ c κs. search needs) (λ c. search needs) (λ c κs. search needs) sub-ready
+    (λ c κs. search needs) (λ c κs. search needs) (λ c. search needs) (λ c. search needs) copy-in-requires (λ c κs. search needs) (λ c κs. search needs)
+    (λ c. search needs) returns)

@@ -1,14 +1,9 @@
 -- `masks_at` meets its contract.
-use mathlib.Core.Path.{_≡_}
-use mathlib.Core.List.{List}
-use Prim.Native.Nat.{ℕ, _+_}
-use borrow.Author.Needs.{needs}
-use denote.Ref.{now}
-use lib.ListN.{drop}
-use lib.Seq.{drop-drop}
+use Rattle.mem.proofs.Prelude.{_≡_, List, _+_, ℕ, now, needs, drop, drop-drop}
 use Rattle.mem.specs.Bytes.{number, part}
 use Rattle.masks.specs.declared.Masks.{Masks}
-use Rattle.records.specs.Records.{rowAt, masksIn}
+use Rattle.model.specs.Tables.{rowAt}
+use Rattle.records.specs.Records.{masksIn}
 use Rattle.records.proofs.masks_at.Statement.{statement}
 use Rattle.records.proofs.masks_at.Tie as tie
 
@@ -21,17 +16,9 @@ returns : tie.Need-returns
 returns c =
     let b = c .before .before in
     let a = b .before .before .args in
-    read (a .i) (b .row-at .result) (c .before .get4 .result) (c .get42 .result) (now (a .room)) (b .row-at .ensures) (c .before .get4 .ensures .0) (c .get42 .ensures .0)
+    read (a .i) (b .row-at .result) (c .before .quad .result) (c .quad2 .result) (now (a .room)) (b .row-at .ensures) (c .before .quad .ensures)
+    (c .quad2 .ensures)
 
 pub masks-at-spec : {M : Type 1} → statement M
 masks-at-spec =
-    tie.close
-    (tie.spec
-    (λ c κs. search needs)
-    (λ c. search needs)
-    (λ c κs. search needs)
-    (λ c. search needs)
-    (λ c. search needs)
-    (λ c κs. search needs)
-    (λ c. search needs)
-    returns)
+    tie.close (tie.spec (λ c κs. search needs) (λ c. search needs) (λ c κs. search needs) (λ c. search needs) (λ c κs. search needs) returns)

@@ -1,5 +1,5 @@
 -- `slot_record` meets its contract.
-use borrow.Author.Needs.{needs}
+use Rattle.mem.proofs.Prelude.{needs}
 use Rattle.mem.specs.Bytes.{zeros}
 use Rattle.model.specs.Tables.{slotRecord}
 use Rattle.records.proofs.slot_record.Statement.{statement}
@@ -15,22 +15,9 @@ returns-2 c = rw (c .before .x .given .1)
 
 returns-3 : tie.Need-returns-3
 unfolding slotRecord
-returns-3 c = rw (c .before .x2 .given .1)
+returns-3 c = rw (c .before .before .before .before .before .before .x2 .given .1)
 
 pub slot-record-spec : {M : Type 1} → statement M
 slot-record-spec =
-    tie.close
-    (tie.spec
-    (λ c. search needs)
-    (λ c. search needs)
-    (λ c. search needs)
-    (λ c. search needs)
-    (λ c. search needs)
-    (λ c. search needs)
-    (λ c. search needs)
-    (λ c. search needs)
-    (λ c. search needs)
-    (λ c. search needs)
-    returns
-    returns-2
-    returns-3)
+    tie.close (tie.spec (λ c. search needs) (λ c. search needs) (λ c. search needs) (λ c. search needs) (λ c. search needs) (λ c. search needs)
+    (λ c. search needs) (λ c. search needs) (λ c. search needs) (λ c. search needs) returns returns-2 returns-3)

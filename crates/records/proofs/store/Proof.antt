@@ -1,15 +1,10 @@
 -- `store` meets its contract.
-use mathlib.Core.Path.{_≡_}
-use mathlib.Core.List.{List, _++_}
-use Prim.Native.Nat.{ℕ, _+_, _*_}
-use native.Mathlib.Nat.{add-assoc}
-use borrow.Author.Needs.{needs}
-use denote.Ref.{now}
+use Rattle.mem.proofs.Prelude.{_≡_, List, _++_, _+_, ℕ, _*_, add-assoc, now, needs}
 use Rattle.mem.specs.Bytes.{low, put}
 use Rattle.masks.specs.declared.Masks.{Masks}
 use Rattle.model.specs.declared.Slot.{Slot}
-use Rattle.model.specs.Tables.{slotRecord}
-use Rattle.records.specs.Records.{rowAt, stored}
+use Rattle.model.specs.Tables.{rowAt, slotRecord}
+use Rattle.records.specs.Records.{stored}
 use Rattle.records.proofs.store.Statement.{statement}
 use Rattle.records.proofs.store.Tie as tie
 
@@ -26,23 +21,11 @@ returns c =
     let g = f .before .before .before in
     let b = g .before in
     let a = b .before .before .args in
-    written (a .i) (a .j) (b .row-at .result) (a .m) (a .x) (g .mask-bytes .result) (e .slot-record .result) (now (a .room)) (f .copy-in .last .0) (d .copy-in2 .last .0)
+    written (a .i) (a .j) (b .row-at .result) (a .m) (a .x) (g .mask-bytes .result) (e .slot-record .result) (now (a .room)) (f .copy-in .last .0)
+    (d .copy-in2 .last .0)
     (b .row-at .ensures) (g .mask-bytes .ensures) (f .copy-in .ensures) (e .slot-record .ensures) (d .copy-in2 .ensures)
 
 pub store-spec : {M : Type 1} → statement M
 store-spec =
-    tie.close
-    (tie.spec
-    (λ c κs. search needs)
-    (λ c κs. search needs)
-    (λ c. search needs)
-    (λ c. search needs)
-    (λ c κs. search needs)
-    (λ c κs. search needs)
-    (λ c. search needs)
-    (λ c. search needs)
-    (λ c. search needs)
-    (λ c. search needs)
-    (λ c κs. search needs)
-    (λ c. search needs)
-    returns)
+    tie.close (tie.spec (λ c κs. search needs) (λ c κs. search needs) (λ c. search needs) (λ c. search needs) (λ c κs. search needs) (λ c κs. search needs)
+    (λ c. search needs) (λ c. search needs) (λ c. search needs) (λ c. search needs) (λ c κs. search needs) (λ c. search needs) returns)

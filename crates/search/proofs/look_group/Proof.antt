@@ -1,16 +1,8 @@
 -- `look_group` meets its contract.
-use mathlib.Core.Path.{_≡_, sym, _∙_}
-use mathlib.Core.Bool.{Bool, true, false}
-use mathlib.Core.List.{List}
-use Prim.Native.Nat.{ℕ, _+_, _*_, _-_, _/_, _%_, _≤_, _<_}
+use Rattle.mem.proofs.Prelude.{_∙_, _≡_, sym, true, Bool, false, List, _+_, ℕ, _<_, _≤_, _*_, _-_, _/_, _%_, arith, now, needs, le-leb, lt-leb}
+use Rattle.mem.proofs.Prelude.{le-ltb, lt-ltb, T, eqb, leb, lit≤, ltb, length, drop, getD, getD-drop}
 use native.Mathlib.Nat.{lt-of-lt-of-le, pow-le-pow-right}
-use native.Mathlib.Omega.{arith}
-use borrow.Author.Needs.{needs}
-use borrow.Author.Tests.{lt-ltb, le-ltb, le-leb, lt-leb}
-use denote.Ref.{now}
-use lib.Dec.{T, eqb, ltb, leb, lit≤}
-use lib.ListN.{length, getD, drop, length-take}
-use lib.Seq.{getD-drop}
+use lib.ListN.{length-take}
 use Rattle.mem.specs.Lists.{every}
 use Rattle.mem.specs.Bytes.{number, part}
 use Rattle.mem.proofs.Laws.{bytes-by, every-part, number-small}
@@ -20,12 +12,11 @@ use Rattle.masks.specs.declared.Masks.{Masks}
 use Rattle.model.specs.declared.Slot.{Slot}
 use Rattle.model.specs.declared.Slot.the-variants.{Fresh, Idle}
 use Rattle.model.specs.State.{disp}
-use Rattle.model.specs.Tables.{viewSlot}
-use Rattle.records.specs.Records.{rowAt, has, masksIn, slotIn}
+use Rattle.model.specs.Tables.{rowAt, viewSlot}
+use Rattle.records.specs.Records.{has, masksIn, slotIn, slotsHere}
 use Rattle.search.specs.declared.Looked.{Looked}
 use Rattle.search.specs.declared.Looked.the-variants.{Absent}
-use Rattle.search.specs.Found.{slotLooked, groupLooked}
-use Rattle.search.specs.Steps.{dispSmall}
+use Rattle.search.specs.Found.{dispSmall, slotLooked, groupLooked}
 use Rattle.search.proofs.look_group.Statement.{statement}
 use Rattle.search.proofs.look_group.Tie as tie
 
@@ -53,16 +44,12 @@ small m j p t h =
 
 -- ---- the slot that the distance from the group's first byte leads to, u being its units
 
--- the slots of the group whose first row's record stands first
-abbrev slots : List ℕ → ℕ → Slot
-slots s j = slotIn (masksIn s) j s
-
 module _ (first c inside u : ℕ) (s : List ℕ) where
-  low : inside < 16 → Absent ≡ groupLooked first c inside (slots s)
+  low : inside < 16 → Absent ≡ groupLooked first c inside (slotsHere s)
   unfolding groupLooked
   low h = sym (choose-true (ltb inside 16) _ _ (lt-ltb inside 16 h))
 
-  high : u ≡ unitsOf c → 16 ≤ inside → slotsOf c ≤ (inside - 16) / (16 * u) → Absent ≡ groupLooked first c inside (slots s)
+  high : u ≡ unitsOf c → 16 ≤ inside → slotsOf c ≤ (inside - 16) / (16 * u) → Absent ≡ groupLooked first c inside (slotsHere s)
   unfolding groupLooked slotBytes
   high e h l =
       sym (choose-false (ltb inside 16) _ _ (le-ltb inside 16 h)
@@ -70,7 +57,7 @@ module _ (first c inside u : ℕ) (s : List ℕ) where
 
   slot : (m : Masks) (x : Slot) (r : Looked) → m ≡ masksIn s → x ≡ slotIn m ((inside - 16) / (16 * u)) s
       → r ≡ slotLooked first c ((inside - 16) / (16 * u)) ((inside - 16) % (16 * u)) x → u ≡ unitsOf c → 16 ≤ inside → (inside - 16) / (16 * u) < slotsOf c
-      → r ≡ groupLooked first c inside (slots s)
+      → r ≡ groupLooked first c inside (slotsHere s)
   unfolding groupLooked slotBytes
   slot m x r f g k e h l =
       sym (choose-false (ltb inside 16) _ _ (le-ltb inside 16 h)
@@ -92,7 +79,8 @@ returns-2 c =
 look-slot-requires : tie.Need-look-slot-requires
 look-slot-requires c κs =
     let a = c .before .before .before .before .before .before .before .args in
-    rw (c .slot-at .ensures) (small (c .before .masks-at .result) _ (rowAt (a .first)) (now (a .room)) (λ i. c .before .before .before .before .before .before .shared-slice-known .given i .fits))
+    rw (c .slot-at .ensures) (small (c .before .masks-at .result) _ (rowAt (a .first)) (now (a .room))
+    (λ i. c .before .before .before .before .before .before .shared-slice-known .given i .fits))
 
 returns-3 : tie.Need-returns-3
 returns-3 c =
@@ -101,23 +89,12 @@ returns-3 c =
     let m = c .before .before .masks-at in
     let x = c .before .slot-at in
     let r = c .look-slot in
-    slot (a .first) (a .c) (a .inside) (u .result) (drop (rowAt (a .first)) (now (a .room))) (m .result) (x .result) (r .result) (m .ensures) (x .ensures) (r .ensures)
+    slot (a .first) (a .c) (a .inside) (u .result) (drop (rowAt (a .first)) (now (a .room))) (m .result) (x .result) (r .result) (m .ensures) (x .ensures)
+    (r .ensures)
     (u .ensures .0) (c .before .before .before .before .before .before .if1 .left)
     (rw (← c .before .before .before .before .slots .ensures .0) (c .before .before .before .if2 .left))
 
 pub look-group-spec : {M : Type 1} → statement M
 look-group-spec =
-    tie.close
-    (tie.spec
-    returns
-    (λ c κs. search needs)
-    (λ c. search needs)
-    (λ c. search needs)
-    (λ c κs. search needs)
-    returns-2
-    (λ c κs. search needs)
-    (λ c. search needs)
-    (λ c κs. search needs)
-    (λ c. search needs)
-    look-slot-requires
-    returns-3)
+    tie.close (tie.spec returns (λ c κs. search needs) (λ c. search needs) (λ c. search needs) (λ c κs. search needs) returns-2 (λ c κs. search needs)
+    (λ c. search needs) (λ c κs. search needs) (λ c. search needs) look-slot-requires returns-3)

@@ -1,24 +1,14 @@
 -- `opens_at` meets its contract.
-use mathlib.Core.Path.{_≡_, refl, sym, ap₂, _∙_}
-use mathlib.Core.Bool.{true, false, not}
-use mathlib.Core.List.{List, [], _∷_}
-use mathlib.Core.Logic.{⊎-elim}
-use Prim.Native.Nat.{ℕ}
-use native.Mathlib.Omega.{arith}
-use borrow.Author.Needs.{needs}
-use borrow.Author.Tests.{eq-eqb, ne-eqb}
-use denote.Ref.{now}
+use Rattle.mem.proofs.Prelude.{_∙_, _≡_, sym, refl, ap₂, true, false, not, ⊎-elim, List, [], _∷_, ℕ, arith, now, needs, eq-eqb, ne-eqb, eqb, drop}
 use denote.Enum.Declared.{tagOf}
 use types.Run.{OneOf}
-use lib.Dec.{eqb}
-use lib.ListN.{drop}
 use Rattle.masks.specs.declared.Masks.{Masks}
 use Rattle.model.specs.declared.Holder.{Holder}
 use Rattle.model.specs.declared.Holder.the-variants.{Free, First, Later}
 use Rattle.model.proofs.Holder.{the-type}
-use Rattle.model.specs.Tables.{viewHolder}
-use Rattle.records.specs.Records.{rowAt, masksIn}
-use Rattle.search.specs.Steps.{holderOpens, opensIn}
+use Rattle.model.specs.Tables.{rowAt, viewHolder}
+use Rattle.records.specs.Records.{masksIn}
+use Rattle.search.specs.Found.{holderOpens, opensIn}
 use Rattle.search.proofs.opens_at.Statement.{statement}
 use Rattle.search.proofs.opens_at.Tie as tie
 
@@ -77,18 +67,10 @@ returns-4 c =
     let t = drop (rowAt (a .i)) (now (a .room)) in
     let m = c .before .before .before .masks-at in
     let x = c .before .before .before .before .before .before .before .h .given in
-    waiting (a .c) (x .0 .0) (m .result) (sym (c .before .before .before .before .before .wide .ensures .0) ∙ c .before .before .before .before .if1 .left) (c .before .if2 .left)
+    waiting (a .c) (x .0 .0) (m .result) (sym (c .before .before .before .before .before .wide .ensures .0) ∙ c .before .before .before .before .if1 .left)
+    (c .before .if2 .left)
     ∙ told (a .c) t (m .result) (First (x .0 .0)) (sym (x .1) ∙ b .holder-at .ensures) (m .ensures)
 
 pub opens-at-spec : {M : Type 1} → statement M
 opens-at-spec =
-    tie.close
-    (tie.spec
-    (λ c κs. search needs)
-    (λ c. search needs)
-    returns
-    (λ c κs. search needs)
-    returns-2
-    (λ c κs. search needs)
-    returns-3
-    returns-4)
+    tie.close (tie.spec (λ c κs. search needs) (λ c. search needs) returns (λ c κs. search needs) returns-2 (λ c κs. search needs) returns-3 returns-4)

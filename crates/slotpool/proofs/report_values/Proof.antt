@@ -1,5 +1,4 @@
-use mathlib.Core.Path.{ap, sym}
-use borrow.Author.Needs.{needs}
+use Rattle.mem.proofs.Prelude.{sym, ap, needs}
 use Rattle.model.specs.declared.Report.{Report}
 use Rattle.model.specs.Answers.{reportAnswer}
 use Rattle.slotpool.proofs.report_values.Statement.{statement}

@@ -1,6 +1,4 @@
-use mathlib.Core.Path.{ap, _∙_}
-use lib.ListN.{getD}
-use borrow.Author.Needs.{needs}
+use Rattle.mem.proofs.Prelude.{_∙_, ap, needs, getD}
 use Rattle.model.specs.Answers.{Answer}
 use Rattle.slotpool.proofs.slotpool_grant.Statement.{statement}
 use Rattle.slotpool.proofs.slotpool_grant.Tie as tie
@@ -8,7 +6,7 @@ use Rattle.slotpool.proofs.slotpool_grant.Tie as tie
 returns : tie.Need-returns
 returns c =
     let r = c .before .before .before .before .before .before .grant .ensures in
-    (c .grant-number .ensures ∙ ap (λ (a : Answer). a .number) (r .0), (c .before .grant-value .ensures ∙ ap (λ (a : Answer). getD (a .values) 0 0) (r .0), r .1))
+    (c .number-of .ensures ∙ ap (λ (a : Answer). a .number) (r .0), (c .before .value-of .ensures ∙ ap (λ (a : Answer). getD (a .values) 0 0) (r .0), r .1))
 
 pub slotpool-grant-spec : {M : Type 1} → statement M
 slotpool-grant-spec = tie.close (tie.spec (λ c κs. search needs) (λ c κs. search needs) (λ c κs. search needs) (λ c. search needs) (λ c. search needs) returns)

@@ -1,5 +1,4 @@
-use mathlib.Core.Path.{ap, _∙_}
-use borrow.Author.Needs.{needs}
+use Rattle.mem.proofs.Prelude.{_∙_, ap, needs}
 use Rattle.model.specs.Answers.{Answer}
 use Rattle.slotpool.proofs.slotpool_report.Statement.{statement}
 use Rattle.slotpool.proofs.slotpool_report.Tie as tie

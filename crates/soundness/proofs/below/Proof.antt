@@ -1,10 +1,5 @@
 -- `below` meets its contract: the class two below, where there is one.
-use mathlib.Core.Path.{sym, ap, _∙_}
-use Prim.Native.Nat.{_*_, _-_}
-use native.Mathlib.Omega.{arith}
-use borrow.Author.Needs.{needs}
-use borrow.Author.Tests.{lt-ltb, le-ltb}
-use lib.Dec.{ltb}
+use Rattle.mem.proofs.Prelude.{_∙_, sym, ap, _*_, _-_, arith, needs, le-ltb, lt-ltb, ltb}
 use Rattle.mem.proofs.Tests.{choose-true, choose-false}
 use Rattle.classes.specs.Classes.{slotBytes}
 use Rattle.soundness.proofs.below.Statement.{statement}

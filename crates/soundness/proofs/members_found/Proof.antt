@@ -1,9 +1,5 @@
 -- `members_found` meets its contract: the law of a group's slots, over what the calls give.
-use mathlib.Core.Path.{sym, _∙_}
-use native.Mathlib.Omega.{arith}
-use borrow.Author.Needs.{needs}
-use denote.Ref.{now}
-use Prim.Native.Nat.{_*_, _-_}
+use Rattle.mem.proofs.Prelude.{_∙_, sym, _*_, _-_, arith, now, needs}
 use Rattle.classes.proofs.Laws.{bytes-units}
 use Rattle.soundness.proofs.Laws.{members-law}
 use Rattle.soundness.proofs.members_found.Statement.{statement}
@@ -25,25 +21,6 @@ returns c =
 
 pub members-found-spec : {M : Type 1} → statement M
 members-found-spec =
-    tie.close
-    (tie.spec
-    (λ c. search needs)
-    (λ c κs. search needs)
-    (λ c. search needs)
-    (λ c κs. search needs)
-    (λ c κs. search needs)
-    (λ c. search needs)
-    (λ c. search needs)
-    (λ c. search needs)
-    (λ c. search needs)
-    (λ c κs. search needs)
-    (λ c. search needs)
-    (λ c κs. search needs)
-    (λ c. search needs)
-    (λ c. search needs)
-    (λ c. search needs)
-    (λ c. search needs)
-    (λ c. search needs)
-    (λ c κs. search needs)
-    (λ c. search needs)
-    returns)
+    tie.close (tie.spec (λ c. search needs) (λ c κs. search needs) (λ c. search needs) (λ c κs. search needs) (λ c κs. search needs) (λ c. search needs)
+    (λ c. search needs) (λ c. search needs) (λ c. search needs) (λ c κs. search needs) (λ c. search needs) (λ c κs. search needs) (λ c. search needs)
+    (λ c. search needs) (λ c. search needs) (λ c. search needs) (λ c. search needs) (λ c κs. search needs) (λ c. search needs) returns)

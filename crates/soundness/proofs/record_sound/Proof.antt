@@ -1,5 +1,5 @@
 -- `record_sound` meets its contract: the code is the definition.
-use borrow.Author.Needs.{needs}
+use Rattle.mem.proofs.Prelude.{needs}
 use Rattle.classes.specs.Classes.{tooLarge}
 use Rattle.soundness.specs.Checks.{recordChecked}
 use Rattle.soundness.proofs.record_sound.Statement.{statement}

@@ -1,13 +1,6 @@
 -- `rest_zero` meets its contract. The invariant: the test of the whole is that nothing was seen and that what is left is zero.
-use mathlib.Core.Path.{_≡_, sym, ap, _∙_}
-use mathlib.Core.Bool.{Bool, _&&_, and-true, and-assoc}
-use Prim.Native.Nat.{ℕ, _+_, _*_, _-_, _<_, _≤_}
-use native.Mathlib.Omega.{arith}
-use borrow.Author.Needs.{needs}
-use denote.Ref.{now}
+use Rattle.mem.proofs.Prelude.{_∙_, _≡_, sym, ap, Bool, _&&_, and-assoc, and-true, _+_, ℕ, _<_, _≤_, _*_, _-_, arith, now, needs, eqb, getD}
 use lib.Bits.{bitOr}
-use lib.Dec.{eqb}
-use lib.ListN.{getD}
 use Rattle.mem.specs.Bytes.{zeros, same, part}
 use Rattle.mem.proofs.Tests.{or-none}
 use Rattle.soundness.proofs.Records.{rest-turn, rest-end}
@@ -37,7 +30,8 @@ loop-again c =
     let rest = same (part (a .at + 8 * (l .i + 1)) (8 * (31 - (l .i + 1))) s) (zeros (8 * (31 - (l .i + 1)))) in (
       search needs,
       l .inv .1
-          ∙ ap (λ (b : Bool). eqb (l .seen) 0 && b) (rest-turn s B (a .at) (l .i) (omega arith) (omega arith) ∙ rw (← (c .before .quad .ensures), ← (c .quad2 .ensures)))
+          ∙ ap (λ (b : Bool). eqb (l .seen) 0 && b) (rest-turn s B (a .at) (l .i) (omega arith) (omega arith)
+          ∙ rw (← (c .before .quad .ensures), ← (c .quad2 .ensures)))
           ∙ seen-order (l .seen) x y rest,
     )
 
@@ -49,19 +43,5 @@ returns c =
 
 pub rest-zero-spec : {M : Type 1} → statement M
 rest-zero-spec =
-    tie.close
-    (tie.spec
-    Inv-loop
-    μ-loop
-    (λ c. (search needs, search needs))
-    (λ c. search needs)
-    (λ c. search needs)
-    (λ c κs. search needs)
-    (λ c. search needs)
-    (λ c. search needs)
-    (λ c. search needs)
-    (λ c κs. search needs)
-    (λ c. search needs)
-    (λ c. search needs)
-    loop-again
-    returns)
+    tie.close (tie.spec Inv-loop μ-loop (λ c. (search needs, search needs)) (λ c. search needs) (λ c. search needs) (λ c κs. search needs)
+    (λ c. search needs) (λ c. search needs) (λ c. search needs) (λ c κs. search needs) (λ c. search needs) (λ c. search needs) loop-again returns)

@@ -1,5 +1,5 @@
 -- `slots_found` meets its contract: where both masks are 0 the call with 0 is the call with the masks.
-use borrow.Author.Needs.{needs}
+use Rattle.mem.proofs.Prelude.{needs}
 use Rattle.soundness.proofs.slots_found.Statement.{statement}
 use Rattle.soundness.proofs.slots_found.Tie as tie
 

@@ -1,14 +1,8 @@
 -- `slots_walk` meets its contract. The invariant: the check of all slots is that those passed are sound and the check of those
 -- that are left; the sizes are those summed and those that are left.
-use mathlib.Core.Path.{_≡_, sym, ap, _∙_}
-use mathlib.Core.Bool.{Bool, _&&_, and-assoc}
-use Prim.Native.Nat.{ℕ, _+_, _-_, _*_, _/_, _^_, _≤_, _<_}
-use native.Mathlib.Nat.{add-zero, zero-add, sub-zero, div-one}
-use native.Mathlib.Omega.{arith}
-use borrow.Author.Needs.{needs}
-use denote.Ref.{now}
-use lib.Dec.{eqb}
-use lib.ListN.{getD, drop}
+use Rattle.mem.proofs.Prelude.{_∙_, _≡_, sym, ap, Bool, _&&_, and-assoc, _+_, ℕ, _<_, _≤_, _*_, _-_, _/_, _^_, add-zero, zero-add, sub-zero, arith}
+use Rattle.mem.proofs.Prelude.{now, needs, eqb, drop, getD}
+use native.Mathlib.Nat.{div-one}
 use Rattle.model.specs.Tables.{sizesIn}
 use Rattle.soundness.specs.Checks.{slotsChecked}
 use Rattle.soundness.proofs.Records.{walk-turn, walk-end, sizes-turn, sizes-end}
@@ -35,12 +29,19 @@ loop-again c =
     let s = now (a .s) in
     let hi = c .before .before .before .quad2 in
     let B : (j : ℕ) → getD s j 0 < 256 = λ j. omega (arith, c .before .before .before .before .before .before .before .shared-slice-known .given j) in
-    let rest = slotsChecked (a .most) (a .least) (a .n - (l .i + 1)) (a .ready / 2 ^ (l .i + 1)) (a .waiting / 2 ^ (l .i + 1)) (drop (a .at + 8 * (l .i + 1)) s) in (
+    let rest = slotsChecked (a .most) (a .least) (a .n - (l .i + 1)) (a .ready / 2 ^ (l .i + 1)) (a .waiting / 2 ^ (l .i + 1))
+    (drop (a .at + 8 * (l .i + 1)) s) in (
       search needs,
       search needs,
       l .inv .2
           ∙ ap (λ (b : Bool). l .sound && b) (walk-turn s B (a .most) (a .least) (a .at) (a .n) (l .i) (a .ready) (a .waiting) (omega arith) (omega arith)
-          ∙ rw (← (c .before .before .before .before .quad .ensures), ← (hi .ensures), ← (c .before .before .has .ensures), ← (c .before .has2 .ensures), ← (c .record-sound .ensures)))
+          ∙ rw (
+            ← (c .before .before .before .before .quad .ensures),
+            ← (hi .ensures),
+            ← (c .before .before .has .ensures),
+            ← (c .before .has2 .ensures),
+            ← (c .record-sound .ensures),
+          ))
           ∙ sym (and-assoc (l .sound) (c .record-sound .result) rest),
       l .inv .3 ∙ rw (hi .ensures) (sizes-turn s B (a .most) (a .least) (a .at) (a .n) (l .i) (a .ready) (a .waiting) (omega arith) (omega arith) (l .bytes)),
     )
@@ -58,27 +59,6 @@ returns c =
 
 pub slots-walk-spec : {M : Type 1} → statement M
 slots-walk-spec =
-    tie.close
-    (tie.spec
-    Inv-loop
-    μ-loop
-    loop-holds
-    (λ c. search needs)
-    (λ c. search needs)
-    (λ c κs. search needs)
-    (λ c. search needs)
-    (λ c. search needs)
-    (λ c. search needs)
-    (λ c κs. search needs)
-    (λ c κs. search needs)
-    (λ c κs. search needs)
-    (λ c κs. search needs)
-    (λ c. search needs)
-    (λ c. search needs)
-    (λ c. search needs)
-    loop-again
-    (λ c. search needs)
-    (λ c. search needs)
-    (λ c. search needs)
-    (λ c. search needs)
-    returns)
+    tie.close (tie.spec Inv-loop μ-loop loop-holds (λ c. search needs) (λ c. search needs) (λ c κs. search needs) (λ c. search needs) (λ c. search needs)
+    (λ c. search needs) (λ c κs. search needs) (λ c κs. search needs) (λ c κs. search needs) (λ c κs. search needs) (λ c. search needs) (λ c. search needs)
+    (λ c. search needs) loop-again (λ c. search needs) (λ c. search needs) (λ c. search needs) (λ c. search needs) returns)

@@ -1,13 +1,8 @@
 -- `add_group` meets its contract.
-use Prim.Native.Nat.{_+_, _≤_}
-use native.Mathlib.Omega.{arith}
-use borrow.Author.Needs.{needs}
-use denote.Ref.{now}
-use lib.Count.{ones}
-use lib.Seq.{drop-drop}
+use Rattle.mem.proofs.Prelude.{_+_, _≤_, arith, now, needs, drop-drop, ones}
 use Rattle.classes.specs.Classes.{slotsOf}
 use Rattle.classes.proofs.Laws.{slots-small}
-use Rattle.records.specs.Records.{rowAt}
+use Rattle.model.specs.Tables.{rowAt}
 use Rattle.totals.specs.Sums.{addGroup}
 use Rattle.totals.proofs.add_group.Statement.{statement}
 use Rattle.totals.proofs.add_group.Tie as tie
@@ -61,22 +56,6 @@ returns c =
 
 pub add-group-spec : {M : Type 1} → statement M
 add-group-spec =
-    tie.close
-    (tie.spec
-    (λ c κs. search needs)
-    (λ c κs. search needs)
-    (λ c. search needs)
-    live-requires
-    (λ c. search needs)
-    cast-ready
-    cast-waiting
-    (λ c. search needs)
-    (λ c κs. search needs)
-    (λ c. search needs)
-    (λ c κs. search needs)
-    (λ c. search needs)
-    (λ c κs. search needs)
-    add-t19
-    add-t20
-    add-t21
-    returns)
+    tie.close (tie.spec (λ c κs. search needs) (λ c κs. search needs) (λ c. search needs) live-requires (λ c. search needs) cast-ready cast-waiting
+    (λ c. search needs) (λ c κs. search needs) (λ c. search needs) (λ c κs. search needs) (λ c. search needs) (λ c κs. search needs) add-t19 add-t20
+    add-t21 returns)

@@ -1,20 +1,13 @@
 -- `add_span` meets its contract.
-use mathlib.Core.Path.{_≡_, refl, sym, ap, _∙_}
-use mathlib.Core.List.{List, [], _∷_}
-use mathlib.Core.Logic.{⊎-elim}
-use Prim.Native.Nat.{ℕ}
-use native.Mathlib.Omega.{arith}
-use borrow.Author.Needs.{needs}
-use denote.Ref.{now}
+use Rattle.mem.proofs.Prelude.{_∙_, _≡_, sym, ap, refl, ⊎-elim, List, [], _∷_, ℕ, arith, now, needs, drop}
 use denote.Enum.Declared.{tagOf}
 use types.Run.{OneOf}
-use lib.ListN.{drop}
 use Rattle.model.specs.declared.Holder.{Holder}
 use Rattle.model.specs.declared.Holder.the-variants.{Free, First, Later}
 use Rattle.model.specs.declared.Totals.{Totals}
 use Rattle.model.proofs.Holder.{the-type}
 use Rattle.model.specs.Tables.{viewHolder}
-use Rattle.records.specs.Records.{rowAt}
+use Rattle.model.specs.Tables.{rowAt}
 use Rattle.totals.specs.Sums.{addFree, addHeld, addSpan}
 use Rattle.totals.proofs.add_span.Statement.{statement}
 use Rattle.totals.proofs.add_span.Tie as tie
@@ -54,12 +47,4 @@ returns-2 c =
 
 pub add-span-spec : {M : Type 1} → statement M
 add-span-spec =
-    tie.close
-    (tie.spec
-    (λ c κs. search needs)
-    (λ c. search needs)
-    (λ c. search needs)
-    returns
-    (λ c κs. search needs)
-    add-group-requires
-    returns-2)
+    tie.close (tie.spec (λ c κs. search needs) (λ c. search needs) (λ c. search needs) returns (λ c κs. search needs) add-group-requires returns-2)

@@ -1,8 +1,6 @@
 -- `count` meets its contract. The invariant: the totals are those of the spans passed.
-use Prim.Native.Nat.{_+_, _-_}
-use native.Mathlib.Omega.{arith}
-use borrow.Author.Needs.{needs}
-use denote.Ref.{now}
+use Rattle.mem.proofs.Prelude.{_+_, _-_, arith, now, needs}
+use Rattle.rows.proofs.Rooms.{by-masks}
 use Rattle.totals.proofs.Laws.{Passed, Step, start, step, done}
 use Rattle.totals.proofs.count.Statement.{statement}
 use Rattle.totals.proofs.count.Tie as tie
@@ -17,12 +15,13 @@ loop-holds : tie.Need-loop-holds Inv-loop μ-loop
 loop-holds c = start (c .before .args .row) (now (c .before .args .room))
 
 turn : (c : tie.After-struct-known2 Inv-loop μ-loop)
-    → Step (c .before .before .before .before .before .args .row) (now (c .before .before .before .before .before .args .room)) (c .before .before .before .loop .s)
+    → Step (c .before .before .before .before .before .args .row) (now (c .before .before .before .before .before .args .room))
+    (c .before .before .before .loop .s)
     (c .before .before .before .loop .s .held + c .before .before .before .loop .s .free)
 turn c =
     let l = c .before .before .before in
     let s = l .before .before in
-    step (s .args .row) (omega arith) (s .args .len) (now (s .args .room)) (s .pre .0) (l .loop .s) (l .loop .inv) (c .before .if1 .taken)
+    step (by-masks (s .pre .0) (s .pre .1)) (l .loop .s) (l .loop .inv) (c .before .if1 .taken)
 
 add-span-requires : tie.Need-add-span-requires Inv-loop μ-loop
 add-span-requires c κs = (turn c .inside, (turn c .right, (turn c .small, search needs)))
@@ -37,19 +36,9 @@ returns : tie.Need-returns Inv-loop μ-loop
 returns c =
     let l = c .before .before in
     let s = l .before .before in
-    done (s .args .row) (omega arith) (s .args .len) (now (s .args .room)) (s .pre .0) (l .loop .s) (l .loop .inv) (c .if1 .left)
+    done (by-masks (s .pre .0) (s .pre .1)) (l .loop .s) (l .loop .inv) (c .if1 .left)
 
 pub count-spec : {M : Type 1} → statement M
 count-spec =
-    tie.close
-    (tie.spec
-    Inv-loop
-    μ-loop
-    (λ c. search needs)
-    loop-holds
-    (λ c. search needs)
-    (λ c. search needs)
-    add-span-requires
-    loop-less
-    loop-again
+    tie.close (tie.spec Inv-loop μ-loop (λ c. search needs) loop-holds (λ c. search needs) (λ c. search needs) add-span-requires loop-less loop-again
     returns)

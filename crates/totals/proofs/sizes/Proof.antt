@@ -1,13 +1,6 @@
 -- `sizes` meets its contract. The invariant: what was summed and the sizes that are left make the whole.
-use mathlib.Core.Path.{_≡_, ap, ap₂, _∙_}
-use mathlib.Core.List.{List}
-use Prim.Native.Nat.{ℕ, suc, _+_, _*_, _-_, _<_, _≤_}
-use native.Mathlib.Nat.{add-zero, zero-add, sub-zero}
-use native.Mathlib.Omega.{arith}
-use borrow.Author.Needs.{needs}
-use denote.Ref.{now}
-use lib.ListN.{drop, take}
-use lib.Seq.{drop-drop}
+use Rattle.mem.proofs.Prelude.{_∙_, _≡_, ap, ap₂, List, _+_, ℕ, _<_, _≤_, _*_, _-_, suc, add-zero, zero-add, sub-zero, arith, now, needs, drop, take}
+use Rattle.mem.proofs.Prelude.{drop-drop}
 use Rattle.mem.specs.Bytes.{number, part}
 use Rattle.model.specs.Tables.{sizesIn}
 use Rattle.totals.proofs.sizes.Statement.{statement}
@@ -54,17 +47,5 @@ returns c =
 
 pub sizes-spec : {M : Type 1} → statement M
 sizes-spec =
-    tie.close
-    (tie.spec
-    Inv-loop
-    μ-loop
-    loop-holds
-    (λ c. search needs)
-    (λ c. search needs)
-    (λ c. search needs)
-    (λ c κs. search needs)
-    (λ c. search needs)
-    (λ c. search needs)
-    (λ c. search needs)
-    loop-again
-    returns)
+    tie.close (tie.spec Inv-loop μ-loop loop-holds (λ c. search needs) (λ c. search needs) (λ c. search needs) (λ c κs. search needs) (λ c. search needs)
+    (λ c. search needs) (λ c. search needs) loop-again returns)

@@ -1,4 +1,4 @@
-use borrow.Author.Needs.{needs}
+use Rattle.mem.proofs.Prelude.{needs}
 use Rattle.masks.specs.Sets.{givenBack}
 use Rattle.masks.proofs.Masks.give_back.Statement.{statement}
 use Rattle.masks.proofs.Masks.give_back.Tie as tie

@@ -1,4 +1,4 @@
-use borrow.Author.Needs.{needs}
+use Rattle.mem.proofs.Prelude.{needs}
 use Rattle.masks.specs.Sets.{lowest}
 use Rattle.masks.proofs.Masks.lowest.Statement.{statement}
 use Rattle.masks.proofs.Masks.lowest.Tie as tie

@@ -1,4 +1,4 @@
-use borrow.Author.Tests.{eq-eqb, ne-eqb}
+use Rattle.mem.proofs.Prelude.{eq-eqb, ne-eqb}
 use Rattle.mem.specs.Lists.{choose}
 use Rattle.masks.specs.Sets.{refilled}
 use Rattle.masks.proofs.Masks.refill.Statement.{statement}

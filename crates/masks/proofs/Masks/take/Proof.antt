@@ -1,6 +1,5 @@
 -- The lowest ready bit is one of the 32, and part of the set.
-use borrow.Author.Needs.{needs}
-use native.Mathlib.Omega.{arith}
+use Rattle.mem.proofs.Prelude.{arith, needs}
 use Rattle.masks.specs.Sets.{taken}
 use Rattle.mem.proofs.Masks.{lowest-fits}
 use Rattle.masks.proofs.Masks.take.Statement.{statement}

@@ -1,0 +1,61 @@
+-- Two lawful forms are alike: each run is seen as the steps on the state alone.
+use Rattle.mem.proofs.Prelude.{_∙_, _≡_, sym, ap, refl, subst, List, [], _∷_, ℕ, _<_, _/_, arith, T, length}
+use Rattle.mem.specs.Bytes.{zeros, put}
+use Rattle.mem.proofs.Tests.{and-left, choose-true, T-true}
+use Rattle.mem.proofs.Laws.{put-length, zeros-length}
+use Rattle.model.specs.State.{Pool}
+use Rattle.model.specs.Answers.{done}
+use Rattle.model.specs.Plans.{freshPool}
+use Rattle.model.specs.Tables.{byMasks}
+use Rattle.model.specs.Calls.{Form, Outcome, Stands, Lawful, callBy, setUpBy, setUpRightBy}
+use Rattle.model.proofs.Tables.{masks-laws}
+use Rattle.model.proofs.Forms.{layout-lawful, step, inRoom, call-step, Standing, step-stands, fresh-stands}
+use Rattle.claims.specs.Alike.{Store, stored, Round, Seen, seen, FormsAlike, FirstLawful, StoresAnywhere}
+
+stored-length : (a : List ℕ) (ss : List Store) → length (stored a ss) ≡ length a
+stored-length a [] = refl
+stored-length a (s ∷ ss) = stored-length (put (s .at) (s .bytes) a) ss ∙ put-length (s .at) (s .bytes) a
+
+pub stores-anywhere : StoresAnywhere
+stores-anywhere [] [] e = refl
+stores-anywhere [] (y ∷ ys) e = absurd (omega (arith, e))
+stores-anywhere (x ∷ xs) [] e = absurd (omega (arith, e))
+stores-anywhere (x ∷ xs) (y ∷ ys) e = ap (λ l. y ∷ l) (stores-anywhere xs ys (omega (arith, e)))
+
+module _ (row : ℕ) (pos : 0 < row) where
+  -- what is seen of a run, by the states alone
+  unfoldable watched : List ℕ → Pool → List Round → List Seen
+  watched a P [] = []
+  watched a P (u ∷ us) =
+      let o = step row (stored a (u .stores)) P (u .asks) in
+      record { answer = o .answer; arena = o .arena } ∷ watched (o .arena) (o .room) us
+
+  run-watched : (F : Form) → Lawful row F → (n : ℕ) (a : List ℕ) (P : Pool) (us : List Round) → length a ≡ n → Stands row n P
+      → seen row F a (F .encode P) us ≡ watched a P us
+  unfolding seen watched
+  run-watched F L n a P [] e s = refl
+  run-watched F L n a P (u ∷ us) e s =
+      let b : List ℕ = stored a (u .stores) in
+      let l : length b ≡ n = stored-length a (u .stores) ∙ e in
+      let k : Standing row pos n b l P s (step row b P (u .asks)) = step-stands row pos n b l P s (u .asks) in
+      let c : callBy row F b (F .encode P) (u .asks) ≡ inRoom row F (step row b P (u .asks)) =
+      call-step row F L b P (subst (λ m. Stands row m P) (sym l) s) (u .asks) in
+      ap (λ (r : Outcome (F .Room)). record { answer = r .answer; arena = r .arena } ∷ seen row F (r .arena) (r .room) us) c
+      ∙ ap (λ (vs : List Seen). record { answer = step row b P (u .asks) .answer; arena = step row b P (u .asks) .arena } ∷ vs)
+      (run-watched F L n (step row b P (u .asks) .arena) (step row b P (u .asks) .room) us (k .long) (k .stands))
+
+  set-up-watched : (F : Form) → Lawful row F → (a : List ℕ) (t : F .Room) (us : List Round) → T (setUpRightBy row F a t)
+      → seen row F (setUpBy row F a t .arena) (setUpBy row F a t .room) us ≡ watched (zeros (length a)) (freshPool (length a / row)) us
+  unfolding setUpBy setUpRightBy
+  set-up-watched F L a t us h =
+      let d : setUpBy row F a t ≡ record { answer = done (0 ∷ []); arena = zeros (length a); room = F .encode (freshPool (length a / row)) } =
+      choose-true (setUpRightBy row F a t) _ _ (T-true (setUpRightBy row F a t) h) in
+      ap (λ (r : Outcome (F .Room)). seen row F (r .arena) (r .room) us) d
+      ∙ run-watched F L (length a) (zeros (length a)) (freshPool (length a / row)) us (zeros-length (length a)) (fresh-stands row (length a) (search and-left))
+
+  pub forms-alike : FormsAlike row
+  forms-alike F G L M a b t v us h k e =
+      set-up-watched F L a t us h ∙ ap (λ n. watched (zeros n) (freshPool (n / row)) us) e ∙ sym (set-up-watched G M b v us k)
+
+  pub first-lawful : FirstLawful row
+  first-lawful = layout-lawful byMasks masks-laws row pos

@@ -1,0 +1,103 @@
+-- What a call's plan is, case by case.
+use Rattle.mem.proofs.Prelude.{_∙_, _≡_, sym, ap, refl, subst, ⊎-elim, some, none, Option, List, [], _∷_, _++_, ℕ, _<_, arith, leb-false, T, leb}
+use Rattle.mem.proofs.Prelude.{replicate}
+use Rattle.mem.specs.Lists.{any}
+use Rattle.mem.proofs.Tests.{choose-case, true-T}
+use Rattle.classes.specs.Classes.{classOf, slotsOf, rowsOf, tooLarge}
+use Rattle.model.specs.declared.Slot.{Slot}
+use Rattle.model.specs.declared.Slot.the-variants.{Fresh}
+use Rattle.model.specs.declared.Refusal.{Refusal}
+use Rattle.model.specs.declared.Refusal.the-variants.{BadArena, Unsound, TooLarge, NoSuchBlock, AlreadyFree, HeaderDamaged, Overrun, NoRoom}
+use Rattle.model.specs.State.{Pool, Place, group, isLive, poolOf, become}
+use Rattle.model.specs.Answers.{numberOf, done}
+use Rattle.model.specs.Plans.{Plan, Site, refused, refill, grantIn, reserve, grantAt, grant, lookup, onBlock, releaseAt, inPlace, resizeInPlace, moveTo}
+use Rattle.model.specs.Plans.{resizeMove, resizeAt, resize, freshPool, Call, setsUp, grants, releases, resizes, measures, reports}
+use Rattle.model.proofs.Reserve.{Open, New, site-found, Served, grant-live}
+use Rattle.model.proofs.Formed.{on-block}
+use Rattle.model.proofs.Calls.{Asks}
+
+-- no refusal's number is 0
+pub refuses : (r : Refusal) → numberOf r ≡ 0 → ⊥
+refuses BadArena e = omega arith
+refuses Unsound e = omega arith
+refuses TooLarge e = omega arith
+refuses NoSuchBlock e = omega arith
+refuses AlreadyFree e = omega arith
+refuses HeaderDamaged e = omega arith
+refuses Overrun e = omega arith
+refuses NoRoom e = omega arith
+
+-- set up, and the other calls alike
+pub by-call : (M : Call → Type 0) → M setsUp → ((c : Call) → Asks c → M c) → (c : Call) → M c
+by-call M s f setsUp = s
+by-call M s f (grants n) = f (grants n) tt
+by-call M s f (releases o) = f (releases o) tt
+by-call M s f (resizes o n) = f (resizes o n) tt
+by-call M s f (measures o) = f (measures o) tt
+by-call M s f reports = f reports tt
+
+-- a release, whether its group stays or goes
+pub release-parts : (row : ℕ) (p : Place) → (releaseAt row p .checks ≡ some p) × (releaseAt row p .answer ≡ done (0 ∷ []))
+unfolding releaseAt
+release-parts row p =
+    choose-case (λ (r : Plan). (r .checks ≡ some p) × (r .answer ≡ done (0 ∷ []))) (any isLive (p .lower ++ p .upper)) _ _
+    (λ e. (refl, refl)) (λ e. (refl, refl))
+
+-- the live block that a call names
+pub record Named (row : ℕ) (P : Pool) (o : ℕ) (p : Place) : Type 0 where
+  pub found : lookup row P o ≡ some p
+  pub pool : poolOf p ≡ P
+  pub live : T (isLive (p .state))
+
+-- what holds of every refusal, and of what is done where nothing is refused
+module _ (row : ℕ) (pos : 0 < row) (P : Pool) (M : Plan → Type 0) (no : (r : Refusal) → M (refused r P)) where
+  pub on-named : (o : ℕ) (f : Place → Plan) → ((p : Place) → Named row P o p → M (f p)) → M (onBlock P f (lookup row P o))
+  on-named o f k =
+      on-block row pos M P o f (no NoSuchBlock) (no AlreadyFree) (λ p e i l. k p (record { found = e; pool = i; live = l }))
+
+  pub on-grant : (n : ℕ) → ((q : Place) → n < tooLarge → reserve row P n ≡ some q → M (grantAt row P (some q))) → M (grant row P n)
+  unfolding grant
+  on-grant n f = choose-case M (leb tooLarge n) _ _ (λ e. no TooLarge) (λ e. go (leb-false tooLarge n e) (reserve row P n) refl)
+    where
+      go : n < tooLarge → (r : Option Place) → reserve row P n ≡ r → M (grantAt row P r)
+      go h none e = no NoRoom
+      go h (some q) e = f q h e
+
+  pub on-resize : (o n : ℕ) → ((p : Place) → Named row P o p → T (inPlace p n) → M (resizeInPlace row p n))
+      → ((p : Place) → Named row P o p → M (moveTo row P p n none))
+      → ((p q : Place) → Named row P o p → n < tooLarge → reserve row P n ≡ some q → M (moveTo row P p n (some q))) → M (resize row P o n)
+  unfolding resize resizeAt resizeMove
+  on-resize o n here full moved =
+      choose-case M (leb tooLarge n) _ _ (λ e. no TooLarge)
+      (λ e. on-named o (resizeAt row P n)
+      (λ p b. choose-case M (inPlace p n) (resizeInPlace row p n) (resizeMove row P p n)
+      (λ t. here p b (true-T (inPlace p n) t)) (λ t. go p b (leb-false tooLarge n e) (reserve row P n) refl)))
+    where
+      go : (p : Place) → Named row P o p → n < tooLarge → (r : Option Place) → reserve row P n ≡ r → M (moveTo row P p n r)
+      go p b h none e = full p b
+      go p b h (some q) e = moved p q b h e
+
+-- what a grant takes is live
+pub reserve-live : (row : ℕ) (P : Pool) (n : ℕ) (q : Place) → Served row P n q → T (isLive (q .state))
+reserve-live row P n q v = subst (λ x. T (isLive x)) (sym (v .taken .state)) (grant-live (classOf n) n (v .taken .old))
+
+-- What a pool comes to is the same before a grant and with the slot that it takes in its old state, if slots that become ready, and a new
+-- group, change nothing.
+module _ {A : Type 0} (row : ℕ) (Q : Pool → A)
+    (ready : (X : Pool) (c : ℕ) (ss : List Slot) (Y : Pool) → Q (X ++ (group c (refill ss) ∷ Y)) ≡ Q (X ++ (group c ss ∷ Y)))
+    (new : (X : Pool) (c : ℕ) (Y : Pool) → Q (X ++ (group c (replicate (slotsOf c) Fresh) ∷ Y)) ≡ Q (X ++ (freshPool (rowsOf row c) ++ Y))) where
+  pub taken-same : (P : Pool) (n : ℕ) (q : Place) (v : Served row P n q) → Q (poolOf (become q (v .taken .old))) ≡ Q P
+  unfolding grantIn
+  taken-same P n q v =
+      let s : Site = v .at in
+      let c : ℕ = classOf n in
+      let x : Slot = v .taken .old in
+      let b : q .before ≡ s .before = ap (λ p. p .before) (v .place) in
+      let d : q .after ≡ s .after = ap (λ p. p .after) (v .place) in
+      let j : q .cls ≡ c = ap (λ p. p .cls) (v .place) in
+      let k : refill (s .slots) ≡ q .lower ++ (x ∷ q .upper) = v .taken .slots in
+      let e : poolOf (become q x) ≡ s .before ++ (group c (refill (s .slots)) ∷ s .after) = cc in
+      ap Q e ∙ ready (s .before) c (s .slots) (s .after)
+      ∙ ⊎-elim (λ (o : Open P c s). ap Q (sym (o .split)))
+      (λ (m : New row P c s). ap (λ ss. Q (s .before ++ (group c ss ∷ s .after))) (m .slots) ∙ new (s .before) c (s .after) ∙ ap Q (sym (m .split)))
+      (site-found row P c s (v .found))

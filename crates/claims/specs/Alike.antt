@@ -1,0 +1,56 @@
+-- Two forms of the tables: from an accepted set up over arenas of one length, each lent its own room as its last call left it, for every
+-- sequence of calls with any arena stores between, the same in both, they give equal answers and equal arena bytes.
+use Prim.Native.Nat.{ℕ}
+use mathlib.Core.Path.{_≡_}
+use mathlib.Core.List.{List, [], _∷_}
+use lib.Dec.{T}
+use lib.ListN.{length}
+use Rattle.mem.specs.Bytes.{put}
+use Rattle.model.specs.Answers.{Answer}
+use Rattle.model.specs.Plans.{Call}
+use Rattle.model.specs.Calls.{Form, Lawful, masked, callBy, setUpBy, setUpRightBy}
+
+-- bytes stored anywhere in the arena; what would fall past its end is left out
+pub record Store : Type 0 where
+  pub at : ℕ
+  pub bytes : List ℕ
+
+abbrev pub stored : List ℕ → List Store → List ℕ
+stored a [] = a
+stored a (s ∷ ss) = stored (put (s .at) (s .bytes) a) ss
+
+-- a turn: stores, and then a call
+pub record Round : Type 0 where
+  pub stores : List Store
+  pub asks : Call
+
+-- what is seen of a call: all that it gives back, and the arena's bytes
+pub record Seen : Type 0 where
+  pub answer : Answer
+  pub arena : List ℕ
+
+module _ (row : ℕ) where
+  -- what is seen of each call of a run; the room is lent as the last call left it
+  unfoldable pub seen : (F : Form) → List ℕ → F .Room → List Round → List Seen
+  seen F a t [] = []
+  seen F a t (u ∷ us) =
+      let r = callBy row F (stored a (u .stores)) t (u .asks) in
+      record { answer = r .answer; arena = r .arena } ∷ seen F (r .arena) (r .room) us
+
+  -- two forms: each is set up over an arena and a room of its own, whatever bytes are in them
+  abbrev pub Alike : Form → Form → Type 0
+  Alike F G = (a b : List ℕ) (t : F .Room) (v : G .Room) (us : List Round)
+      → T (setUpRightBy row F a t) → T (setUpRightBy row G b v) → length a ≡ length b
+      → seen F (setUpBy row F a t .arena) (setUpBy row F a t .room) us ≡ seen G (setUpBy row G b v .arena) (setUpBy row G b v .room) us
+
+  -- THE CLAIM: any two lawful forms are alike
+  abbrev pub FormsAlike : Type 1
+  FormsAlike = (F G : Form) → Lawful row F → Lawful row G → Alike F G
+
+  -- and the first engine's form is one of them
+  abbrev pub FirstLawful : Type 0
+  FirstLawful = Lawful row (masked row)
+
+-- the stores reach every arena: any bytes can stand in it before a call
+abbrev pub StoresAnywhere : Type 0
+StoresAnywhere = (a b : List ℕ) → length a ≡ length b → stored a (record { at = 0; bytes = b } ∷ []) ≡ b

@@ -1,0 +1,127 @@
+-- Laws of engines: a call on the form of a state is the same step on that state, whatever the form.
+use Rattle.mem.proofs.Prelude.{_∙_, _≡_, sym, ap, refl, _&&_, List, [], _∷_, ℕ, _<_, _*_, _/_, mul-comm, T, length}
+use native.Mathlib.Nat.{mul-div-cancel}
+use Rattle.mem.specs.Bytes.{zeros, part}
+use Rattle.mem.proofs.Tests.{and-both, T-true, choose-true, eq→eqb}
+use Rattle.mem.proofs.Laws.{put-length, zeros-length}
+use Rattle.model.specs.declared.Refusal.{Refusal}
+use Rattle.model.specs.declared.Damage.{Damage}
+use Rattle.model.specs.declared.Damage.the-variants.{Intact, Damaged}
+use Rattle.model.specs.State.{Pool, rows}
+use Rattle.model.specs.Answers.{done, refusal}
+use Rattle.model.specs.Plans.{Plan, Write, writes, copies, Call, setsUp, grants, releases, resizes, measures, reports, plan, freshPool}
+use Rattle.model.specs.Tables.{Layout, LayoutLaws, encodeBy, arenaRight, roomBytes}
+use Rattle.model.specs.Calls.{Form, Outcome, Stands, Lawful, formOf, keeps, written, unless, damaged, carriedBy, setUpRightBy, setUpBy, checkedBy, callBy}
+use Rattle.model.proofs.Tables.{view-encode, encode-length, encode-sound, sound-facts}
+use Rattle.model.proofs.Fresh.{fresh-formed, fresh-rows, whole-rows}
+use Rattle.model.proofs.Formed.{Formed, plan-formed}
+
+written-length : (a : List ℕ) (ws : List Write) → length (written a ws) ≡ length a
+written-length a [] = refl
+written-length a (writes p bs ∷ ws) = written-length _ ws ∙ put-length p bs a
+written-length a (copies from to n ∷ ws) = written-length _ ws ∙ put-length to (part from n a) a
+
+ap-unless : {A B : Type 0} (f : A → B) (d : Damage) (x : A) (g : Refusal → A) → f (unless d x g) ≡ unless d (f x) (λ r. f (g r))
+unfolding unless
+ap-unless f Intact x g = refl
+ap-unless f (Damaged r) x g = refl
+
+unless-case : {A : Type 0} (M : A → Type 0) (d : Damage) (x : A) (g : Refusal → A) → M x → ((r : Refusal) → M (g r)) → M (unless d x g)
+unfolding unless
+unless-case M Intact x g m n = m
+unless-case M (Damaged r) x g m n = n r
+
+-- tables in a lawful layout are a lawful form
+pub layout-lawful : (L : Layout) → LayoutLaws L → (row : ℕ) → 0 < row → Lawful row (formOf row L)
+layout-lawful L law row pos = record {
+  says = view-encode law row pos;
+  right = λ n P s. encode-sound law row pos P n (s .formed) (s .lawful) (s .long);
+  only = λ n t h.
+      let f = sound-facts L row n t h in
+      (record { lawful = f .lawful; long = f .long; formed = f .formed }, f .form);
+  taken = λ n P s. eq→eqb (length (encodeBy L row P)) (roomBytes (n / row)) (encode-length law row pos P (s .formed) ∙ ap roomBytes (rows-in n P s));
+}
+  where
+    rows-in : (n : ℕ) (P : Pool) → Stands row n P → rows row P ≡ n / row
+    rows-in n P s = sym (ap (λ k. k / row) (s .long ∙ mul-comm row (rows row P)) ∙ mul-div-cancel (rows row P) pos)
+
+-- ---- one step, whatever the form
+
+module _ (row : ℕ) where
+  -- a call on a state that stands under the arena: what is answered, the arena and the state after it
+  abbrev pub stepped : List ℕ → Pool → Plan → Outcome Pool
+  stepped a P p =
+      let yes : Outcome Pool = record { answer = p .answer; arena = written a (p .changes); room = p .pool } in
+      unless (damaged row a (p .checks)) yes (λ r. keeps (refusal r) a P)
+
+  abbrev pub step : List ℕ → Pool → Call → Outcome Pool
+  step a P setsUp = record { answer = done (0 ∷ []); arena = zeros (length a); room = freshPool (length a / row) }
+  step a P (grants n) = stepped a P (plan row P (grants n))
+  step a P (releases o) = stepped a P (plan row P (releases o))
+  step a P (resizes o n) = stepped a P (plan row P (resizes o n))
+  step a P (measures o) = stepped a P (plan row P (measures o))
+  step a P reports = stepped a P (plan row P reports)
+
+  -- an outcome with its state in the room
+  abbrev pub inRoom : (F : Form) → Outcome Pool → Outcome (F .Room)
+  inRoom F o = record { answer = o .answer; arena = o .arena; room = F .encode (o .room) }
+
+  module _ (F : Form) (L : Lawful row F) (a : List ℕ) (P : Pool) (s : Stands row (length a) P) where
+    set-up-step : setUpBy row F a (F .encode P) ≡ inRoom F (step a P setsUp)
+    unfolding setUpBy setUpRightBy
+    set-up-step =
+        choose-true (arenaRight row (length a) && F .fits (length a) (F .encode P)) _ _
+        (T-true _ (and-both (arenaRight row (length a)) (F .fits (length a) (F .encode P)) (s .lawful) (L .taken (length a) P s)))
+
+    checked-step : (c : Call) → checkedBy row F a (F .encode P) c ≡ inRoom F (stepped a P (plan row P c))
+    unfolding checkedBy carriedBy
+    checked-step c =
+        choose-true (F .sound (length a) (F .encode P)) _ _ (T-true _ (L .right (length a) P s))
+        ∙ ap (λ Q. carriedBy row F a (F .encode P) (plan row Q c)) (L .says P (s .formed))
+        ∙ sym (ap-unless (inRoom F) (damaged row a (plan row P c .checks)) _ _)
+
+    pub call-step : (c : Call) → callBy row F a (F .encode P) c ≡ inRoom F (step a P c)
+    unfolding callBy
+    call-step setsUp = set-up-step
+    call-step (grants n) = checked-step (grants n)
+    call-step (releases o) = checked-step (releases o)
+    call-step (resizes o n) = checked-step (resizes o n)
+    call-step (measures o) = checked-step (measures o)
+    call-step reports = checked-step reports
+
+  -- the state after a step stands under the arena after it
+  pub fresh-stands : (n : ℕ) → T (arenaRight row n) → Stands row n (freshPool (n / row))
+  fresh-stands n h = record {
+    lawful = h;
+    long = sym (ap (λ k. row * k) (fresh-rows row (n / row)) ∙ whole-rows row n h);
+    formed = fresh-formed (n / row);
+  }
+
+  module _ (pos : 0 < row) (n : ℕ) (a : List ℕ) (e : length a ≡ n) (P : Pool) (s : Stands row n P) where
+    -- an outcome over an arena of n bytes
+    pub record Standing (o : Outcome Pool) : Type 0 where
+      pub long : length (o .arena) ≡ n
+      pub stands : Stands row n (o .room)
+
+    stepped-stands : (c : Call) → Standing (stepped a P (plan row P c))
+    stepped-stands c =
+        unless-case Standing (damaged row a (plan row P c .checks)) _ _
+        (record {
+          long = written-length a (plan row P c .changes) ∙ e;
+          stands = record { lawful = s .lawful; long = s .long ∙ ap (λ k. row * k) (sym (f .long)); formed = f .formed };
+        })
+        (λ r. record { long = e; stands = s })
+      where
+        f : Formed row P (plan row P c .pool)
+        f = plan-formed row pos P c (s .formed)
+
+    pub step-stands : (c : Call) → Standing (step a P c)
+    step-stands setsUp = record {
+      long = zeros-length (length a) ∙ e;
+      stands = rw e (fresh-stands n (s .lawful));
+    }
+    step-stands (grants n) = stepped-stands (grants n)
+    step-stands (releases o) = stepped-stands (releases o)
+    step-stands (resizes o n) = stepped-stands (resizes o n)
+    step-stands (measures o) = stepped-stands (measures o)
+    step-stands reports = stepped-stands reports

@@ -1,0 +1,180 @@
+-- What a grant takes is the lowest that serves, and where it takes nothing there is nothing.
+use Rattle.mem.proofs.Prelude.{_∙_, _≡_, sym, ap, refl, subst, true, Bool, false, _&&_, not, true≢false, ⊎-elim, inl, inr, _⊎_, some, none, Option}
+use Rattle.mem.proofs.Prelude.{List, [], _∷_, _++_, append-assoc, append-nil, _+_, ℕ, _<_, _≤_, suc, zero, arith, T, eqb, eqb-refl, length, drop}
+use Rattle.mem.proofs.Prelude.{replicate}
+use Rattle.mem.specs.Lists.{choose, every, any, first}
+use Rattle.mem.proofs.Tests.{T-true}
+use Rattle.classes.specs.Classes.{classOf, slotsOf, rowsOf}
+use Rattle.classes.proofs.Laws.{rows-pos}
+use Rattle.model.specs.declared.Slot.{Slot}
+use Rattle.model.specs.declared.Slot.the-variants.{Fresh, Idle, Live}
+use Rattle.model.specs.State.{Span, Pool, Place, free, group, isLive, isReady, rowsIn, rows}
+use Rattle.model.specs.Plans.{Site, slotsIn, opens, openFrom, run, runFrom, siteOr, site, reserveIn, reserve, freshPool, AllLive, NoPlace}
+use Rattle.model.proofs.Rooms.{rows-append}
+use Rattle.model.proofs.Reserve.{Open, open-found, New, run-found, site-found}
+
+all-live : (ss : List Slot) → any (λ x. not (isLive x)) ss ≡ false → T (every isLive ss)
+all-live [] e = tt
+all-live (Fresh ∷ ss) e = absurd (true≢false e)
+all-live (Idle r k d ∷ ss) e = absurd (true≢false e)
+all-live (Live a ∷ ss) e = all-live ss e
+
+not-all-live : (ss : List Slot) → T (any (λ x. not (isLive x)) ss) → T (every isLive ss) → ⊥
+not-all-live [] t u = t
+not-all-live (Fresh ∷ ss) t u = u
+not-all-live (Idle r k d ∷ ss) t u = u
+not-all-live (Live a ∷ ss) t u = not-all-live ss t u
+
+full-nil : (c : ℕ) → AllLive [] c
+full-nil c [] Y ss e = let z : _≡_ {A = ℕ} 0 1 = cc in absurd (omega arith)
+full-nil c (x ∷ X) Y ss e = let z : _≡_ {A = ℕ} 0 1 = cc in absurd (omega arith)
+
+full-cons : (c : ℕ) (y : Span) (Y : Pool) → opens c y ≡ false → AllLive Y c → AllLive (y ∷ Y) c
+unfolding opens
+full-cons c y Y h f [] Z ss e =
+    let q : y ≡ group c ss = cc in
+    all-live ss (rw (T-true (eqb c c) (eqb-refl c)) at (subst (λ s. opens c s ≡ false) q h))
+full-cons c y Y h f (w ∷ W) Z ss e = let q : Y ≡ W ++ (group c ss ∷ Z) = cc in f W Z ss q
+
+pub open-none : (X Y : Pool) (c : ℕ) → openFrom X c Y ≡ none → AllLive Y c
+unfolding choose
+open-none X [] c e = full-nil c
+open-none X (y ∷ Y) c e = go (opens c y) refl e (λ e. open-none (X ++ (y ∷ [])) Y c e)
+  where
+    go : (b : Bool) → opens c y ≡ b → choose b (some (record { before = X; slots = slotsIn y; after = Y })) (openFrom (X ++ (y ∷ [])) c Y) ≡ none
+        → (openFrom (X ++ (y ∷ [])) c Y ≡ none → AllLive Y c) → AllLive (y ∷ Y) c
+    go true h e r = let z : _≡_ {A = ℕ} 0 1 = cc in absurd (omega arith)
+    go false h e r = full-cons c y Y h (r e)
+
+-- the groups that the search passed by are full
+pub open-lowest : (X Y : Pool) (c : ℕ) (s : Site) → openFrom X c Y ≡ some s → (R : Pool) × (s .before ≡ X ++ R) × AllLive R c
+unfolding choose
+open-lowest X [] c s e = let z : _≡_ {A = ℕ} 0 1 = cc in absurd (omega arith)
+open-lowest X (y ∷ Y) c s e = go (opens c y) refl e (λ e. open-lowest (X ++ (y ∷ [])) Y c s e)
+  where
+    here : Site
+    here = record { before = X; slots = slotsIn y; after = Y }
+
+    go : (b : Bool) → opens c y ≡ b → choose b (some here) (openFrom (X ++ (y ∷ [])) c Y) ≡ some s
+        → (openFrom (X ++ (y ∷ [])) c Y ≡ some s → (R : Pool) × (s .before ≡ (X ++ (y ∷ [])) ++ R) × AllLive R c) → (R : Pool) × (s .before ≡ X ++ R)
+        × AllLive R c
+    go true h e r =
+        let p : here ≡ s = cc in
+        ([], ap (λ q. q .before) (sym p) ∙ sym (append-nil X), full-nil c)
+    go false h e r = let (R, a, f) = r e in (y ∷ R, a ∙ append-assoc X (y ∷ []) R, full-cons c y R h f)
+
+run-there : (k : ℕ) (P Y : Pool) → P ≡ freshPool k ++ Y → T (run k P)
+run-there zero P Y e = tt
+run-there (suc k) [] Y e = let z : _≡_ {A = ℕ} 0 1 = cc in absurd (omega arith)
+run-there (suc k) (free ∷ P) Y e = let q : P ≡ freshPool k ++ Y = cc in run-there k P Y q
+run-there (suc k) (group c ss ∷ P) Y e = let z : _≡_ {A = ℕ} 0 1 = cc in absurd (omega arith)
+
+no-run-nil : (k : ℕ) → 1 ≤ k → (X Y : Pool) → [] ≡ X ++ (freshPool k ++ Y) → ⊥
+no-run-nil zero h X Y e = omega arith
+no-run-nil (suc k) h [] Y e = let z : _≡_ {A = ℕ} 0 1 = cc in omega arith
+no-run-nil (suc k) h (x ∷ X) Y e = let z : _≡_ {A = ℕ} 0 1 = cc in omega arith
+
+module _ (row : ℕ) where
+  -- no free rows follow one another in a pool, as many as a group of class c takes
+  abbrev pub NoRun : Pool → ℕ → Type 0
+  NoRun P c = (X Y : Pool) → P ≡ X ++ (freshPool (rowsOf row c) ++ Y) → ⊥
+
+  pub run-none : 0 < row → (X Y : Pool) (c : ℕ) → runFrom row X c Y ≡ none → NoRun Y c
+  unfolding choose
+  run-none pos X [] c e = no-run-nil (rowsOf row c) (rows-pos row c pos)
+  run-none pos X (y ∷ Y) c e = go (run (rowsOf row c) (y ∷ Y)) refl e (λ e. run-none pos (X ++ (y ∷ [])) Y c e)
+    where
+      here : Site
+      here = record { before = X; slots = replicate (slotsOf c) Fresh; after = drop (rowsOf row c) (y ∷ Y) }
+
+      go : (b : Bool) → run (rowsOf row c) (y ∷ Y) ≡ b → choose b (some here) (runFrom row (X ++ (y ∷ [])) c Y) ≡ none
+          → (runFrom row (X ++ (y ∷ [])) c Y ≡ none → NoRun Y c) → NoRun (y ∷ Y) c
+      go true h e r W Z q = let z : _≡_ {A = ℕ} 0 1 = cc in omega arith
+      go false h e r [] Z q = subst T h (run-there (rowsOf row c) (y ∷ Y) Z q)
+      go false h e r (w ∷ W) Z q = let p : Y ≡ W ++ (freshPool (rowsOf row c) ++ Z) = cc in r e W Z p
+
+  -- no run begins in a lower row
+  pub run-lowest : (X Y : Pool) (c : ℕ) (s : Site) → runFrom row X c Y ≡ some s
+      → (W Z : Pool) → Y ≡ W ++ (freshPool (rowsOf row c) ++ Z) → rows row (s .before) ≤ rows row X + rows row W
+  unfolding choose
+  run-lowest X [] c s e = let z : _≡_ {A = ℕ} 0 1 = cc in absurd (omega arith)
+  run-lowest X (y ∷ Y) c s e = go (run (rowsOf row c) (y ∷ Y)) refl e (λ e. run-lowest (X ++ (y ∷ [])) Y c s e)
+    where
+      here : Site
+      here = record { before = X; slots = replicate (slotsOf c) Fresh; after = drop (rowsOf row c) (y ∷ Y) }
+
+      go : (b : Bool) → run (rowsOf row c) (y ∷ Y) ≡ b → choose b (some here) (runFrom row (X ++ (y ∷ [])) c Y) ≡ some s
+          → (runFrom row (X ++ (y ∷ [])) c Y ≡ some s → (W Z : Pool) → Y ≡ W ++ (freshPool (rowsOf row c) ++ Z)
+          → rows row (s .before) ≤ rows row (X ++ (y ∷ [])) + rows row W)
+          → (W Z : Pool) → y ∷ Y ≡ W ++ (freshPool (rowsOf row c) ++ Z) → rows row (s .before) ≤ rows row X + rows row W
+      go true h e r W Z q = let p : here ≡ s = cc in omega (arith, ap (λ k. rows row (k .before)) p)
+      go false h e r [] Z q = absurd (subst T h (run-there (rowsOf row c) (y ∷ Y) Z q))
+      go false h e r (w ∷ W) Z q =
+          let p : Y ≡ W ++ (freshPool (rowsOf row c) ++ Z) = cc in
+          let j : y ≡ w = cc in
+          omega (arith, r e W Z p, rows-append row X (y ∷ []), ap (rowsIn row) j)
+
+-- the slots before the first ready one are not ready
+pub first-lowest : (us : List Slot) (x : Slot) (vs : List Slot) → length us ≡ first isReady (us ++ (x ∷ vs)) → T (every (λ y. not (isReady y)) us)
+unfolding choose
+first-lowest [] x vs e = tt
+first-lowest (u ∷ us) x vs e = go (isReady u) refl e (λ e. first-lowest us x vs e)
+  where
+    go : (b : Bool) → isReady u ≡ b → suc (length us) ≡ choose b 0 (suc (first isReady (us ++ (x ∷ vs))))
+        → (length us ≡ first isReady (us ++ (x ∷ vs)) → T (every (λ y. not (isReady y)) us)) → T (not (isReady u) && every (λ y. not (isReady y)) us)
+    go true h e r = absurd (omega arith)
+    go false h e r = rw h (r (omega arith))
+
+module _ (row : ℕ) where
+  -- the group that serves is the lowest that could
+  pub record OpenLowest (P : Pool) (c : ℕ) (s : Site) : Type 0 where
+    pub there : Open P c s
+    pub lowest : AllLive (s .before) c
+
+  -- or none could, and the run is the lowest
+  pub record NewLowest (P : Pool) (c : ℕ) (s : Site) : Type 0 where
+    pub there : New row P c s
+    pub full : AllLive P c
+    pub lowest : (W Z : Pool) → P ≡ W ++ (freshPool (rowsOf row c) ++ Z) → rows row (s .before) ≤ rows row W
+
+  pub site-lowest : (P : Pool) (c : ℕ) (s : Site) → site row P c ≡ some s → OpenLowest P c s ⊎ NewLowest P c s
+  unfolding site
+  site-lowest P c s e = go (openFrom [] c P) refl e
+    where
+      go : (o : Option Site) → openFrom [] c P ≡ o → siteOr o (runFrom row [] c P) ≡ some s → OpenLowest P c s ⊎ NewLowest P c s
+      go none h e =
+          inr (record { there = run-found row [] P c s e; full = open-none [] P c h; lowest = λ W Z q. omega (arith, run-lowest row [] P c s e W Z q) })
+      go (some r) h e =
+          let (R, a, f) = open-lowest [] P c s (h ∙ e) in
+          inl (record { there = open-found [] P c s (h ∙ e); lowest = subst (λ X. AllLive X c) (sym a) f })
+
+  pub site-none : 0 < row → (P : Pool) (c : ℕ) → site row P c ≡ none → NoPlace row P c
+  unfolding site
+  site-none pos P c e = go (openFrom [] c P) refl e
+    where
+      go : (o : Option Site) → openFrom [] c P ≡ o → siteOr o (runFrom row [] c P) ≡ none → NoPlace row P c
+      go none h e = record { all-live = open-none [] P c h; no-run = run-none row pos [] P c e }
+      go (some r) h e = let z : _≡_ {A = ℕ} 0 1 = cc in absurd (omega arith)
+
+  pub site-some : (P : Pool) (c : ℕ) (s : Site) → site row P c ≡ some s → NoPlace row P c → ⊥
+  site-some P c s e n =
+      ⊎-elim (λ o. not-all-live (s .slots) (o .room) (n .all-live (s .before) (s .after) (s .slots) (o .split)))
+      (λ m. n .no-run (s .before) (s .after) (m .split))
+      (site-found row P c s e)
+
+  -- a grant takes a place exactly if there is one
+  pub reserve-none : 0 < row → (P : Pool) (n : ℕ) → reserve row P n ≡ none → NoPlace row P (classOf n)
+  unfolding reserve
+  reserve-none pos P n e = go (site row P (classOf n)) refl e
+    where
+      go : (o : Option Site) → site row P (classOf n) ≡ o → reserveIn (classOf n) n o ≡ none → NoPlace row P (classOf n)
+      go none h e = site-none pos P (classOf n) h
+      go (some s) h e = let z : _≡_ {A = ℕ} 0 1 = cc in absurd (omega arith)
+
+  pub reserve-some : (P : Pool) (n : ℕ) (q : Place) → reserve row P n ≡ some q → NoPlace row P (classOf n) → ⊥
+  unfolding reserve
+  reserve-some P n q e = go (site row P (classOf n)) refl e
+    where
+      go : (o : Option Site) → site row P (classOf n) ≡ o → reserveIn (classOf n) n o ≡ some q → NoPlace row P (classOf n) → ⊥
+      go none h e = let z : _≡_ {A = ℕ} 0 1 = cc in absurd (omega arith)
+      go (some s) h e = site-some P (classOf n) s h

@@ -1,0 +1,104 @@
+-- What the searches make of rows, by who holds them, and blocks by their place in rows and slots.
+use Prim.Native.Nat.{ℕ, _+_, _*_, _-_, _/_, _≤_, _<_}
+use mathlib.Core.Path.{_≡_}
+use mathlib.Core.Bool.{Bool, true, not}
+use mathlib.Core.Option.{Option, none, some}
+use mathlib.Core.List.{List, _∷_, _++_}
+use lib.Dec.{T, leb}
+use lib.ListN.{length}
+use Rattle.mem.specs.Lists.{choose, every, any}
+use Rattle.classes.specs.Classes.{slotBytes, slotsOf, rowsOf}
+use Rattle.model.specs.declared.Holder.{Holder}
+use Rattle.model.specs.declared.Holder.the-variants.{Free, First, Later}
+use Rattle.model.specs.State.{Place, group, isLive, count, disp, size, slotSound, wellFormed, poolOf, slotNumber, rows}
+use Rattle.model.specs.Plans.{Site}
+use Rattle.model.specs.Tables.{Layout, LayoutLaws, rowAt, arenaRight, encodeBy, soundBy}
+use Rattle.rows.specs.declared.Found.{Found}
+use Rattle.rows.specs.declared.Found.the-variants.{At, Nothing}
+use Rattle.rows.specs.declared.Run.{Run}
+use Rattle.rows.specs.declared.Block.{Block}
+
+-- a room that is sound under an arena of n bytes, in rows of a size and in a lawful layout
+pub record Lent (L : Layout) (row n : ℕ) (t : List ℕ) : Type 0 where
+  pub laws : LayoutLaws L
+  pub pos : 0 < row
+  pub sound : soundBy L row n t ≡ true
+
+-- the rows of an arena of n bytes; 0 where the length is outside the rule
+unfoldable pub arenaRows : ℕ → ℕ → ℕ
+arenaRows row n = choose (arenaRight row n) (n / row) 0
+
+-- the class of a first row; 0 of another
+abbrev pub classHeld : Holder → ℕ
+classHeld Free = 0
+classHeld (First c) = c
+classHeld (Later k) = 0
+
+-- whether row i can be so far from its group's first
+abbrev pub reaches : ℕ → Holder → Bool
+reaches i Free = true
+reaches i (First c) = true
+reaches i (Later k) = leb k i
+
+-- the first row of the group that row i belongs to
+abbrev pub firstOf : ℕ → Holder → Found
+firstOf i Free = Nothing
+firstOf i (First c) = At i
+firstOf i (Later k) = At (i - k)
+
+module _ (row : ℕ) where
+  -- the rows of the span that a row begins
+  abbrev pub rowsHeld : Holder → ℕ
+  rowsHeld Free = 1
+  rowsHeld (First c) = rowsOf row c
+  rowsHeld (Later k) = 1
+
+  -- a run of free rows, one span further
+  abbrev pub nextRun : Run → Holder → Run
+  nextRun r Free = record { from = r .from; next = r .next + 1 }
+  nextRun r (First c) = record { from = r .next + rowsOf row c; next = r .next + rowsOf row c }
+  nextRun r (Later k) = record { from = r .from; next = r .next + 1 }
+
+  -- a site by its first row
+  abbrev pub siteFound : Option Site → Found
+  siteFound none = Nothing
+  siteFound (some s) = At (rows row (s .before))
+
+  -- a live slot's block, its start, and the first byte that its slot owns
+  abbrev pub blockOf : Place → Block
+  blockOf p = record {
+    first = rows row (p .before);
+    class = p .cls;
+    slot = slotNumber p;
+    alloc = record { count = count (p .state); disp = disp (p .state); size = size (p .state) };
+  }
+
+  abbrev pub ownedAt : Block → ℕ
+  ownedAt b = row * b .first + 12 + b .slot * slotBytes (b .class)
+
+  abbrev pub startAt : Block → ℕ
+  startAt b = row * b .first + 16 + b .slot * slotBytes (b .class) + 16 * b .alloc .disp
+
+-- a room that is the form of the pool of a live place, whose block is b
+pub record Holds (L : Layout) (row : ℕ) (t : List ℕ) (b : Block) (p : Place) : Type 0 where
+  pub laws : LayoutLaws L
+  pub pos : 0 < row
+  pub bytes : t ≡ encodeBy L row (poolOf p)
+  pub block : b ≡ blockOf row p
+  pub live : T (isLive (p .state))
+  pub formed : T (wellFormed (poolOf p))
+  pub few : rows row (poolOf p) ≤ 512
+
+-- a room with a group of class c from row i on, in which a slot can be taken: one that can serve, or a new one
+pub record Offers (L : Layout) (row : ℕ) (t : List ℕ) (i c : ℕ) (g : Site) : Type 0 where
+  pub laws : LayoutLaws L
+  pub pos : 0 < row
+  pub bytes : t ≡ encodeBy L row (g .before ++ (group c (g .slots) ∷ g .after))
+  pub first : i ≡ rows row (g .before)
+  pub few : i + rowsOf row c ≤ 512
+  pub room : rowAt (i + rowsOf row c) ≤ length t
+  pub class : c < 48
+  pub before : T (wellFormed (g .before))
+  pub slots : length (g .slots) ≡ slotsOf c
+  pub sound : T (every (slotSound c) (g .slots))
+  pub spare : T (any (λ x. not (isLive x)) (g .slots))
