@@ -7,7 +7,7 @@ use Rattle.model.specs.State.{Pool}
 use Rattle.model.specs.Answers.{done}
 use Rattle.model.specs.Plans.{freshPool}
 use Rattle.model.specs.Tables.{byMasks}
-use Rattle.model.specs.Calls.{Form, Outcome, Stands, Lawful, callBy, setUpBy, setUpRightBy}
+use Rattle.model.specs.Calls.{Form, Outcome, Stands, FormLaws, callBy, setUpBy, setUpRightBy}
 use Rattle.model.proofs.Tables.{masks-laws}
 use Rattle.model.proofs.Forms.{layout-lawful, step, inRoom, call-step, Standing, step-stands, fresh-stands}
 use Rattle.claims.specs.Alike.{Store, stored, Round, Seen, seen, FormsAlike, FirstLawful, StoresAnywhere}
@@ -30,7 +30,7 @@ module _ (row : ℕ) (pos : 0 < row) where
       let o = step row (stored a (u .stores)) P (u .asks) in
       record { answer = o .answer; arena = o .arena } ∷ watched (o .arena) (o .room) us
 
-  run-watched : (F : Form) → Lawful row F → (n : ℕ) (a : List ℕ) (P : Pool) (us : List Round) → length a ≡ n → Stands row n P
+  run-watched : (F : Form) → FormLaws row F → (n : ℕ) (a : List ℕ) (P : Pool) (us : List Round) → length a ≡ n → Stands row n P
       → seen row F a (F .encode P) us ≡ watched a P us
   unfolding seen watched
   run-watched F L n a P [] e s = refl
@@ -44,7 +44,7 @@ module _ (row : ℕ) (pos : 0 < row) where
       ∙ ap (λ (vs : List Seen). record { answer = step row b P (u .asks) .answer; arena = step row b P (u .asks) .arena } ∷ vs)
       (run-watched F L n (step row b P (u .asks) .arena) (step row b P (u .asks) .room) us (k .long) (k .stands))
 
-  set-up-watched : (F : Form) → Lawful row F → (a : List ℕ) (t : F .Room) (us : List Round) → T (setUpRightBy row F a t)
+  set-up-watched : (F : Form) → FormLaws row F → (a : List ℕ) (t : F .Room) (us : List Round) → T (setUpRightBy row F a t)
       → seen row F (setUpBy row F a t .arena) (setUpBy row F a t .room) us ≡ watched (zeros (length a)) (freshPool (length a / row)) us
   unfolding setUpBy setUpRightBy
   set-up-watched F L a t us h =

@@ -19,7 +19,7 @@ use Rattle.model.specs.Answers.{refusal}
 use Rattle.model.specs.Plans.{Plan, Site, freshPool, AllLive, NoPlace, Call, setsUp, grants, releases, resizes, measures, reports}
 use Rattle.model.specs.Plans.{plan, reserve, enframe, grantAt, grantIn, lookup}
 use Rattle.model.specs.Tables.{byMasks, view, sound}
-use Rattle.model.specs.Calls.{Result, Lawful, masked, applied, keeps, damaged, setUpRight, call, callBy, carriedBy, checkedBy, unless}
+use Rattle.model.specs.Calls.{Result, FormLaws, masked, applied, keeps, damaged, setUpRight, call, callBy, carriedBy, checkedBy, unless}
 use Rattle.model.proofs.Tables.{masks-laws, sound-facts, view-encode}
 use Rattle.model.proofs.Rooms.{rows-append}
 use Rattle.model.proofs.Fresh.{set-up-done, set-up-sound}
@@ -91,7 +91,7 @@ module _ (row : ℕ) (pos : 0 < row) (a t : List ℕ) where
   -- on sound tables, whether it is accepted or not
   pub sound-leaves : T (sound row (length a) t) → (c : Call) → Leaves (call row a t c)
   sound-leaves h c =
-      let L : Lawful row (masked row) = layout-lawful byMasks masks-laws row pos in
+      let L : FormLaws row (masked row) = layout-lawful byMasks masks-laws row pos in
       let P : Pool = view row t in
       let (s, e) = L .only (length a) t h in
       let k : Standing row pos (length a) a refl P s (step row a P c) = step-stands row pos (length a) a refl P s c in

@@ -8,7 +8,7 @@ use lib.ListN.{length}
 use Rattle.mem.specs.Bytes.{put}
 use Rattle.model.specs.Answers.{Answer}
 use Rattle.model.specs.Plans.{Call}
-use Rattle.model.specs.Calls.{Form, Lawful, masked, callBy, setUpBy, setUpRightBy}
+use Rattle.model.specs.Calls.{Form, FormLaws, masked, callBy, setUpBy, setUpRightBy}
 
 -- bytes stored anywhere in the arena; what would fall past its end is left out
 pub record Store : Type 0 where
@@ -45,11 +45,11 @@ module _ (row : ℕ) where
 
   -- THE CLAIM: any two lawful forms are alike
   abbrev pub FormsAlike : Type 1
-  FormsAlike = (F G : Form) → Lawful row F → Lawful row G → Alike F G
+  FormsAlike = (F G : Form) → FormLaws row F → FormLaws row G → Alike F G
 
   -- and the first engine's form is one of them
   abbrev pub FirstLawful : Type 0
-  FirstLawful = Lawful row (masked row)
+  FirstLawful = FormLaws row (masked row)
 
 -- the stores reach every arena: any bytes can stand in it before a call
 abbrev pub StoresAnywhere : Type 0

@@ -11,7 +11,8 @@ use Rattle.model.specs.State.{Pool, rows}
 use Rattle.model.specs.Answers.{done, refusal}
 use Rattle.model.specs.Plans.{Plan, Write, writes, copies, Call, setsUp, grants, releases, resizes, measures, reports, plan, freshPool}
 use Rattle.model.specs.Tables.{Layout, LayoutLaws, encodeBy, arenaRight, roomBytes}
-use Rattle.model.specs.Calls.{Form, Outcome, Stands, Lawful, formOf, keeps, written, unless, damaged, carriedBy, setUpRightBy, setUpBy, checkedBy, callBy}
+use Rattle.model.specs.Calls.{Form, Outcome, Stands, FormLaws, formOf, keeps, written, unless, damaged, carriedBy, setUpRightBy}
+use Rattle.model.specs.Calls.{setUpBy, checkedBy, callBy}
 use Rattle.model.proofs.Tables.{view-encode, encode-length, encode-sound, sound-facts}
 use Rattle.model.proofs.Fresh.{fresh-formed, fresh-rows, whole-rows}
 use Rattle.model.proofs.Formed.{Formed, plan-formed}
@@ -32,7 +33,7 @@ unless-case M Intact x g m n = m
 unless-case M (Damaged r) x g m n = n r
 
 -- tables in a lawful layout are a lawful form
-pub layout-lawful : (L : Layout) → LayoutLaws L → (row : ℕ) → 0 < row → Lawful row (formOf row L)
+pub layout-lawful : (L : Layout) → LayoutLaws L → (row : ℕ) → 0 < row → FormLaws row (formOf row L)
 layout-lawful L law row pos = record {
   says = view-encode law row pos;
   right = λ n P s. encode-sound law row pos P n (s .formed) (s .lawful) (s .long);
@@ -66,7 +67,7 @@ module _ (row : ℕ) where
   abbrev pub inRoom : (F : Form) → Outcome Pool → Outcome (F .Room)
   inRoom F o = record { answer = o .answer; arena = o .arena; room = F .encode (o .room) }
 
-  module _ (F : Form) (L : Lawful row F) (a : List ℕ) (P : Pool) (s : Stands row (length a) P) where
+  module _ (F : Form) (L : FormLaws row F) (a : List ℕ) (P : Pool) (s : Stands row (length a) P) where
     set-up-step : setUpBy row F a (F .encode P) ≡ inRoom F (step a P setsUp)
     unfolding setUpBy setUpRightBy
     set-up-step =

@@ -109,7 +109,7 @@ module _ (row : ℕ) where
     pub formed : T (wellFormed P)
 
   -- The laws of a form: a sound room is the one form of a state that stands, and says it; set up takes it back.
-  pub record Lawful (F : Form) : Type 0 where
+  pub record FormLaws (F : Form) : Type 0 where
     pub says : (P : Pool) → T (wellFormed P) → F .view (F .encode P) ≡ P
     pub right : (n : ℕ) (P : Pool) → Stands n P → T (F .sound n (F .encode P))
     pub only : (n : ℕ) (t : F .Room) → T (F .sound n t) → Stands n (F .view t) × (t ≡ F .encode (F .view t))

@@ -106,7 +106,7 @@ fn slots_found(
 }
 
 // The bytes of the class two below c, or 0: a request that fits them is of neither class c nor the one below.
-pub fn below(c: usize) -> usize
+fn below(c: usize) -> usize
     requires { ⌜ c < 48 ⌝ }
     ensures { λ r. ⌜ r ≡ below2 c ⌝ }
     ensures small { λ r. ⌜ r < 131072 ⌝ }
