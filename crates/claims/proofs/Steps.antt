@@ -6,7 +6,7 @@ use lib.ListN.{length-take}
 use Rattle.mem.specs.Lists.{choose, every, any}
 use Rattle.mem.specs.Bytes.{zeros, put, part}
 use Rattle.mem.proofs.Tests.{and-left, and-both, every-right, every-append, choose-case}
-use Rattle.mem.proofs.Laws.{zeros-length, zeros-none, put-all}
+use Rattle.mem.proofs.Laws.{zeros-length, zeros-none, zero-put, zeros-put, put-all, put-past}
 use Rattle.classes.specs.Classes.{slotBytes, classOf, slotsOf, rowsOf, tooLarge}
 use Rattle.classes.proofs.Laws.{rows-hold}
 use Rattle.model.specs.declared.Slot.{Slot}
@@ -45,39 +45,6 @@ unfolding slotCells choose
 fresh-cells c i zero = ap due (sym zeros-none) ∙ ap (λ k. due (zeros k)) (sym (zero-mul (slotBytes c)))
 fresh-cells c i (suc m) =
     let e : slotBytes c + m * slotBytes c ≡ suc m * slotBytes c = omega arith in simp (fresh-cells c (suc i) m, due-zeros, e)
-
--- ---- what is read after a write
-
-past-put : (p : ℕ) (bs a : List ℕ) (i : ℕ) → p + length bs ≤ i → getD (put p bs a) i 0 ≡ getD a i 0
-past-put p bs [] i h = refl
-past-put zero [] (x ∷ a) i h = refl
-past-put zero (b ∷ bs) (x ∷ a) zero h = absurd (omega arith)
-past-put zero (b ∷ bs) (x ∷ a) (suc i) h = past-put zero bs a i (omega arith)
-past-put (suc p) bs (x ∷ a) zero h = absurd (omega arith)
-past-put (suc p) bs (x ∷ a) (suc i) h = past-put p bs a i (omega arith)
-
--- zeros over a zero
-zero-put : (p k : ℕ) (a : List ℕ) (i : ℕ) → getD a i 0 ≡ 0 → getD (put p (zeros k) a) i 0 ≡ 0
-unfolding zeros
-zero-put p k [] i e = refl
-zero-put zero zero (x ∷ a) i e = e
-zero-put zero (suc k) (x ∷ a) zero e = refl
-zero-put zero (suc k) (x ∷ a) (suc i) e = zero-put zero k a i e
-zero-put (suc p) k (x ∷ a) zero e = e
-zero-put (suc p) k (x ∷ a) (suc i) e = zero-put p k a i e
-
--- zeros that are written among others
-zeros-put : (p : ℕ) (xs : List ℕ) (k : ℕ) (ys a : List ℕ) (i : ℕ) → p + length xs ≤ i → i < p + length xs + k
-    → getD (put p (xs ++ (zeros k ++ ys)) a) i 0 ≡ 0
-unfolding zeros
-zeros-put p xs k ys [] i h₁ h₂ = refl
-zeros-put zero [] zero ys (y ∷ a) i h₁ h₂ = absurd (omega arith)
-zeros-put zero [] (suc k) ys (y ∷ a) zero h₁ h₂ = refl
-zeros-put zero [] (suc k) ys (y ∷ a) (suc i) h₁ h₂ = zeros-put zero [] k ys a i (omega arith) (omega arith)
-zeros-put zero (x ∷ xs) k ys (y ∷ a) zero h₁ h₂ = absurd (omega arith)
-zeros-put zero (x ∷ xs) k ys (y ∷ a) (suc i) h₁ h₂ = zeros-put zero xs k ys a i (omega arith) (omega arith)
-zeros-put (suc p) xs k ys (y ∷ a) zero h₁ h₂ = absurd (omega arith)
-zeros-put (suc p) xs k ys (y ∷ a) (suc i) h₁ h₂ = zeros-put p xs k ys a i (omega arith) (omega arith)
 
 module _ (row : ℕ) (pos : 0 < row) where
   new-cells : (c : ℕ) → spanCells row (group c (replicate (slotsOf c) Fresh)) ≡ due (zeros (row * rowsOf row c))
@@ -233,7 +200,7 @@ module _ (row : ℕ) (pos : 0 < row) where
           whole = block-whole P w a g p o b;
           cleared = λ _ i g.
               release-zero (poolOf q) (start row p) (put (start row q) bs x) i
-              (past-put (start row q) bs x i (omega (arith, g .0)) ∙ framed q a i (omega (arith, g .0)) (omega (arith, g .1)));
+              (put-past (start row q) bs x i 0 (omega (arith, g .0)) ∙ framed q a i (omega (arith, g .0)) (omega (arith, g .1)));
         }
 
     pub plan-kept : (c : Call) → Kept P c a (plan row P c)

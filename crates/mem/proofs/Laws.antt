@@ -5,7 +5,7 @@ use Rattle.mem.proofs.Prelude.{eqb, ltb, eqb→eq, ltb→lt, eqb-refl, 
 use Rattle.mem.proofs.Prelude.{length-replicate, take-append-drop, drop-drop, drop-cons, getD-drop, length-take-le}
 use native.Mathlib.Nat.{add-suc, suc-add, add-comm, mul-zero, mul-suc}
 use lib.ListN.{replicate-append-replicate}
-use lib.Seq.{sets, sets-eq, length-sets, take-take, take-set-le, drop-append-add, drop-set-lt, drop-set-add, getD-take}
+use lib.Seq.{sets, sets-eq, length-sets, take-take, take-set-le, drop-append-add, drop-set-lt, drop-set-add, getD-take, take-at}
 use Rattle.mem.specs.Bytes.{zeros, low, number, same, part, put}
 use Rattle.mem.specs.Lists.{every, join}
 use Rattle.mem.proofs.Tests.{and-left, and-right, and-both, same-test, eq→eqb, every-by, every-left, every-right}
@@ -109,6 +109,37 @@ module _ {ℓ} {A : Type ℓ} where
       ∙ ap (take k) (drop-set-add p xs (i - p) v)
       ∙ take-set-le k (drop p xs) (i - p) v (omega arith)
 
+  -- a write outside a part leaves it alone, and a part where one was written is that
+  pub part-put : (p k q : ℕ) (vs xs : List A) → (p + k ≤ q) ⊎ (q + length vs ≤ p) → part p k (put q vs xs) ≡ part p k xs
+  part-put p k q [] xs h = ap (part p k) (put-nil q xs)
+  part-put p k q (v ∷ vs) xs (inl h) =
+      ap (part p k) (put-cons q v vs xs) ∙ part-put p k (suc q) vs (set xs q v) (inl (omega arith)) ∙ part-set p k xs q v (inr h)
+  part-put p k q (v ∷ vs) xs (inr h) =
+      ap (part p k) (put-cons q v vs xs) ∙ part-put p k (suc q) vs (set xs q v) (inr (omega arith)) ∙ part-set p k xs q v (inl (omega arith))
+
+  pub part-written : (p k : ℕ) (vs xs : List A) → length vs ≡ k → p + k ≤ length xs → part p k (put p vs xs) ≡ vs
+  part-written p k vs xs e h =
+      let l : length (take p xs) ≡ p = length-take-le p xs (omega arith) in
+      let q : p ≡ length (take p xs) + 0 = omega arith in
+      ap (part p k) (put-split p vs xs (omega arith)) ∙ ap (λ (j : ℕ). part j k (take p xs ++ (vs ++ drop (p + length vs) xs))) q
+      ∙ part-back 0 k (take p xs) (vs ++ drop (p + length vs) xs) ∙ take-at vs (drop (p + length vs) xs) k e
+
+  -- ---- what is read after a write: before it, and past it
+
+  pub put-before : (p : ℕ) (vs xs : List A) (i : ℕ) (d : A) → i < p → getD (put p vs xs) i d ≡ getD xs i d
+  put-before p vs [] i d h = refl
+  put-before zero vs (x ∷ xs) i d h = absurd (omega arith)
+  put-before (suc p) vs (x ∷ xs) zero d h = refl
+  put-before (suc p) vs (x ∷ xs) (suc i) d h = put-before p vs xs i d (omega arith)
+
+  pub put-past : (p : ℕ) (vs xs : List A) (i : ℕ) (d : A) → p + length vs ≤ i → getD (put p vs xs) i d ≡ getD xs i d
+  put-past p vs [] i d h = refl
+  put-past zero [] (x ∷ xs) i d h = refl
+  put-past zero (v ∷ vs) (x ∷ xs) zero d h = absurd (omega arith)
+  put-past zero (v ∷ vs) (x ∷ xs) (suc i) d h = put-past zero vs xs i d (omega arith)
+  put-past (suc p) vs (x ∷ xs) zero d h = absurd (omega arith)
+  put-past (suc p) vs (x ∷ xs) (suc i) d h = put-past p vs xs i d (omega arith)
+
 -- ---- zeros
 
 pub zeros-length : (n : ℕ) → length (zeros n) ≡ n
@@ -136,6 +167,29 @@ unfolding zeros
 zeros-at zero i = refl
 zeros-at (suc n) zero = refl
 zeros-at (suc n) (suc i) = zeros-at n i
+
+-- zeros over a zero
+pub zero-put : (p k : ℕ) (a : List ℕ) (i : ℕ) → getD a i 0 ≡ 0 → getD (put p (zeros k) a) i 0 ≡ 0
+unfolding zeros
+zero-put p k [] i e = refl
+zero-put zero zero (x ∷ a) i e = e
+zero-put zero (suc k) (x ∷ a) zero e = refl
+zero-put zero (suc k) (x ∷ a) (suc i) e = zero-put zero k a i e
+zero-put (suc p) k (x ∷ a) zero e = e
+zero-put (suc p) k (x ∷ a) (suc i) e = zero-put p k a i e
+
+-- zeros that are written among others
+pub zeros-put : (p : ℕ) (xs : List ℕ) (k : ℕ) (ys a : List ℕ) (i : ℕ) → p + length xs ≤ i → i < p + length xs + k
+    → getD (put p (xs ++ (zeros k ++ ys)) a) i 0 ≡ 0
+unfolding zeros
+zeros-put p xs k ys [] i h₁ h₂ = refl
+zeros-put zero [] zero ys (y ∷ a) i h₁ h₂ = absurd (omega arith)
+zeros-put zero [] (suc k) ys (y ∷ a) zero h₁ h₂ = refl
+zeros-put zero [] (suc k) ys (y ∷ a) (suc i) h₁ h₂ = zeros-put zero [] k ys a i (omega arith) (omega arith)
+zeros-put zero (x ∷ xs) k ys (y ∷ a) zero h₁ h₂ = absurd (omega arith)
+zeros-put zero (x ∷ xs) k ys (y ∷ a) (suc i) h₁ h₂ = zeros-put zero xs k ys a i (omega arith) (omega arith)
+zeros-put (suc p) xs k ys (y ∷ a) zero h₁ h₂ = absurd (omega arith)
+zeros-put (suc p) xs k ys (y ∷ a) (suc i) h₁ h₂ = zeros-put p xs k ys a i (omega arith) (omega arith)
 
 -- ---- tests of equality
 

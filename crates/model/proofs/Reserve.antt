@@ -9,7 +9,8 @@ use Rattle.mem.specs.Lists.{choose, every, any, first}
 use Rattle.mem.proofs.Tests.{and-left, and-right, and-both, every-left, every-right, every-append, choose-case, T-true, true-T}
 use Rattle.mem.proofs.Splits.{Before, Within, Behind, splits}
 use Rattle.classes.specs.Classes.{slotBytes, classOf, slotsOf, rowsOf, tooLarge}
-use Rattle.classes.proofs.Laws.{ClassFacts, class-facts, slots-pos, rows-pos}
+use Rattle.classes.specs.Facts.{ClassFacts}
+use Rattle.classes.proofs.Laws.{class-facts, slots-pos, rows-pos}
 use Rattle.model.specs.declared.Slot.{Slot}
 use Rattle.model.specs.declared.Slot.the-variants.{Fresh, Idle, Live}
 use Rattle.model.specs.State.{Span, Pool, Place, free, group, isLive, isReady, count, slotSound, spanSound, wellFormed, poolOf, slotNumber, rows, size}

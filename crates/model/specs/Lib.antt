@@ -4,3 +4,4 @@ pub mod Answers
 pub mod Plans
 pub mod Tables
 pub mod Calls
+pub mod Bench

@@ -1,0 +1,107 @@
+-- The bench sheet of document 01, W4 and W5 apart, with the facts under it: one list, and how a line of it is read over arena and table
+-- room.
+use Prim.Native.Nat.{ℕ, zero, suc, _+_, _/_}
+use mathlib.Core.Bool.{Bool, true, false, _&&_}
+use mathlib.Core.List.{List, [], _∷_, _++_}
+use lib.Dec.{eqb}
+use lib.ListN.{length, set}
+use Rattle.mem.specs.Lists.{choose}
+use Rattle.mem.specs.Bytes.{zeros, same, part}
+use Rattle.classes.specs.Classes.{rowBytes, slotsOf, rowsOf, classOf}
+use Rattle.model.specs.Plans.{Call, grants, releases, resizes, measures, reports}
+use Rattle.model.specs.Tables.{roomBytes}
+use Rattle.model.specs.Calls.{call, setUp}
+
+-- a line of the sheet: a call with the number and values due, bytes due from a place on, or a store into the arena
+pub data Line : Type 0 where
+  asks : Call → (number : ℕ) (values : List ℕ) → Line
+  shows : (at : ℕ) → List ℕ → Line
+  stores : (at byte : ℕ) → Line
+
+-- an entry of the sheet: lines over a fresh pool of some arena length, a size with its class, or a class with the slots and rows of its
+-- groups
+pub data Entry : Type 0 where
+  fresh : (arena : ℕ) → List Line → Entry
+  class : (n c : ℕ) → Entry
+  groups : (c slots rows : ℕ) → Entry
+
+-- a call that gives one value, and one that is refused
+abbrev pub gives : Call → ℕ → Line
+gives c v = asks c 0 (v ∷ [])
+
+abbrev pub refuses : Call → ℕ → Line
+refuses c k = asks c k (0 ∷ [])
+
+abbrev pub bytes4 : ℕ → ℕ → ℕ → ℕ → List ℕ
+bytes4 a b c d = a ∷ b ∷ c ∷ d ∷ []
+
+-- n grants of 160 bytes, the first at a place, each 192 bytes after the one before
+abbrev pub grants160 : ℕ → ℕ → List Line
+grants160 zero at = []
+grants160 (suc n) at = gives (grants 160) at ∷ grants160 n (at + 192)
+
+unfoldable pub sheet : List Entry
+sheet =
+    -- W1, W2
+    fresh 512 (gives (grants 0) 16 ∷ shows 12 (bytes4 0 160 0 0) ∷ shows 24 (bytes4 12 0 0 0)
+    ∷ gives (grants 12) 32 ∷ shows 28 (bytes4 0 1 1 0) ∷ [])
+    -- W3, W6
+    ∷ fresh 512 (refuses (grants 13) 8 ∷ refuses (grants 131052) 3 ∷ [])
+    -- W7
+    ∷ fresh 4096 (gives (grants 160) 16 ∷ gives (grants 160) 208 ∷ gives (releases 16) 0 ∷ gives (grants 160) 400 ∷ [])
+    -- W8, W9
+    ∷ fresh 4096 (grants160 21 16 ++ (gives (releases 16) 0 ∷ gives (grants 160) 32 ∷ shows 28 (bytes4 0 160 1 0)
+    ∷ shows 200 (bytes4 12 0 0 0) ∷ refuses (releases 16) 4 ∷ []))
+    -- W10
+    ∷ fresh 4096 (gives (grants 160) 16 ∷ gives (grants 160) 208 ∷ gives (releases 16) 0 ∷ refuses (releases 16) 5 ∷ [])
+    -- W11
+    ∷ fresh 4096 (gives (grants 160) 16 ∷ gives (releases 16) 0 ∷ refuses (releases 16) 4 ∷ [])
+    -- W12: the guard of 160 bytes is gone from the block that grew, and that of 141 is there
+    ∷ fresh 4096 (gives (grants 160) 16 ∷ shows 200 (bytes4 28 0 0 0) ∷ gives (resizes 16 188) 16 ∷ shows 200 (bytes4 0 0 0 0)
+    ∷ gives (resizes 16 141) 16 ∷ shows 200 (bytes4 47 0 0 0) ∷ [])
+    -- W13
+    ∷ fresh 4096 (gives (grants 160) 16 ∷ refuses (resizes 16 189) 8 ∷ [])
+    ∷ fresh 8192 (gives (grants 160) 16 ∷ gives (resizes 16 189) 4112 ∷ [])
+    -- "Class 0: 31 slots, 1 row. Class 10: 21 slots, 8 rows. Class 47: 1 slot, 256 rows."
+    ∷ groups 0 31 1 ∷ groups 10 21 8 ∷ groups 47 1 256
+    -- "Size 156 is class 9, 157 class 10. From 160 in class 10, resize to 140 must move (class 8)."
+    ∷ class 156 9 ∷ class 157 10 ∷ class 160 10 ∷ class 140 8
+    ∷ fresh 8192 (gives (grants 160) 16 ∷ gives (resizes 16 140) 4112 ∷ gives (measures 4112) 140 ∷ refuses (measures 16) 4 ∷ [])
+    -- "A wrong header and a wrong guard: answer 6."
+    ∷ fresh 4096 (gives (grants 160) 16 ∷ stores 13 1 ∷ stores 203 1 ∷ refuses (releases 16) 6 ∷ refuses (measures 16) 6
+    ∷ refuses (resizes 16 7) 6 ∷ [])
+    -- "In W7's first block a store of 1 at byte 199 makes release answer 7; at byte 198 release is done." What release
+    -- leaves of the block is zero, the guard too.
+    ∷ fresh 4096 (gives (grants 160) 16 ∷ gives (grants 160) 208 ∷ stores 199 1 ∷ refuses (releases 16) 7
+    ∷ stores 199 0 ∷ stores 198 1 ∷ gives (releases 16) 0 ∷ shows 196 (bytes4 0 0 0 0) ∷ shows 200 (bytes4 0 0 0 0)
+    ∷ asks reports 0 (1 ∷ 160 ∷ 8 ∷ 0 ∷ 19 ∷ 1 ∷ []) ∷ [])
+    -- "Offset 0 is never a start."
+    ∷ fresh 512 (gives (grants 0) 16 ∷ refuses (releases 0) 4 ∷ refuses (measures 0) 4 ∷ refuses (resizes 0 0) 4 ∷ [])
+    -- "the first bytes, as many as the lesser of old and new n, stay, all from there to the end become zero": a block that grows, then
+    -- shrinks, where it is
+    ∷ fresh 4096 (gives (grants 160) 16 ∷ stores 16 7 ∷ stores 175 9 ∷ gives (resizes 16 188) 16 ∷ shows 16 (7 ∷ []) ∷ shows 175 (9 ∷ 0 ∷ [])
+    ∷ stores 156 5 ∷ stores 157 6 ∷ gives (resizes 16 141) 16 ∷ shows 16 (7 ∷ []) ∷ shows 156 (5 ∷ 0 ∷ []) ∷ gives (measures 16) 141 ∷ [])
+    -- "that many bytes are copied, then the old is released": a block that grows by a move, and one that shrinks by a move
+    ∷ fresh 8192 (gives (grants 160) 16 ∷ stores 16 7 ∷ stores 175 9 ∷ gives (resizes 16 189) 4112 ∷ shows 4112 (7 ∷ []) ∷ shows 4271 (9 ∷ 0 ∷ [])
+    ∷ shows 16 (0 ∷ []) ∷ shows 175 (0 ∷ []) ∷ [])
+    ∷ fresh 8192 (gives (grants 160) 16 ∷ stores 16 7 ∷ stores 155 5 ∷ stores 156 6 ∷ gives (resizes 16 140) 4112 ∷ shows 4112 (7 ∷ [])
+    ∷ shows 4251 (5 ∷ 0 ∷ []) ∷ shows 155 (0 ∷ 0 ∷ []) ∷ [])
+    ∷ []
+
+-- the lines that are so, over an arena and a table room
+unfoldable pub passes : List ℕ → List ℕ → List Line → Bool
+passes a t [] = true
+passes a t (asks c k vs ∷ ls) =
+    let r = call rowBytes a t c in
+    let rest = passes (r .arena) (r .room) ls in
+    let right : Bool = eqb (r .answer .number) k && same (r .answer .values) vs in
+    choose right rest false
+passes a t (shows p bs ∷ ls) = let rest = passes a t ls in choose (same (part p (length bs) a) bs) rest false
+passes a t (stores p b ∷ ls) = passes (set a p b) t ls
+
+unfoldable pub right : Entry → Bool
+right (fresh n ls) =
+    let r = setUp rowBytes (zeros n) (zeros (roomBytes (n / rowBytes))) in
+    eqb (r .answer .number) 0 && passes (r .arena) (r .room) ls
+right (class n c) = eqb (classOf n) c
+right (groups c s r) = eqb (slotsOf c) s && eqb (rowsOf rowBytes c) r
