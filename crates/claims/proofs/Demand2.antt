@@ -1,9 +1,8 @@
 -- Demand 2: release, measure and grant accept exactly what document 01 says, a granted block is where and what it says, and live blocks
 -- never share a byte.
 use Rattle.mem.proofs.Prelude.{_∙_, _≡_, sym, ap, refl, ap₂, subst, true, Bool, false, not, ⊎-elim, inl, inr, _⊎_, some, none, Option, List, [], _∷_}
-use Rattle.mem.proofs.Prelude.{_++_, ℕ, _<_, _≤_, mul-add, arith, T, T-not, length}
+use Rattle.mem.proofs.Prelude.{_++_, ℕ, _<_, _≤_, _*_, arith, T, T-not, length}
 use mathlib.Core.Logic.{_↔_}
-use native.Mathlib.Nat.{suc-mul}
 use Rattle.mem.specs.Lists.{choose, first}
 use Rattle.mem.specs.Bytes.{put}
 use Rattle.mem.proofs.Tests.{T-true}
@@ -21,11 +20,10 @@ use Rattle.model.specs.Plans.{plan, reserve, enframe, grantAt, grantIn, lookup}
 use Rattle.model.specs.Tables.{byMasks, view, sound}
 use Rattle.model.specs.Calls.{Result, FormLaws, masked, applied, keeps, damaged, setUpRight, call, callBy, carriedBy, checkedBy, unless}
 use Rattle.model.proofs.Tables.{masks-laws, sound-facts, view-encode}
-use Rattle.model.proofs.Rooms.{rows-append}
 use Rattle.model.proofs.Fresh.{set-up-done, set-up-sound}
 use Rattle.model.proofs.Forms.{layout-lawful, step, call-step, Standing, step-stands}
 use Rattle.model.proofs.Calls.{Asks, call-sound}
-use Rattle.model.proofs.Lookup.{All, Fits, fits, disp-inside, slot-inside, Owns, owned-unique}
+use Rattle.model.proofs.Lookup.{All, Fits, fits, disp-inside, owned-inside, Owns, owned-unique}
 use Rattle.model.proofs.Reserve.{groupOf, Served, served, reserve-formed, reserve-size}
 use Rattle.model.proofs.Lowest.{site-lowest, first-lowest}
 use Rattle.claims.specs.Demand1.{order, offsetIn, FirstDue, StartsAt, LiveAt, headerDue, guardDue, Due}
@@ -41,7 +39,7 @@ unrefuted false f = absurd (f tt)
 
 -- a call's number is 0 exactly if no reason that it tests is due
 module _ (D : Refusal → Type 0) where
-  none-due : (rs : List Refusal) (k : ℕ) → FirstDue D rs k → k ≡ 0 → All (λ r. D r → ⊥) rs
+  pub none-due : (rs : List Refusal) (k : ℕ) → FirstDue D rs k → k ≡ 0 → All (λ r. D r → ⊥) rs
   none-due [] k d z = tt
   none-due (r ∷ rs) k (inl (e, _)) z = absurd (refuses r (sym e ∙ z))
   none-due (r ∷ rs) k (inr (n, d)) z = (n, none-due rs k d z)
@@ -121,10 +119,25 @@ module _ (row : ℕ) (pos : 0 < row) (a t : List ℕ) (s : T (sound row (length 
   w : T (wellFormed P)
   w = sound-facts byMasks row (length a) t s .formed
 
+  -- where no reason of the block at an offset is due, it is live and intact
+  pub found-intact : (c : Call) (rs : List Refusal) → All (λ r. Due row a t c r → ⊥) (blockFirst rs) → (p : Place) × demand2.Intact row a P (offsetIn c) p
+  found-intact c rs n = whole (lookup row P o) refl n
+    where
+      o : ℕ
+      o = offsetIn c
+
+      whole : (r : Option Place) → lookup row P o ≡ r → All (λ r. Due row a t c r → ⊥) (blockFirst rs) → (p : Place) × demand2.Intact row a P o p
+      whole none e (n₄, _) = absurd (n₄ (λ p h. none-starts row pos P o p w e h))
+      whole (some p) e (_, (n₅, (n₆, (n₇, _)))) =
+          let h : StartsAt row P o p = found-starts row pos P o p e in
+          let l : LiveAt row P o p = record { here = h; live = unrefuted (isLive (p .state)) (λ d. n₅ (p, h, d)) } in
+          let m : T (headerDue row a p) = unrefuted (headerDue row a p) (λ d. n₆ (p, l, d)) in
+          (p, record { live = l; header = m; guard = unrefuted (guardDue row a p) (λ d. n₇ (p, l, m, d)) })
+
   -- the number of a call on the block at an offset is 0 exactly if a live, intact block starts there
   exactly : (c : Call) (k : ℕ) → FirstDue (Due row a t c) (Unsound ∷ blockFirst []) k → (k ≡ 0) ↔ ((p : Place) × demand2.Intact row a P (offsetIn c) p)
   exactly c k d = (
-    λ z. whole (lookup row P o) refl (none-due (Due row a t c) (Unsound ∷ blockFirst []) k d z),
+    λ z. found-intact c [] (none-due (Due row a t c) (Unsound ∷ blockFirst []) k d z .1),
     λ (p, i). due-none (Due row a t c) (Unsound ∷ blockFirst []) k d (fine p i),
   )
     where
@@ -133,14 +146,6 @@ module _ (row : ℕ) (pos : 0 < row) (a t : List ℕ) (s : T (sound row (length 
 
       Fine : Type 0
       Fine = All (λ r. Due row a t c r → ⊥) (Unsound ∷ blockFirst [])
-
-      whole : (r : Option Place) → lookup row P o ≡ r → Fine → (p : Place) × demand2.Intact row a P o p
-      whole none e (_, (n₄, _)) = absurd (n₄ (λ p h. none-starts row pos P o p w e h))
-      whole (some p) e (_, (_, (n₅, (n₆, (n₇, _))))) =
-          let h : StartsAt row P o p = found-starts row pos P o p e in
-          let l : LiveAt row P o p = record { here = h; live = unrefuted (isLive (p .state)) (λ d. n₅ (p, h, d)) } in
-          let m : T (headerDue row a p) = unrefuted (headerDue row a p) (λ d. n₆ (p, l, d)) in
-          (p, record { live = l; header = m; guard = unrefuted (guardDue row a p) (λ d. n₇ (p, l, m, d)) })
 
       fine : (p : Place) → demand2.Intact row a P o p → Fine
       fine p i =
@@ -250,8 +255,7 @@ module _ (row : ℕ) (pos : 0 < row) where
   never-shared n t h = record {
     shared = λ p q i e f _ _ b d. owned-unique row pos q p i (of q f) (e ∙ sym f) (in-slot q i d) (in-slot p i b);
     inside = λ p i e _ b.
-        rw (← e, rows-append row (p .before) (groupOf p ∷ p .after), mul-add, mul-add)
-        (omega (arith, b .to, slot-inside row pos p (of p e), suc-mul (slotNumber p) (slotBytes (p .cls))));
+        omega (arith, b .to, owned-inside row pos p (of p e), ap (λ P. row * rows row P) e);
     whole = λ p i e _ l u. record {
       from = omega arith;
       to = let f : Fits p = fits p (of p e) in omega (arith, disp-inside (p .cls) (p .state) (f .class) (f .state));

@@ -3,6 +3,7 @@ pub mod Bench
 pub mod Cases
 pub mod Demand1
 pub mod Demand2
+pub mod AsSaid
 pub mod Cells
 pub mod Steps
 pub mod Requested

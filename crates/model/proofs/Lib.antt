@@ -9,3 +9,4 @@ pub mod Blocks
 pub mod Formed
 pub mod Calls
 pub mod Forms
+pub mod Moves

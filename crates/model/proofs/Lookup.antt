@@ -14,6 +14,7 @@ use Rattle.model.specs.State.{Span, Pool, Place, free, group, granted, d
 use Rattle.model.specs.State.{slotPlaces, placesFrom, places, rowsIn, rows, owned, start}
 use Rattle.model.specs.Plans.{lookup}
 use Rattle.model.proofs.Tables.{group-slots}
+use Rattle.model.proofs.Rooms.{rows-append}
 
 -- ---- lists
 
@@ -273,6 +274,12 @@ module _ (row : ℕ) (pos : 0 < row) where
       let f : Of P p × T (eqb (start row p) o) = find-some (Of P) (λ q. eqb (start row q) o) (places P) p e (places-of P) in
       (f .0 .0, f .0 .1, eqb→eq (start row p) o (f .1))
 
+  -- its bytes lie in the pool's rows
+  pub owned-inside : (p : Place) → T (wellFormed (poolOf p)) → owned row p + slotBytes (p .cls) ≤ row * rows row (poolOf p)
+  owned-inside p w =
+      rw (rows-append row (p .before) (group (p .cls) (p .lower ++ (p .state ∷ p .upper)) ∷ p .after), mul-add, mul-add)
+      (omega (arith, slot-inside p w, suc-mul (slotNumber p) (slotBytes (p .cls))))
+
 -- ---- slots never share a byte
 
 -- byte i is one that a slot owns
@@ -288,7 +295,7 @@ one-slot s i j x a b c d =
 
 module _ (row : ℕ) (pos : 0 < row) where
   -- the row of an owned byte is one of its group's
-  owned-row : (p : Place) (i : ℕ) → T (wellFormed (poolOf p)) → Owns row p i
+  pub owned-row : (p : Place) (i : ℕ) → T (wellFormed (poolOf p)) → Owns row p i
       → InRows row pos (i / row) (p .before) (group (p .cls) (p .lower ++ (p .state ∷ p .upper)))
   owned-row p i w o = record {
     from = le-div-iff-mul-le pos .1 (omega (arith, o .from, mul-comm row (rows row (p .before))));

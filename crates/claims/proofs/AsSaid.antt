@@ -1,0 +1,127 @@
+-- Release and resize leave what document 01 says, measure and report leave everything, and no block starts at 0.
+use Rattle.mem.proofs.Prelude.{_∙_, _≡_, sym, ap, refl, ap₂, subst, true, Bool, false, _&&_, _||_, not, true≢false, ⊎-elim, inl, inr, _⊎_, some, none, Option, List, [], _∷_}
+use Rattle.mem.proofs.Prelude.{_++_, append-assoc, append-nil, _+_, ℕ, _<_, _≤_, _*_, _-_, _/_, suc, min, mul-comm, le-div-iff-mul-le, mul-add, arith}
+use Rattle.mem.proofs.Prelude.{eqb-false, eqb-true, lt-leb, T, eqb, leb, leb→le, le→leb, T-not, length, getD, length-append}
+use native.Mathlib.Nat.{div-lt-iff-lt-mul}
+use Rattle.mem.specs.Lists.{choose, any, every}
+use Rattle.mem.specs.Bytes.{zeros, put, part}
+use Rattle.mem.proofs.Tests.{T-true, true-T, and-left, and-right, and-both, every-right, choose-case, choose-true, choose-false}
+use Rattle.mem.proofs.Laws.{put-length, put-append, put-before, put-past, part-put, part-written, part-length, part-part, getD-part, zeros-length}
+use Rattle.mem.proofs.Laws.{zeros-add, zeros-put, eq→same}
+use Rattle.classes.specs.Classes.{slotBytes, classOf, rowsOf, tooLarge}
+use Rattle.model.specs.declared.Slot.{Slot}
+use Rattle.model.specs.declared.Slot.the-variants.{Fresh, Idle, Live}
+use Rattle.model.specs.declared.Refusal.the-variants.{NoRoom}
+use Rattle.model.specs.declared.Damage.the-variants.{Intact}
+use Rattle.model.specs.State.{Span, Pool, Place, group, isLive, disp, size, wellFormed, poolOf, slotNumber, rows, base, owned, start}
+use Rattle.model.specs.Blocks.{reserved, header, guard, spare, headerRight, guardRight, damageIn, damage, frame}
+use Rattle.model.specs.Plans.{Plan, Call, grants, releases, resizes, measures, reports, plan, lookup, onBlock, releaseAt, release, measureAt, measure, report}
+use Rattle.model.specs.Plans.{inPlace, resizeInPlace, resizeMove, moveTo, resizeAt, resize, reserve, grantAt, grant, enframe}
+use Rattle.model.specs.Tables.{byMasks, encode, view, sound}
+use Rattle.model.specs.Calls.{Result, masked, applied, written, carried, call}
+use Rattle.model.proofs.Tables.{masks-laws, Sound, sound-facts, view-encode, encode-sound}
+use Rattle.model.proofs.Blocks.{header-length, guard-fits, spare-length, frame-length}
+use Rattle.model.proofs.Lookup.{Fits, fits, disp-inside, InRows, span-unique, split-unique, same-placed, owned-inside, Owns, owned-row}
+use Rattle.model.proofs.Reserve.{Granted, reserve-formed, reserve-size, groupOf, served}
+use Rattle.model.proofs.Formed.{Formed, release-formed, resize-in-place-formed}
+use Rattle.model.proofs.Calls.{Asks, call-sound, carried-whole, on-live}
+use Rattle.model.proofs.Moves.{Old, old, old-released, old-apart, stays-owned}
+use Rattle.claims.specs.Demand1.{order, Due, StartsAt}
+use Rattle.claims.specs.Demand2 as demand2
+use Rattle.claims.specs.AsSaid.{ZeroedOnly, NeverAtZero, Unchanged, ReadsOnly, Waits, Goes, Released, ReleasesAsSaid, Serves, sized, stay, InPlace, Moved}
+use Rattle.claims.specs.AsSaid.{Resized, ResizesAsSaid}
+use Rattle.claims.proofs.Cases.{release-parts, on-named, reserve-live}
+use Rattle.claims.proofs.Demand1.{demand1, starts-found}
+use Rattle.claims.proofs.Demand2.{Accepted, accepted, none-due, found-intact, releases-exactly}
+
+-- ---- no block starts at 0
+
+pub never-at-zero : (row : ℕ) → NeverAtZero row
+never-at-zero row P p s = omega (arith, s .starts)
+
+-- ---- measure and report
+
+module _ (row : ℕ) (pos : 0 < row) (a t : List ℕ) where
+  -- a call whose plan changes nothing, refused or not
+  unchanged : (c : Call) → Asks c → (plan row (view row t) c .changes ≡ []) × (plan row (view row t) c .pool ≡ view row t) → Unchanged row a t c
+  unchanged c k (e, f) = go (eqb (call row a t c .answer .number) 0) refl
+    where
+      go : (b : Bool) → eqb (call row a t c .answer .number) 0 ≡ b → Unchanged row a t c
+      go true z =
+          let y : Accepted row pos a t c = accepted row pos a t c k (eqb-true (call row a t c .answer .number) 0 z) in
+          record {
+            arena = ap (λ (r : Result). r .arena) (y .left) ∙ ap (written a) e;
+            room = ap (λ (r : Result). r .room) (y .left) ∙ ap (encode row) f ∙ sym (sound-facts byMasks row (length a) t (y .sound-tables) .form);
+          }
+      go false z =
+          let r = demand1 row pos a t c .refused (eqb-false (call row a t c .answer .number) 0 z) in
+          record { arena = r .0; room = r .1 }
+
+  measures-nothing : (o : ℕ) → (plan row (view row t) (measures o) .changes ≡ []) × (plan row (view row t) (measures o) .pool ≡ view row t)
+  unfolding plan measure
+  measures-nothing o =
+      on-named row pos (view row t) (λ (l : Plan). (l .changes ≡ []) × (l .pool ≡ view row t)) (λ r. (refl, refl)) o (measureAt row (view row t))
+      (λ p b. (refl, refl))
+
+  reports-nothing : (plan row (view row t) reports .changes ≡ []) × (plan row (view row t) reports .pool ≡ view row t)
+  unfolding plan report
+  reports-nothing = (refl, refl)
+
+pub reads-only : (row : ℕ) → 0 < row → ReadsOnly row
+reads-only row pos = record {
+  measured = λ a t o. unchanged row pos a t (measures o) tt (measures-nothing row pos a t o);
+  reported = λ a t. unchanged row pos a t reports tt (reports-nothing row pos a t);
+}
+
+-- ---- release
+
+-- zeros written from a place on
+zeroed : (a b : List ℕ) (p k : ℕ) → b ≡ put p (zeros k) a → ZeroedOnly a b p k
+zeroed a b p k e = record {
+  long = ap length e ∙ put-length p (zeros k) a;
+  zero = λ i h l. ap (λ c. getD c i 0) e ∙ ap (λ bs. getD (put p bs a) i 0) (sym (append-nil (zeros k))) ∙ zeros-put p [] k [] a i (omega arith) (omega arith);
+  others = λ i h.
+      ap (λ c. getD c i 0) e
+      ∙ ⊎-elim (put-before p (zeros k) a i 0) (λ l. put-past p (zeros k) a i 0 (omega (arith, l, zeros-length k))) h;
+}
+
+none-live : (ss : List Slot) → any isLive ss ≡ false → T (every (λ x. not (isLive x)) ss)
+none-live [] e = tt
+none-live (Fresh ∷ ss) e = none-live ss e
+none-live (Idle r k d ∷ ss) e = none-live ss e
+none-live (Live a ∷ ss) e = absurd (true≢false e)
+
+module _ (row : ℕ) (pos : 0 < row) (a : List ℕ) (p : Place) (w : T (wellFormed (poolOf p))) (l : T (isLive (p .state))) (r : Result)
+    (done : r ≡ applied (masked row) a (releaseAt row p)) where
+  -- what the plan of a live block's release leaves
+  released-as-said : Waits row a p r ⊎ Goes row a p r
+  unfolding releaseAt
+  released-as-said =
+      choose-case (λ (q : Plan). view row (r .room) ≡ q .pool → r .arena ≡ written a (q .changes) → Waits row a p r ⊎ Goes row a p r)
+      (any isLive (p .lower ++ p .upper)) _ _
+      (λ e v x. inl (record { other-live = true-T (any isLive (p .lower ++ p .upper)) e; pool = v; bytes = zeroed a (r .arena) _ _ x }))
+      (λ e v x. inr (record { none-live = none-live (p .lower ++ p .upper) e; pool = v; bytes = zeroed a (r .arena) _ _ x }))
+      (ap (λ (r : Result). view row (r .room)) done ∙ view-encode masks-laws row pos (releaseAt row p .pool) (release-formed row p w l .formed))
+      (ap (λ (r : Result). r .arena) done)
+
+-- the plan of a call on the live block that starts at an offset
+module _ (row : ℕ) (pos : 0 < row) (P : Pool) (w : T (wellFormed P)) (a : List ℕ) (o : ℕ) (p : Place) (i : demand2.Intact row a P o p) where
+  on-intact : (f : Place → Plan) → onBlock P f (lookup row P o) ≡ f p
+  on-intact f = ap (onBlock P f) (starts-found row pos P o p w (i .live .here)) ∙ on-live P f p (i .live .live)
+
+  place-formed : T (wellFormed (poolOf p))
+  place-formed = subst (λ Q. T (wellFormed Q)) (sym (i .live .here .slotted .pool)) w
+
+pub releases-as-said : (row : ℕ) → 0 < row → ReleasesAsSaid row
+unfolding plan release
+releases-as-said row pos a t o z =
+    let y : Accepted row pos a t (releases o) = accepted row pos a t (releases o) tt z in
+    let w : T (wellFormed (view row t)) = sound-facts byMasks row (length a) t (y .sound-tables) .formed in
+    let (p, i) = releases-exactly row pos a t o (y .sound-tables) .0 z in
+    let l : call row a t (releases o) ≡ applied (masked row) a (releaseAt row p) =
+    y .left ∙ ap (applied (masked row) a) (on-intact row pos (view row t) w a o p i (releaseAt row)) in
+    (p, record {
+      block = i;
+      value = ap (λ (r : Result). r .answer .values) l ∙ ap (λ r. r .values) (release-parts row p .1);
+      left = released-as-said row pos a p (place-formed row pos (view row t) w a o p i) (i .live .live) (call row a t (releases o)) l;
+    })

@@ -1,0 +1,119 @@
+-- Demand 2, the other calls: "Every call does what document 01 says". What an accepted release and an accepted resize leave, byte by byte
+-- and slot by slot, and that measure and report leave everything, without a word of the plans.
+use Prim.Native.Nat.{ℕ, suc, _+_, _*_, _-_, _≤_, _<_, min}
+use mathlib.Core.Path.{_≡_}
+use mathlib.Core.Bool.{false, not}
+use mathlib.Core.Logic.{_⊎_}
+use mathlib.Core.List.{List, [], _∷_, _++_}
+use lib.Dec.{T}
+use lib.ListN.{length, getD}
+use Rattle.mem.specs.Lists.{any, every}
+use Rattle.mem.specs.Bytes.{put, part}
+use Rattle.classes.specs.Classes.{slotBytes, classOf, rowsOf}
+use Rattle.model.specs.declared.Slot.{Slot}
+use Rattle.model.specs.declared.Slot.the-variants.{Idle, Live}
+use Rattle.model.specs.State.{Pool, Place, isLive, count, disp, size, poolOf, become, base, owned, start}
+use Rattle.model.specs.Blocks.{reserved, guard}
+use Rattle.model.specs.Plans.{Call, grants, releases, resizes, measures, reports, freshPool}
+use Rattle.model.specs.Tables.{view}
+use Rattle.model.specs.Calls.{Result, call}
+use Rattle.claims.specs.Demand1.{StartsAt}
+use Rattle.claims.specs.Demand2.{Intact}
+
+-- an arena and what is left of it: the k bytes from a place on are zero, and no other byte changed
+pub record ZeroedOnly (a b : List ℕ) (from k : ℕ) : Type 0 where
+  pub long : length b ≡ length a
+  pub zero : (i : ℕ) → from ≤ i → i < from + k → getD b i 0 ≡ 0
+  pub others : (i : ℕ) → (i < from) ⊎ (from + k ≤ i) → getD b i 0 ≡ getD a i 0
+
+module _ (row : ℕ) where
+  -- "Offset 0 is never a start."
+  abbrev pub NeverAtZero : Type 0
+  NeverAtZero = (P : Pool) (p : Place) → StartsAt row P 0 p → ⊥
+
+  -- MEASURE AND REPORT
+
+  -- a call that leaves every byte of arena and tables
+  pub record Unchanged (a t : List ℕ) (c : Call) : Type 0 where
+    pub arena : call row a t c .arena ≡ a
+    pub room : call row a t c .room ≡ t
+
+  -- over any bytes, refused or not
+  pub record ReadsOnly : Type 0 where
+    pub measured : (a t : List ℕ) (o : ℕ) → Unchanged a t (measures o)
+    pub reported : (a t : List ℕ) → Unchanged a t reports
+
+  -- RELEASE
+
+  -- "The slot becomes waiting", with its count and displacement, "and its s owned bytes zero."
+  pub record Waits (a : List ℕ) (p : Place) (r : Result) : Type 0 where
+    pub other-live : T (any isLive (p .lower ++ p .upper))
+    pub pool : view row (r .room) ≡ poolOf (become p (Idle false (count (p .state)) (disp (p .state))))
+    pub bytes : ZeroedOnly a (r .arena) (owned row p) (slotBytes (p .cls))
+
+  -- "If no slot of the group is live, the group goes, all its rows become zero and free."
+  pub record Goes (a : List ℕ) (p : Place) (r : Result) : Type 0 where
+    pub none-live : T (every (λ x. not (isLive x)) (p .lower ++ p .upper))
+    pub pool : view row (r .room) ≡ p .before ++ (freshPool (rowsOf row (p .cls)) ++ p .after)
+    pub bytes : ZeroedOnly a (r .arena) (base row p) (row * rowsOf row (p .cls))
+
+  pub record Released (a t : List ℕ) (o : ℕ) (p : Place) : Type 0 where
+    pub block : Intact row a (view row t) o p
+    pub value : call row a t (releases o) .answer .values ≡ 0 ∷ []
+    pub left : Waits a p (call row a t (releases o)) ⊎ Goes a p (call row a t (releases o))
+
+  abbrev pub ReleasesAsSaid : Type 0
+  ReleasesAsSaid = (a t : List ℕ) (o : ℕ) → call row a t (releases o) .answer .number ≡ 0 → (p : Place) × Released a t o p
+
+  -- RESIZE
+
+  -- "In place if n is at most s − 4 − 16d and the block's class is at most one above n's class"
+  pub record Serves (p : Place) (n : ℕ) : Type 0 where
+    pub fits : n ≤ slotBytes (p .cls) - 4 - 16 * disp (p .state)
+    pub near : p .cls ≤ suc (classOf n)
+
+  -- the block with another size; "Count and start change only by such a grant."
+  abbrev pub sized : Place → ℕ → Place
+  sized p n = become p (Live (record { count = count (p .state); disp = disp (p .state); size = n }))
+
+  -- as many as stay: "the lesser of old and new n"
+  abbrev pub stay : Place → ℕ → ℕ
+  stay p n = min (size (p .state)) n
+
+  pub record InPlace (a : List ℕ) (o n : ℕ) (p : Place) (r : Result) : Type 0 where
+    pub serves : Serves p n
+    pub value : r .answer .values ≡ o ∷ []
+    pub pool : view row (r .room) ≡ poolOf (sized p n)
+    pub long : length (r .arena) ≡ length a
+    -- "the first bytes, as many as the lesser of old and new n, stay"
+    pub kept : (i : ℕ) → i < stay p n → getD (r .arena) (o + i) 0 ≡ getD a (o + i) 0
+    -- "all from there to the end become zero", but the guard
+    pub zero : (i : ℕ) → o + stay p n ≤ i → i + length (guard (reserved (p .cls) (disp (p .state)) n)) < owned row p + slotBytes (p .cls)
+        → getD (r .arena) i 0 ≡ 0
+    -- "header and guard are written anew"
+    pub due : Intact row (r .arena) (view row (r .room)) o (sized p n)
+    -- no byte before the header or behind the block changes
+    pub others : (i : ℕ) → (i + 4 < o) ⊎ (owned row p + slotBytes (p .cls) ≤ i) → getD (r .arena) i 0 ≡ getD a i 0
+
+  -- "Otherwise a grant of n is made while the old block is live, that many bytes are copied, then the old is released": g is what the
+  -- grant leaves, v the new start
+  pub record Moved (a : List ℕ) (o n : ℕ) (p : Place) (g : Result) (v : ℕ) (r : Result) : Type 0 where
+    pub serves-not : Serves p n → ⊥
+    pub granted : g .answer .number ≡ 0
+    pub answer : r .answer ≡ g .answer
+    -- the copy, and the release over it
+    pub copied : List ℕ
+    pub copy : copied ≡ put v (part o (stay p n) (g .arena)) (g .arena)
+    pub released : call row copied (g .room) (releases o) .answer .number ≡ 0
+    pub arena : r .arena ≡ call row copied (g .room) (releases o) .arena
+    pub room : r .room ≡ call row copied (g .room) (releases o) .room
+    -- the block has the bytes that it had
+    pub kept : (i : ℕ) → i < stay p n → getD (r .arena) (v + i) 0 ≡ getD a (o + i) 0
+
+  pub record Resized (a t : List ℕ) (o n : ℕ) (p : Place) : Type 0 where
+    pub block : Intact row a (view row t) o p
+    pub done : InPlace a o n p (call row a t (resizes o n))
+        ⊎ Moved a o n p (call row a t (grants n)) (getD (call row a t (grants n) .answer .values) 0 0) (call row a t (resizes o n))
+
+  abbrev pub ResizesAsSaid : Type 0
+  ResizesAsSaid = (a t : List ℕ) (o n : ℕ) → call row a t (resizes o n) .answer .number ≡ 0 → (p : Place) × Resized a t o n p
