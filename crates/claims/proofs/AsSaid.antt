@@ -1,7 +1,7 @@
 -- Release and resize leave what document 01 says, measure and report leave everything, and no block starts at 0.
 use Rattle.mem.proofs.Prelude.{_∙_, _≡_, sym, ap, refl, ap₂, subst, true, Bool, false, _&&_, _||_, not, true≢false, ⊎-elim, inl, inr, _⊎_, some, none, Option, List, [], _∷_}
 use Rattle.mem.proofs.Prelude.{_++_, append-assoc, append-nil, _+_, ℕ, _<_, _≤_, _*_, _-_, _/_, suc, min, mul-comm, le-div-iff-mul-le, mul-add, arith}
-use Rattle.mem.proofs.Prelude.{eqb-false, eqb-true, lt-leb, T, eqb, leb, leb→le, le→leb, T-not, length, getD, length-append}
+use Rattle.mem.proofs.Prelude.{eqb-false, eqb-true, lt-leb, leb-false, leb-true, T, eqb, leb, leb→le, le→leb, T-not, length, getD, length-append}
 use native.Mathlib.Nat.{div-lt-iff-lt-mul}
 use Rattle.mem.specs.Lists.{choose, any, every}
 use Rattle.mem.specs.Bytes.{zeros, put, part}
@@ -94,7 +94,7 @@ none-live (Live a ∷ ss) e = absurd (true≢false e)
 module _ (row : ℕ) (pos : 0 < row) (a : List ℕ) (p : Place) (w : T (wellFormed (poolOf p))) (l : T (isLive (p .state))) (r : Result)
     (done : r ≡ applied (masked row) a (releaseAt row p)) where
   -- what the plan of a live block's release leaves
-  released-as-said : Waits row a p r ⊎ Goes row a p r
+  pub released-as-said : Waits row a p r ⊎ Goes row a p r
   unfolding releaseAt
   released-as-said =
       choose-case (λ (q : Plan). view row (r .room) ≡ q .pool → r .arena ≡ written a (q .changes) → Waits row a p r ⊎ Goes row a p r)
@@ -106,10 +106,10 @@ module _ (row : ℕ) (pos : 0 < row) (a : List ℕ) (p : Place) (w : T (wellForm
 
 -- the plan of a call on the live block that starts at an offset
 module _ (row : ℕ) (pos : 0 < row) (P : Pool) (w : T (wellFormed P)) (a : List ℕ) (o : ℕ) (p : Place) (i : demand2.Intact row a P o p) where
-  on-intact : (f : Place → Plan) → onBlock P f (lookup row P o) ≡ f p
+  pub on-intact : (f : Place → Plan) → onBlock P f (lookup row P o) ≡ f p
   on-intact f = ap (onBlock P f) (starts-found row pos P o p w (i .live .here)) ∙ on-live P f p (i .live .live)
 
-  place-formed : T (wellFormed (poolOf p))
+  pub place-formed : T (wellFormed (poolOf p))
   place-formed = subst (λ Q. T (wellFormed Q)) (sym (i .live .here .slotted .pool)) w
 
 pub releases-as-said : (row : ℕ) → 0 < row → ReleasesAsSaid row
@@ -125,137 +125,3 @@ releases-as-said row pos a t o z =
       value = ap (λ (r : Result). r .answer .values) l ∙ ap (λ r. r .values) (release-parts row p .1);
       left = released-as-said row pos a p (place-formed row pos (view row t) w a o p i) (i .live .live) (call row a t (releases o)) l;
     })
-
--- ---- resize in place
-
--- bytes of a slot by their place in the arena
-module _ (row : ℕ) (a : List ℕ) (p : Place) where
-  part-owned : (i k : ℕ) → i + k ≤ slotBytes (p .cls) → part i k (part (owned row p) (slotBytes (p .cls)) a) ≡ part (owned row p + i) k a
-  part-owned i k h = part-part (owned row p) (slotBytes (p .cls)) i k a h
-
-module _ (row : ℕ) (pos : 0 < row) (a : List ℕ) (n : ℕ) (p : Place) (w : T (wellFormed (poolOf p))) (l : length a ≡ row * rows row (poolOf p))
-    (t : T (inPlace p n)) where
-  abbrev c : ℕ
-  c = p .cls
-
-  abbrev d : ℕ
-  d = disp (p .state)
-
-  abbrev o : ℕ
-  o = start row p
-
-  abbrev k : ℕ
-  k = stay row p n
-
-  abbrev r : ℕ
-  r = reserved c d n
-
-  abbrev g : List ℕ
-  g = guard r
-
-  abbrev head : List ℕ
-  head = header c (slotNumber p) d n
-
-  -- what is written behind the bytes that stay
-  abbrev tail : List ℕ
-  tail = zeros (n - k) ++ spare r
-
-  abbrev headed : List ℕ
-  headed = put (o - 4) head a
-
-  abbrev reframed : List ℕ
-  reframed = put (o + k) tail headed
-
-  serves : Serves row p n
-  unfolding inPlace
-  serves = record {
-    fits = leb→le n (slotBytes c - 4 - 16 * d) (and-left (leb n (slotBytes c - 4 - 16 * d)) (leb c (suc (classOf n))) t);
-    near = leb→le c (suc (classOf n)) (and-right (leb n (slotBytes c - 4 - 16 * d)) (leb c (suc (classOf n))) t);
-  }
-
-  -- sizes of the block's parts
-  inside : 16 * d + size (p .state) + 4 ≤ slotBytes c
-  inside = let f : Fits p = fits p w in disp-inside c (p .state) (f .class) (f .state)
-
-  whole : o + n + r ≡ owned row p + slotBytes c
-  whole = omega (arith, inside, serves .fits)
-
-  tail-length : length tail + k ≡ n + r
-  tail-length = omega (arith, length-append (zeros (n - k)) (spare r), zeros-length (n - k), spare-length r)
-
-  -- zeros, and then the guard
-  tail-parts : tail ≡ zeros (n - k + (r - length g)) ++ g
-  unfolding spare
-  tail-parts =
-      sym (append-assoc (zeros (n - k)) (zeros (r - length g)) g) ∙ ap (λ z. z ++ g) (sym (zeros-add (n - k) (r - length g)))
-
-  header-there : T (headerRight c (slotNumber p) d n (part (owned row p) (slotBytes c) reframed))
-  unfolding headerRight
-  header-there =
-      let q : owned row p + 16 * d ≡ o - 4 = omega arith in
-      eq→same _ _
-      (part-owned row reframed p (16 * d) 4 (omega (arith, inside)) ∙ ap (λ j. part j 4 reframed) q
-      ∙ part-put (o - 4) 4 (o + k) tail headed (inl (omega arith))
-      ∙ part-written (o - 4) 4 head a (header-length c (slotNumber p) d n) (omega (arith, l, owned-inside row pos p w, inside)))
-
-  -- the guard ends where the slot does
-  guard-place : (length g ≤ slotBytes c) × (owned row p + (slotBytes c - length g) ≡ o + k + (n - k + (r - length g)))
-  guard-place =
-      let j : length g ≤ r = guard-fits r in
-      let b : r ≤ slotBytes c = omega arith in
-      let m : k ≤ n = omega arith in
-      (omega arith, bare (owned row p) (slotBytes c) (length g) o k n r j (omega arith) m whole)
-    where
-      bare : (x s h o k n r : ℕ) → h ≤ r → h ≤ s → k ≤ n → o + n + r ≡ x + s → x + (s - h) ≡ o + k + (n - k + (r - h))
-      bare x s h o k n r j b m e = omega arith
-
-  guard-there : T (guardRight c d n (part (owned row p) (slotBytes c) reframed))
-  unfolding guardRight
-  guard-there =
-      let m : ℕ = n - k + (r - length g) in
-      let q : owned row p + (slotBytes c - length g) ≡ o + k + length (zeros m) = guard-place .1 ∙ ap (λ j. o + k + j) (sym (zeros-length m)) in
-      let u : slotBytes c - length g + length g ≤ slotBytes c = bare (slotBytes c) (length g) (guard-place .0) in
-      let e : reframed ≡ put (o + k + length (zeros m)) g (put (o + k) (zeros m) headed) =
-      ap (λ vs. put (o + k) vs headed) tail-parts ∙ put-append (o + k) (zeros m) g headed in
-      let b : o + k + length (zeros m) + length g ≤ length (put (o + k) (zeros m) headed) =
-      fits-in (owned row p) (slotBytes c) (length g) _ _ _ (guard-place .0) q (owned-inside row pos p w)
-      (put-length (o + k) (zeros m) headed ∙ put-length (o - 4) head a ∙ l) in
-      eq→same _ _
-      (part-owned row reframed p (slotBytes c - length g) (length g) u ∙ ap (λ j. part j (length g) reframed) q
-      ∙ ap (part (o + k + length (zeros m)) (length g)) e ∙ part-written (o + k + length (zeros m)) (length g) g (put (o + k) (zeros m) headed) refl b)
-    where
-      bare : (s h : ℕ) → h ≤ s → s - h + h ≤ s
-      bare s h b = omega arith
-
-      fits-in : (x s h y z v : ℕ) → h ≤ s → x + (s - h) ≡ y → x + s ≤ z → v ≡ z → y + h ≤ v
-      fits-in x s h y z v b q f e = omega arith
-
-  in-place-as-said : (z : Result) → n < tooLarge → T (isLive (p .state)) → z ≡ applied (masked row) a (resizeInPlace row p n) → InPlace row a o n p z
-  unfolding resizeInPlace
-  in-place-as-said z h v e =
-      let x : z .arena ≡ reframed = ap (λ (r : Result). r .arena) e in
-      let y : view row (z .room) ≡ poolOf (sized row p n) =
-      ap (λ (r : Result). view row (r .room)) e ∙ view-encode masks-laws row pos (poolOf (sized row p n)) (resize-in-place-formed row p n w v h t .formed) in
-      record {
-        serves = serves;
-        value = ap (λ (r : Result). r .answer .values) e;
-        pool = y;
-        long = ap length x ∙ put-length (o + k) tail headed ∙ put-length (o - 4) head a;
-        kept = λ i b.
-            ap (λ b. getD b (o + i) 0) x ∙ put-before (o + k) tail headed (o + i) 0 (omega arith)
-            ∙ put-past (o - 4) head a (o + i) 0 (omega (arith, header-length c (slotNumber p) d n));
-        zero = λ i b u.
-            ap (λ b. getD b i 0) x ∙ ap (λ vs. getD (put (o + k) vs headed) i 0) tail-parts
-            ∙ zeros-put (o + k) [] (n - k + (r - length g)) g headed i (omega arith) (omega (arith, u, whole, guard-fits r));
-        due = record {
-          live = record { here = record { slotted = record { pool = sym y; granted-once = tt }; starts = refl }; live = tt };
-          header = subst (λ b. T (headerRight c (slotNumber p) d n (part (owned row p) (slotBytes c) b))) (sym x) header-there;
-          guard = subst (λ b. T (guardRight c d n (part (owned row p) (slotBytes c) b))) (sym x) guard-there;
-        };
-        others = λ i.
-            ⊎-elim
-            (λ b. ap (λ b. getD b i 0) x ∙ put-before (o + k) tail headed i 0 (omega (arith, b)) ∙ put-before (o - 4) head a i 0 (omega (arith, b)))
-            (λ b.
-            ap (λ b. getD b i 0) x ∙ put-past (o + k) tail headed i 0 (omega (arith, b, whole, tail-length))
-            ∙ put-past (o - 4) head a i 0 (omega (arith, b, whole, header-length c (slotNumber p) d n)));
-      }

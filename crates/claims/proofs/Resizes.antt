@@ -1,0 +1,433 @@
+-- A resize leaves what document 01 says: in place, or as a grant, a copy and a release.
+use Rattle.mem.proofs.Prelude.{_∙_, _≡_, sym, ap, refl, ap₂, subst, true, Bool, false, not, ⊎-elim, inl, inr, _⊎_, some, none, Option, List, [], _∷_}
+use Rattle.mem.proofs.Prelude.{_++_, append-assoc, _+_, ℕ, _<_, _≤_, _*_, _-_, _/_, suc, mul-comm, le-div-iff-mul-le, mul-add, arith}
+use Rattle.mem.proofs.Prelude.{lt-leb, leb-false, leb-true, T, leb, leb→le, le→leb, T-not, length, getD, length-append}
+use native.Mathlib.Nat.{div-lt-iff-lt-mul}
+use Rattle.mem.specs.Lists.{choose, every}
+use Rattle.mem.specs.Bytes.{zeros, put, part}
+use Rattle.mem.proofs.Tests.{T-true, true-T, and-left, and-right, and-both, every-right, choose-case, choose-false}
+use Rattle.mem.proofs.Laws.{put-length, put-append, put-before, put-past, part-put, part-written, part-length, part-part, getD-part, zeros-length}
+use Rattle.mem.proofs.Laws.{zeros-add, zeros-put, eq→same}
+use Rattle.classes.specs.Classes.{slotBytes, classOf, rowsOf, tooLarge}
+use Rattle.model.specs.declared.Slot.{Slot}
+use Rattle.model.specs.declared.Refusal.the-variants.{NoRoom}
+use Rattle.model.specs.declared.Damage.the-variants.{Intact}
+use Rattle.model.specs.State.{Pool, Place, isLive, disp, size, wellFormed, poolOf, slotNumber, rows, base, owned, start}
+use Rattle.model.specs.Blocks.{reserved, header, guard, spare, headerRight, guardRight, damageIn, damage, frame}
+use Rattle.model.specs.Plans.{Plan, Call, grants, releases, resizes, plan, lookup, onBlock, releaseAt, release, inPlace, resizeInPlace, resizeMove, moveTo}
+use Rattle.model.specs.Plans.{resizeAt, resize, reserve, grantAt, grant, enframe}
+use Rattle.model.specs.Tables.{byMasks, encode, view, sound, arenaRight}
+use Rattle.model.specs.Calls.{Result, masked, applied, written, damaged, carried, call}
+use Rattle.model.proofs.Tables.{masks-laws, Sound, sound-facts, view-encode, encode-sound}
+use Rattle.model.proofs.Blocks.{header-length, guard-fits, spare-length, frame-length}
+use Rattle.model.proofs.Lookup.{Fits, fits, disp-inside, span-unique, split-unique, same-placed, owned-inside, Owns, owned-row}
+use Rattle.model.proofs.Reserve.{Granted, reserve-formed, reserve-size, groupOf, served}
+use Rattle.model.proofs.Formed.{resize-in-place-formed}
+use Rattle.model.proofs.Calls.{call-sound, carried-whole}
+use Rattle.model.proofs.Moves.{Old, old, old-released, old-apart, stays-owned}
+use Rattle.claims.specs.Demand1.{order, headerDue, guardDue, Due}
+use Rattle.claims.specs.Demand2 as demand2
+use Rattle.claims.specs.AsSaid.{Waits, Goes, Serves, sized, stay, InPlace, Moved, Resized, ResizesAsSaid}
+use Rattle.claims.proofs.Cases.{release-parts, reserve-live}
+use Rattle.claims.proofs.Demand1.{demand1}
+use Rattle.claims.proofs.Demand2.{Accepted, accepted, none-due, found-intact}
+use Rattle.claims.proofs.AsSaid.{released-as-said, on-intact, place-formed}
+
+-- ---- resize in place
+
+-- bytes of a slot by their place in the arena
+module _ (row : ℕ) (a : List ℕ) (p : Place) where
+  part-owned : (i k : ℕ) → i + k ≤ slotBytes (p .cls) → part i k (part (owned row p) (slotBytes (p .cls)) a) ≡ part (owned row p + i) k a
+  part-owned i k h = part-part (owned row p) (slotBytes (p .cls)) i k a h
+
+module _ (row : ℕ) (pos : 0 < row) (a : List ℕ) (n : ℕ) (p : Place) (w : T (wellFormed (poolOf p))) (l : length a ≡ row * rows row (poolOf p))
+    (t : T (inPlace p n)) where
+  abbrev c : ℕ
+  c = p .cls
+
+  abbrev d : ℕ
+  d = disp (p .state)
+
+  abbrev o : ℕ
+  o = start row p
+
+  abbrev k : ℕ
+  k = stay row p n
+
+  abbrev r : ℕ
+  r = reserved c d n
+
+  abbrev g : List ℕ
+  g = guard r
+
+  abbrev head : List ℕ
+  head = header c (slotNumber p) d n
+
+  -- what is written behind the bytes that stay
+  abbrev tail : List ℕ
+  tail = zeros (n - k) ++ spare r
+
+  abbrev headed : List ℕ
+  headed = put (o - 4) head a
+
+  abbrev reframed : List ℕ
+  reframed = put (o + k) tail headed
+
+  serves : Serves row p n
+  unfolding inPlace
+  serves = record {
+    fits = leb→le n (slotBytes c - 4 - 16 * d) (and-left (leb n (slotBytes c - 4 - 16 * d)) (leb c (suc (classOf n))) t);
+    near = leb→le c (suc (classOf n)) (and-right (leb n (slotBytes c - 4 - 16 * d)) (leb c (suc (classOf n))) t);
+  }
+
+  -- sizes of the block's parts
+  inside : 16 * d + size (p .state) + 4 ≤ slotBytes c
+  inside = let f : Fits p = fits p w in disp-inside c (p .state) (f .class) (f .state)
+
+  whole : o + n + r ≡ owned row p + slotBytes c
+  whole = omega (arith, inside, serves .fits)
+
+  tail-length : length tail + k ≡ n + r
+  tail-length = omega (arith, length-append (zeros (n - k)) (spare r), zeros-length (n - k), spare-length r)
+
+  -- zeros, and then the guard
+  tail-parts : tail ≡ zeros (n - k + (r - length g)) ++ g
+  unfolding spare
+  tail-parts =
+      sym (append-assoc (zeros (n - k)) (zeros (r - length g)) g) ∙ ap (λ z. z ++ g) (sym (zeros-add (n - k) (r - length g)))
+
+  header-there : T (headerRight c (slotNumber p) d n (part (owned row p) (slotBytes c) reframed))
+  unfolding headerRight
+  header-there =
+      let q : owned row p + 16 * d ≡ o - 4 = omega arith in
+      eq→same _ _
+      (part-owned row reframed p (16 * d) 4 (omega (arith, inside)) ∙ ap (λ j. part j 4 reframed) q
+      ∙ part-put (o - 4) 4 (o + k) tail headed (inl (omega arith))
+      ∙ part-written (o - 4) 4 head a (header-length c (slotNumber p) d n) (omega (arith, l, owned-inside row pos p w, inside)))
+
+  -- the guard ends where the slot does
+  guard-place : (length g ≤ slotBytes c) × (owned row p + (slotBytes c - length g) ≡ o + k + (n - k + (r - length g)))
+  guard-place =
+      let j : length g ≤ r = guard-fits r in
+      let b : r ≤ slotBytes c = omega arith in
+      let m : k ≤ n = omega arith in
+      (omega arith, bare (owned row p) (slotBytes c) (length g) o k n r j (omega arith) m whole)
+    where
+      bare : (x s h o k n r : ℕ) → h ≤ r → h ≤ s → k ≤ n → o + n + r ≡ x + s → x + (s - h) ≡ o + k + (n - k + (r - h))
+      bare x s h o k n r j b m e = omega arith
+
+  guard-there : T (guardRight c d n (part (owned row p) (slotBytes c) reframed))
+  unfolding guardRight
+  guard-there =
+      let m : ℕ = n - k + (r - length g) in
+      let q : owned row p + (slotBytes c - length g) ≡ o + k + length (zeros m) = guard-place .1 ∙ ap (λ j. o + k + j) (sym (zeros-length m)) in
+      let u : slotBytes c - length g + length g ≤ slotBytes c = bare (slotBytes c) (length g) (guard-place .0) in
+      let e : reframed ≡ put (o + k + length (zeros m)) g (put (o + k) (zeros m) headed) =
+      ap (λ vs. put (o + k) vs headed) tail-parts ∙ put-append (o + k) (zeros m) g headed in
+      let b : o + k + length (zeros m) + length g ≤ length (put (o + k) (zeros m) headed) =
+      fits-in (owned row p) (slotBytes c) (length g) _ _ _ (guard-place .0) q (owned-inside row pos p w)
+      (put-length (o + k) (zeros m) headed ∙ put-length (o - 4) head a ∙ l) in
+      eq→same _ _
+      (part-owned row reframed p (slotBytes c - length g) (length g) u ∙ ap (λ j. part j (length g) reframed) q
+      ∙ ap (part (o + k + length (zeros m)) (length g)) e ∙ part-written (o + k + length (zeros m)) (length g) g (put (o + k) (zeros m) headed) refl b)
+    where
+      bare : (s h : ℕ) → h ≤ s → s - h + h ≤ s
+      bare s h b = omega arith
+
+      fits-in : (x s h y z v : ℕ) → h ≤ s → x + (s - h) ≡ y → x + s ≤ z → v ≡ z → y + h ≤ v
+      fits-in x s h y z v b q f e = omega arith
+
+  in-place-as-said : (z : Result) → n < tooLarge → T (isLive (p .state)) → z ≡ applied (masked row) a (resizeInPlace row p n) → InPlace row a o n p z
+  unfolding resizeInPlace
+  in-place-as-said z h v e =
+      let x : z .arena ≡ reframed = ap (λ (r : Result). r .arena) e in
+      let y : view row (z .room) ≡ poolOf (sized row p n) =
+      ap (λ (r : Result). view row (r .room)) e ∙ view-encode masks-laws row pos (poolOf (sized row p n)) (resize-in-place-formed row p n w v h t .formed) in
+      record {
+        serves = serves;
+        value = ap (λ (r : Result). r .answer .values) e;
+        pool = y;
+        long = ap length x ∙ put-length (o + k) tail headed ∙ put-length (o - 4) head a;
+        kept = λ i b.
+            ap (λ b. getD b (o + i) 0) x ∙ put-before (o + k) tail headed (o + i) 0 (omega arith)
+            ∙ put-past (o - 4) head a (o + i) 0 (omega (arith, header-length c (slotNumber p) d n));
+        zero = λ i b u.
+            ap (λ b. getD b i 0) x ∙ ap (λ vs. getD (put (o + k) vs headed) i 0) tail-parts
+            ∙ zeros-put (o + k) [] (n - k + (r - length g)) g headed i (omega arith) (omega (arith, u, whole, guard-fits r));
+        due = record {
+          live = record { here = record { slotted = record { pool = sym y; granted-once = tt }; starts = refl }; live = tt };
+          header = subst (λ b. T (headerRight c (slotNumber p) d n (part (owned row p) (slotBytes c) b))) (sym x) header-there;
+          guard = subst (λ b. T (guardRight c d n (part (owned row p) (slotBytes c) b))) (sym x) guard-there;
+        };
+        others = λ i.
+            ⊎-elim
+            (λ b. ap (λ b. getD b i 0) x ∙ put-before (o + k) tail headed i 0 (omega (arith, b)) ∙ put-before (o - 4) head a i 0 (omega (arith, b)))
+            (λ b.
+            ap (λ b. getD b i 0) x ∙ put-past (o + k) tail headed i 0 (omega (arith, b, whole, tail-length))
+            ∙ put-past (o - 4) head a i 0 (omega (arith, b, whole, header-length c (slotNumber p) d n)));
+      }
+
+-- ---- resize by a move
+
+-- one list of slots in which only x may be live: a live one is x
+lone-live : (us : List Slot) (x : Slot) (vs us′ : List Slot) (y : Slot) (vs′ : List Slot) → us ++ (x ∷ vs) ≡ us′ ++ (y ∷ vs′)
+    → T (every (λ z. not (isLive z)) (us ++ vs)) → T (isLive y) → length us ≡ length us′
+lone-live [] x vs [] y vs′ e n l = refl
+lone-live [] x vs (z ∷ us′) y vs′ e n l =
+    let h : vs ≡ us′ ++ (y ∷ vs′) = cc in
+    let m : T (every (λ z. not (isLive z)) (us′ ++ (y ∷ vs′))) = subst (λ l. T (every (λ z. not (isLive z)) l)) h n in
+    absurd (T-not (isLive y) (and-left (not (isLive y)) _ (every-right (λ z. not (isLive z)) us′ (y ∷ vs′) m)) l)
+lone-live (z ∷ us) x vs [] y vs′ e n l =
+    let h : z ≡ y = cc in
+    absurd (T-not (isLive y) (subst (λ z. T (not (isLive z))) h (and-left (not (isLive z)) _ n)) l)
+lone-live (z ∷ us) x vs (z′ ∷ us′) y vs′ e n l =
+    let h : us ++ (x ∷ vs) ≡ us′ ++ (y ∷ vs′) = cc in
+    ap suc (lone-live us x vs us′ y vs′ h (and-right (not (isLive z)) _ n) l)
+
+module _ (row : ℕ) (pos : 0 < row) where
+  -- a slot's bytes lie outside a group that has no live slot but another
+  outside-group : (p q : Place) (i : ℕ) → T (wellFormed (poolOf p)) → poolOf q ≡ poolOf p → (q ≡ p → ⊥) → T (isLive (q .state)) → Owns row q i
+      → T (every (λ x. not (isLive x)) (p .lower ++ p .upper)) → (i < base row p) ⊎ (base row p + row * rowsOf row (p .cls) ≤ i)
+  outside-group p q i w e d l u n = go (leb (base row p) i) refl (leb (base row p + row * rowsOf row (p .cls)) i) refl
+    where
+      w′ : T (wellFormed (poolOf q))
+      w′ = subst (λ P. T (wellFormed P)) (sym e) w
+
+      inside : base row p ≤ i → i < base row p + row * rowsOf row (p .cls) → ⊥
+      inside f h =
+          let v : (q .before ≡ p .before) × (groupOf q ≡ groupOf p) × (q .after ≡ p .after) =
+          span-unique row pos (i / row) (q .before) (groupOf q) (q .after) (p .before) (groupOf p) (p .after) e (owned-row row pos q i w′ u)
+          (record {
+            from = le-div-iff-mul-le pos .1 (omega (arith, f, mul-comm row (rows row (p .before))));
+            to = div-lt-iff-lt-mul pos .1
+                (omega (
+                  arith,
+                  h,
+                  mul-comm (rows row (p .before) + rowsOf row (p .cls)) row,
+                  mul-add row (rows row (p .before)) (rowsOf row (p .cls)),
+                ));
+          }) in
+          let g : groupOf q ≡ groupOf p = v .1 in
+          let c : q .cls ≡ p .cls = cc in
+          let s : p .lower ++ (p .state ∷ p .upper) ≡ q .lower ++ (q .state ∷ q .upper) = cc in
+          let j : length (p .lower) ≡ length (q .lower) = lone-live (p .lower) (p .state) (p .upper) (q .lower) (q .state) (q .upper) s n l in
+          let x : (q .lower ≡ p .lower) × (q .state ≡ p .state) × (q .upper ≡ p .upper) =
+          split-unique (q .lower) (q .upper) (p .lower) (p .upper) (q .state) (p .state) (sym s) (sym j) in
+          d (same-placed (v .0) c (x .0) (x .1) (x .2) (v .2))
+
+      go : (b : Bool) → leb (base row p) i ≡ b → (b′ : Bool) → leb (base row p + row * rowsOf row (p .cls)) i ≡ b′
+          → (i < base row p) ⊎ (base row p + row * rowsOf row (p .cls) ≤ i)
+      go false f b′ h = inl (leb-false (base row p) i f)
+      go true f true h = inr (leb-true (base row p + row * rowsOf row (p .cls)) i h)
+      go true f false h = absurd (inside (leb-true (base row p) i f) (leb-false (base row p + row * rowsOf row (p .cls)) i h))
+
+-- the old block p and the new block q, in an arena as long as the pool
+module _ (row : ℕ) (pos : 0 < row) (P : Pool) (w : T (wellFormed P)) (a : List ℕ) (long : length a ≡ row * rows row P) (n : ℕ) (small : n < tooLarge)
+    (q : Place) (found : reserve row P n ≡ some q) (p : Place) (i : demand2.Intact row a P (start row p) p) where
+  there : poolOf p ≡ P
+  there = i .live .here .slotted .pool
+
+  formed-p : T (wellFormed (poolOf p))
+  formed-p = place-formed row pos P w a (start row p) p i
+
+  made : Granted row P n q
+  made = reserve-formed row P n q w small found
+
+  beside : Old row pos P w n small q found p there (i .live .live)
+  beside = old row pos P w n small q found p there (i .live .live)
+
+  released-old : release row (poolOf q) (start row p) ≡ releaseAt row (beside .place)
+  unfolding beside
+  released-old = old-released row pos P w n small q found p there (i .live .live)
+
+  apart : (owned row p + slotBytes (p .cls) ≤ owned row q) ⊎ (owned row q + slotBytes (q .cls) ≤ owned row p)
+  apart = old-apart row pos P w n small q found p there (i .live .live)
+
+  inside-p : 16 * disp (p .state) + size (p .state) + 4 ≤ slotBytes (p .cls)
+  inside-p = let f : Fits p = fits p formed-p in disp-inside (p .cls) (p .state) (f .class) (f .state)
+
+  inside-q : 16 * disp (q .state) + size (q .state) + 4 ≤ slotBytes (q .cls)
+  inside-q = let f : Fits q = fits q (made .formed) in disp-inside (q .cls) (q .state) (f .class) (f .state)
+
+  -- as many bytes as are copied
+  short : (stay row p n ≤ size (p .state)) × (stay row p n ≤ size (q .state))
+  short = (omega arith, omega (arith, reserve-size row P n q w found))
+
+  -- the new block laid out, and the bytes copied into it
+  abbrev framed : List ℕ
+  framed = frame (q .cls) (slotNumber q) (disp (q .state)) (size (q .state))
+
+  abbrev laid : List ℕ
+  laid = put (owned row q) framed a
+
+  abbrev first : List ℕ
+  first = part (start row p) (stay row p n) laid
+
+  abbrev copied : List ℕ
+  copied = put (start row q) first laid
+
+  laid-length : length laid ≡ length a
+  laid-length = put-length (owned row q) framed a
+
+  copied-length : length copied ≡ length a
+  copied-length = put-length (start row q) first laid ∙ laid-length
+
+  framed-length : length framed ≡ slotBytes (q .cls)
+  framed-length = frame-length (q .cls) (slotNumber q) (disp (q .state)) (size (q .state)) inside-q
+
+  first-length : length first ≡ stay row p n
+  first-length =
+      part-length (start row p) (stay row p n) laid
+      (omega (arith, laid-length, long, owned-inside row pos p formed-p, ap (λ Q. row * rows row Q) there, inside-p, short .0))
+
+  -- the old block's bytes are those it had
+  old-bytes : part (owned row p) (slotBytes (p .cls)) copied ≡ part (owned row p) (slotBytes (p .cls)) a
+  old-bytes =
+      part-put (owned row p) (slotBytes (p .cls)) (start row q) first laid
+      (⊎-elim (λ x. inl (omega (arith, x))) (λ x. inr (omega (arith, x, first-length, inside-q, short .1))) apart)
+      ∙ part-put (owned row p) (slotBytes (p .cls)) (owned row q) framed a (⊎-elim inl (λ x. inr (omega (arith, x, framed-length))) apart)
+
+  -- so it is not damaged
+  old-whole : damage row copied (beside .place) ≡ Intact
+  unfolding damageIn choose
+  old-whole =
+      let s = beside .stays in
+      let e : damage row copied (beside .place)
+          ≡ damageIn (p .cls) (slotNumber p) (disp (p .state)) (size (p .state)) (part (owned row p) (slotBytes (p .cls)) copied) =
+      rw (s .first, s .cls, s .number, s .state) in
+      e ∙ rw (old-bytes, T-true (headerDue row a p) (i .header), T-true (guardDue row a p) (i .guard))
+
+  -- the release over the copy
+  release-done : T (arenaRight row (length a))
+      → call row copied (encode row (poolOf q)) (releases (start row p)) ≡ applied (masked row) copied (releaseAt row (beside .place))
+  unfolding plan release
+  release-done h =
+      let u : List ℕ = encode row (poolOf q) in
+      let x : T (sound row (length copied) u) =
+      encode-sound masks-laws row pos (poolOf q) (length copied) (made .formed) (subst (λ m. T (arenaRight row m)) (sym copied-length) h)
+      (copied-length ∙ long ∙ ap (λ m. row * m) (sym (made .long))) in
+      call-sound row copied u (T-true (sound row (length copied) u) x) (releases (start row p)) tt
+      ∙ ap (carried row copied u)
+      (ap (λ Q. release row Q (start row p)) (view-encode masks-laws row pos (poolOf q) (made .formed)) ∙ released-old)
+      ∙ carried-whole row copied u (releaseAt row (beside .place)) (ap (damaged row copied) (release-parts row (beside .place) .0) ∙ old-whole)
+
+  new-owns : (j : ℕ) → j < stay row p n → Owns row q (start row q + j)
+  new-owns j h = record { from = omega arith; to = omega (arith, inside-q, short .1) }
+
+  -- no byte of the new block is cleared by it
+  new-kept : (r : Result) → Waits row copied (beside .place) r ⊎ Goes row copied (beside .place) r → (j : ℕ) → Owns row q j
+      → getD (r .arena) j 0 ≡ getD copied j 0
+  new-kept r (inl v) j o =
+      let e : owned row (beside .place) ≡ owned row p = stays-owned row p (beside .place) (beside .stays) in
+      let f : slotBytes (beside .place .cls) ≡ slotBytes (p .cls) = ap slotBytes (beside .stays .cls) in
+      v .bytes .others j (⊎-elim (λ x. inr (omega (arith, x, o .from))) (λ x. inl (omega (arith, x, o .to))) apart)
+  new-kept r (inr g) j o =
+      g .bytes .others j
+      (outside-group row pos (beside .place) q j (beside .formed) (sym (beside .pool)) (λ e. beside .other (sym e))
+      (reserve-live row P n q (served row P n q w found)) o (g .none-live))
+
+  -- the new block has the bytes that the old one had
+  copy-there : (j : ℕ) → j < stay row p n → getD copied (start row q + j) 0 ≡ getD a (start row p + j) 0
+  copy-there j h =
+      let v : ℕ = start row q in
+      sym (getD-part v (stay row p n) copied j 0 h)
+      ∙ ap (λ l. getD l j 0) (part-written v (stay row p n) first laid first-length
+      (omega (arith, laid-length, long, owned-inside row pos q (made .formed), ap (λ m. row * m) (made .long), inside-q, short .1)))
+      ∙ getD-part (start row p) (stay row p n) laid j 0 h
+      ∙ ⊎-elim (λ x. put-before (owned row q) framed a (start row p + j) 0 (omega (arith, x, inside-p, short .0)))
+      (λ x. put-past (owned row q) framed a (start row p + j) 0 (omega (arith, x, framed-length))) apart
+
+-- ---- every accepted resize
+
+module _ (row : ℕ) (pos : 0 < row) (a t : List ℕ) (s : Sound byMasks row (length a) t) (n : ℕ) (small : n < tooLarge) where
+  -- the grant of a move
+  grant-done : T (sound row (length a) t) → (q : Place) → reserve row (view row t) n ≡ some q
+      → call row a t (grants n) ≡ applied (masked row) a (grantAt row (view row t) (some q))
+  unfolding plan grant
+  grant-done h q e =
+      call-sound row a t (T-true (sound row (length a) t) h) (grants n) tt
+      ∙ ap (carried row a t)
+      (choose-false (leb tooLarge n) _ (grantAt row (view row t) (reserve row (view row t) n)) (lt-leb tooLarge n small) ∙ ap (grantAt row (view row t)) e)
+      ∙ carried-whole row a t (grantAt row (view row t) (some q)) refl
+
+  moved-as-said : T (sound row (length a) t) → (p q : Place) → demand2.Intact row a (view row t) (start row p) p → reserve row (view row t) n ≡ some q
+      → inPlace p n ≡ false → (z : Result) → z ≡ applied (masked row) a (moveTo row (view row t) p n (some q))
+      → Moved row a (start row p) n p (call row a t (grants n)) (getD (call row a t (grants n) .answer .values) 0 0) z
+  unfolding inPlace enframe
+  moved-as-said h p q i e f z l =
+      let P : Pool = view row t in
+      let b = beside row pos P (s .formed) a (s .long) n small q e p i in
+      let g : call row a t (grants n) ≡ applied (masked row) a (grantAt row P (some q)) = grant-done h q e in
+      let c : List ℕ = copied row pos P (s .formed) a (s .long) n small q e p i in
+      let x : call row c (encode row (poolOf q)) (releases (start row p)) ≡ applied (masked row) c (releaseAt row (b .place)) =
+      release-done row pos P (s .formed) a (s .long) n small q e p i (s .lawful) in
+      let r : Result = call row c (encode row (poolOf q)) (releases (start row p)) in
+      let u : release row (poolOf q) (start row p) ≡ releaseAt row (b .place) = released-old row pos P (s .formed) a (s .long) n small q e p i in
+      let y : z .arena ≡ r .arena =
+      ap (λ (r : Result). r .arena) l ∙ ap (λ (d : Plan). written c (d .changes)) u ∙ sym (ap (λ (r : Result). r .arena) x) in
+      subst (λ (g : Result). Moved row a (start row p) n p g (getD (g .answer .values) 0 0) z) (sym g) (record {
+        serves-not = λ v. subst T f (and-both (leb n (slotBytes (p .cls) - 4 - 16 * disp (p .state))) (leb (p .cls) (suc (classOf n)))
+            (le→leb n (slotBytes (p .cls) - 4 - 16 * disp (p .state)) (v .fits)) (le→leb (p .cls) (suc (classOf n)) (v .near)));
+        granted = refl;
+        answer = ap (λ (r : Result). r .answer) l;
+        copied = c;
+        copy = refl;
+        released = ap (λ (r : Result). r .answer .number) x ∙ ap (λ r. r .number) (release-parts row (b .place) .1);
+        arena = y;
+        room = ap (λ (r : Result). r .room) l ∙ ap (λ (d : Plan). encode row (d .pool)) u ∙ sym (ap (λ (r : Result). r .room) x);
+        kept = λ j k.
+            ap (λ b. getD b (start row q + j) 0) y
+            ∙ new-kept row pos P (s .formed) a (s .long) n small q e p i r (released-as-said row pos c (b .place) (b .formed) (b .live) r x) (start row q + j)
+            (new-owns row pos P (s .formed) a (s .long) n small q e p i j k)
+            ∙ copy-there row pos P (s .formed) a (s .long) n small q e p i j k;
+      })
+
+  -- a resize that was done, of the block at an offset
+  resized-as-said : T (sound row (length a) t) → (p : Place) → demand2.Intact row a (view row t) (start row p) p → (z : Result) → z .answer .number ≡ 0
+      → z ≡ applied (masked row) a (resizeAt row (view row t) n p)
+      → InPlace row a (start row p) n p z
+      ⊎ Moved row a (start row p) n p (call row a t (grants n)) (getD (call row a t (grants n) .answer .values) 0 0) z
+  unfolding resizeAt resizeMove
+  resized-as-said h p i z d l =
+      choose-case (λ (r : Plan). z ≡ applied (masked row) a r → M) (inPlace p n) (resizeInPlace row p n) (resizeMove row P p n)
+      (λ e l. inl (in-place-as-said row pos a n p (place-formed row pos P (s .formed) a (start row p) p i)
+      (s .long ∙ ap (λ Q. row * rows row Q) (sym (i .live .here .slotted .pool))) (true-T (inPlace p n) e) z small (i .live .live) l))
+      (λ e l. inr (go e (reserve row P n) refl l)) l
+    where
+      P : Pool
+      P = view row t
+
+      N : Type 0
+      N = Moved row a (start row p) n p (call row a t (grants n)) (getD (call row a t (grants n) .answer .values) 0 0) z
+
+      M : Type 0
+      M = InPlace row a (start row p) n p z ⊎ N
+
+      go : inPlace p n ≡ false → (r : Option Place) → reserve row P n ≡ r → z ≡ applied (masked row) a (moveTo row P p n r) → N
+      go e none f l = absurd (omega (arith, d, ap (λ (r : Result). r .answer .number) l))
+      go e (some q) f l = moved-as-said h p q i f e z l
+
+pub resizes-as-said : (row : ℕ) → 0 < row → ResizesAsSaid row
+unfolding plan resize
+resizes-as-said row pos a t o n z =
+    let c : Call = resizes o n in
+    let y : Accepted row pos a t c = accepted row pos a t c tt z in
+    let s : Sound byMasks row (length a) t = sound-facts byMasks row (length a) t (y .sound-tables) in
+    let (_, (n₃, m)) = none-due (Due row a t c) (order c) _ (demand1 row pos a t c .number) z in
+    let h : n < tooLarge = not-large n₃ in
+    let (p, i) = found-intact row pos a t (y .sound-tables) c (NoRoom ∷ []) m in
+    let l : call row a t c ≡ applied (masked row) a (resizeAt row (view row t) n p) =
+    y .left
+    ∙ ap (applied (masked row) a)
+    (choose-false (leb tooLarge n) _ (onBlock (view row t) (resizeAt row (view row t) n) (lookup row (view row t) o)) (lt-leb tooLarge n h)
+    ∙ on-intact row pos (view row t) (s .formed) a o p i (resizeAt row (view row t) n)) in
+    let e : start row p ≡ o = i .live .here .starts in
+    (p, record { block = i; done = subst (λ o. Done o p) e (resized-as-said row pos a t s n h (y .sound-tables) p (subst (λ o. demand2.Intact row a (view row t) o p) (sym e) i)
+    (call row a t c) z l) })
+  where
+    not-large : (tooLarge ≤ n → ⊥) → n < tooLarge
+    not-large f = omega (arith, f)
+
+    Done : ℕ → Place → Type 0
+    Done s p = InPlace row a s n p (call row a t (resizes o n))
+        ⊎ Moved row a s n p (call row a t (grants n)) (getD (call row a t (grants n) .answer .values) 0 0) (call row a t (resizes o n))
