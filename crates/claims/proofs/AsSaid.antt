@@ -1,38 +1,25 @@
 -- Release and resize leave what document 01 says, measure and report leave everything, and no block starts at 0.
-use Rattle.mem.proofs.Prelude.{_∙_, _≡_, sym, ap, refl, ap₂, subst, true, Bool, false, _&&_, _||_, not, true≢false, ⊎-elim, inl, inr, _⊎_, some, none, Option, List, [], _∷_}
-use Rattle.mem.proofs.Prelude.{_++_, append-assoc, append-nil, _+_, ℕ, _<_, _≤_, _*_, _-_, _/_, suc, min, mul-comm, le-div-iff-mul-le, mul-add, arith}
-use Rattle.mem.proofs.Prelude.{eqb-false, eqb-true, lt-leb, leb-false, leb-true, T, eqb, leb, leb→le, le→leb, T-not, length, getD, length-append}
-use native.Mathlib.Nat.{div-lt-iff-lt-mul}
-use Rattle.mem.specs.Lists.{choose, any, every}
-use Rattle.mem.specs.Bytes.{zeros, put, part}
-use Rattle.mem.proofs.Tests.{T-true, true-T, and-left, and-right, and-both, every-right, choose-case, choose-true, choose-false}
-use Rattle.mem.proofs.Laws.{put-length, put-append, put-before, put-past, part-put, part-written, part-length, part-part, getD-part, zeros-length}
-use Rattle.mem.proofs.Laws.{zeros-add, zeros-put, eq→same}
-use Rattle.classes.specs.Classes.{slotBytes, classOf, rowsOf, tooLarge}
+use Rattle.mem.proofs.Prelude.{_∙_, _≡_, sym, ap, refl, subst, true, Bool, false, not, true≢false, ⊎-elim, inl, inr, _⊎_, List, [], _∷_, _++_, append-nil, ℕ}
+use Rattle.mem.proofs.Prelude.{_<_, arith, eqb-false, eqb-true, T, eqb, length, getD}
+use Rattle.mem.specs.Lists.{any, every}
+use Rattle.mem.specs.Bytes.{zeros, put}
+use Rattle.mem.proofs.Tests.{true-T, choose-case}
+use Rattle.mem.proofs.Laws.{put-length, put-before, put-past, zeros-length, zeros-put}
 use Rattle.model.specs.declared.Slot.{Slot}
 use Rattle.model.specs.declared.Slot.the-variants.{Fresh, Idle, Live}
-use Rattle.model.specs.declared.Refusal.the-variants.{NoRoom}
 use Rattle.model.specs.declared.Damage.the-variants.{Intact}
-use Rattle.model.specs.State.{Span, Pool, Place, group, isLive, disp, size, wellFormed, poolOf, slotNumber, rows, base, owned, start}
-use Rattle.model.specs.Blocks.{reserved, header, guard, spare, headerRight, guardRight, damageIn, damage, frame}
-use Rattle.model.specs.Plans.{Plan, Call, grants, releases, resizes, measures, reports, plan, lookup, onBlock, releaseAt, release, measureAt, measure, report}
-use Rattle.model.specs.Plans.{inPlace, resizeInPlace, resizeMove, moveTo, resizeAt, resize, reserve, grantAt, grant, enframe}
-use Rattle.model.specs.Tables.{byMasks, encode, view, sound}
-use Rattle.model.specs.Calls.{Result, masked, applied, written, carried, call}
-use Rattle.model.proofs.Tables.{masks-laws, Sound, sound-facts, view-encode, encode-sound}
-use Rattle.model.proofs.Blocks.{header-length, guard-fits, spare-length, frame-length}
-use Rattle.model.proofs.Lookup.{Fits, fits, disp-inside, InRows, span-unique, split-unique, same-placed, owned-inside, Owns, owned-row}
-use Rattle.model.proofs.Reserve.{Granted, reserve-formed, reserve-size, groupOf, served}
-use Rattle.model.proofs.Formed.{Formed, release-formed, resize-in-place-formed}
-use Rattle.model.proofs.Calls.{Asks, call-sound, carried-whole, on-live}
-use Rattle.model.proofs.Moves.{Old, old, old-released, old-apart, stays-owned}
-use Rattle.claims.specs.Demand1.{order, Due, StartsAt}
+use Rattle.model.specs.State.{Pool, Place, isLive, wellFormed, poolOf}
+use Rattle.model.specs.Plans.{Plan, Call, releases, measures, reports, plan, lookup, onBlock, releaseAt, release, measureAt, measure, report, resize}
+use Rattle.model.specs.Tables.{byMasks, encode, view}
+use Rattle.model.specs.Calls.{Result, masked, applied, written, call}
+use Rattle.model.proofs.Tables.{masks-laws, sound-facts, view-encode}
+use Rattle.model.proofs.Formed.{release-formed}
+use Rattle.model.proofs.Calls.{Asks, on-live}
 use Rattle.claims.specs.Demand2 as demand2
-use Rattle.claims.specs.AsSaid.{ZeroedOnly, NeverAtZero, Unchanged, ReadsOnly, Waits, Goes, Released, ReleasesAsSaid, Serves, sized, stay, InPlace, Moved}
-use Rattle.claims.specs.AsSaid.{Resized, ResizesAsSaid}
-use Rattle.claims.proofs.Cases.{release-parts, on-named, reserve-live}
+use Rattle.claims.specs.AsSaid.{ZeroedOnly, NeverAtZero, Unchanged, ReadsOnly, Waits, Goes, ReleasesAsSaid}
+use Rattle.claims.proofs.Cases.{release-parts, on-named}
 use Rattle.claims.proofs.Demand1.{demand1, starts-found}
-use Rattle.claims.proofs.Demand2.{Accepted, accepted, none-due, found-intact, releases-exactly}
+use Rattle.claims.proofs.Demand2.{Accepted, accepted, releases-exactly}
 
 -- ---- no block starts at 0
 
@@ -119,9 +106,11 @@ releases-as-said row pos a t o z =
     let w : T (wellFormed (view row t)) = sound-facts byMasks row (length a) t (y .sound-tables) .formed in
     let (p, i) = releases-exactly row pos a t o (y .sound-tables) .0 z in
     let l : call row a t (releases o) ≡ applied (masked row) a (releaseAt row p) =
-    y .left ∙ ap (applied (masked row) a) (on-intact row pos (view row t) w a o p i (releaseAt row)) in
-    (p, record {
-      block = i;
-      value = ap (λ (r : Result). r .answer .values) l ∙ ap (λ r. r .values) (release-parts row p .1);
-      left = released-as-said row pos a p (place-formed row pos (view row t) w a o p i) (i .live .live) (call row a t (releases o)) l;
-    })
+    y .left ∙ ap (applied (masked row) a) (on-intact row pos (view row t) w a o p i (releaseAt row)) in (
+      p,
+      record {
+        block = i;
+        value = ap (λ (r : Result). r .answer .values) l ∙ ap (λ r. r .values) (release-parts row p .1);
+        left = released-as-said row pos a p (place-formed row pos (view row t) w a o p i) (i .live .live) (call row a t (releases o)) l;
+      },
+    )

@@ -1,13 +1,13 @@
 -- Demand 2: release, measure and grant accept exactly what document 01 says, a granted block is where and what it says, and live blocks
 -- never share a byte.
-use Rattle.mem.proofs.Prelude.{_∙_, _≡_, sym, ap, refl, ap₂, subst, true, Bool, false, not, ⊎-elim, inl, inr, _⊎_, some, none, Option, List, [], _∷_}
-use Rattle.mem.proofs.Prelude.{_++_, ℕ, _<_, _≤_, _*_, arith, T, T-not, length}
+use Rattle.mem.proofs.Prelude.{_∙_, _≡_, sym, ap, refl, ap₂, subst, true, Bool, false, not, ⊎-elim, inl, inr, _⊎_, some, none, Option, List, [], _∷_, _++_, ℕ}
+use Rattle.mem.proofs.Prelude.{_<_, _≤_, _*_, arith, T, T-not, length}
 use mathlib.Core.Logic.{_↔_}
 use Rattle.mem.specs.Lists.{choose, first}
 use Rattle.mem.specs.Bytes.{put}
 use Rattle.mem.proofs.Tests.{T-true}
 use Rattle.mem.proofs.Laws.{zeros-length}
-use Rattle.classes.specs.Classes.{slotBytes, classOf, rowsOf, tooLarge}
+use Rattle.classes.specs.Classes.{classOf, rowsOf, tooLarge}
 use Rattle.model.specs.declared.Refusal.{Refusal}
 use Rattle.model.specs.declared.Refusal.the-variants.{Unsound, AlreadyFree, HeaderDamaged, Overrun}
 use Rattle.model.specs.declared.Damage.{Damage}
@@ -15,8 +15,8 @@ use Rattle.model.specs.declared.Damage.the-variants.{Intact, Damaged}
 use Rattle.model.specs.State.{Pool, Place, group, isLive, isReady, disp, size, wellFormed, poolOf, slotNumber, rows, owned}
 use Rattle.model.specs.Blocks.{frame, damageIn}
 use Rattle.model.specs.Answers.{refusal}
-use Rattle.model.specs.Plans.{Plan, Site, freshPool, AllLive, NoPlace, Call, setsUp, grants, releases, resizes, measures, reports}
-use Rattle.model.specs.Plans.{plan, reserve, enframe, grantAt, grantIn, lookup}
+use Rattle.model.specs.Plans.{Plan, Site, freshPool, AllLive, NoPlace, Call, setsUp, grants, releases, resizes, measures, reports, plan, reserve, enframe}
+use Rattle.model.specs.Plans.{grantAt, grantIn, lookup}
 use Rattle.model.specs.Tables.{byMasks, view, sound}
 use Rattle.model.specs.Calls.{Result, FormLaws, masked, applied, keeps, damaged, setUpRight, call, callBy, carriedBy, checkedBy, unless}
 use Rattle.model.proofs.Tables.{masks-laws, sound-facts, view-encode}
@@ -24,7 +24,7 @@ use Rattle.model.proofs.Fresh.{set-up-done, set-up-sound}
 use Rattle.model.proofs.Forms.{layout-lawful, step, call-step, Standing, step-stands}
 use Rattle.model.proofs.Calls.{Asks, call-sound}
 use Rattle.model.proofs.Lookup.{All, Fits, fits, disp-inside, owned-inside, Owns, owned-unique}
-use Rattle.model.proofs.Reserve.{groupOf, Served, served, reserve-formed, reserve-size}
+use Rattle.model.proofs.Reserve.{Served, served, reserve-formed, reserve-size}
 use Rattle.model.proofs.Lowest.{site-lowest, first-lowest}
 use Rattle.claims.specs.Demand1.{order, offsetIn, FirstDue, StartsAt, LiveAt, headerDue, guardDue, Due}
 use Rattle.claims.specs.Demand2 as demand2

@@ -1,20 +1,22 @@
 -- Packet contents steer nothing: demand 3, for rows of every size.
-use Rattle.mem.proofs.Prelude.{_∙_, _≡_, sym, ap, refl, ap₂, subst, not, List, [], _∷_, map, ℕ, _<_, _*_, _/_, mul-div-cancel-left, T, T-not, length}
+use Rattle.mem.proofs.Prelude.{_∙_, _≡_, sym, ap, refl, ap₂, subst, not, List, [], _∷_, ℕ, _<_, _*_, _/_, mul-div-cancel-left, T, eqb→eq, T-not, length}
 use Rattle.mem.proofs.Prelude.{length-set}
 use lib.Seq.{getD-set-other}
 use Rattle.mem.specs.Bytes.{zeros, put}
-use Rattle.mem.proofs.Tests.{T-true}
+use Rattle.mem.proofs.Tests.{T-true, and-right, choose-true}
 use Rattle.mem.proofs.Laws.{zeros-length}
 use Rattle.model.specs.State.{Pool, wellFormed, rows}
-use Rattle.model.specs.Plans.{Plan, Call, setsUp, plan, totals, freshPool}
-use Rattle.model.specs.Tables.{byMasks, encode, view, sound, arenaRight}
-use Rattle.model.specs.Calls.{Result, Stands, masked, applied, written, carried, setUp, setUpRight, call}
+use Rattle.model.specs.Answers.{done, listed}
+use Rattle.model.specs.Plans.{Plan, Call, setsUp, reports, plan, report, totals}
+use Rattle.model.specs.Tables.{byMasks, encode, sound, arenaRight, roomBytes, roomFor}
+use Rattle.model.specs.Calls.{Result, Stands, masked, applied, written, carried, setUp, setUpRight, call, setUpRightBy}
 use Rattle.model.proofs.Tables.{masks-laws, view-encode, encode-sound}
 use Rattle.model.proofs.Fresh.{fresh-formed, whole-rows, set-up-lawful, set-up-done}
 use Rattle.model.proofs.Formed.{Formed, plan-formed}
 use Rattle.model.proofs.Calls.{call-sound, carried-whole}
 use Rattle.model.proofs.Forms.{layout-lawful, call-step}
-use Rattle.claims.specs.Demand3.{Turn, model, requested, ran, EngineOnly, AllCleared, AsModelled, SteersNothing, StoresAdmitted}
+use Rattle.claims.specs.Demand3.{Turn, calls, model, fed, RoomFollows, requested, ran, ranFresh, reported, EngineOnly, AllCleared, AsModelled}
+use Rattle.claims.specs.Demand3.{SteersNothing, StoresAdmitted}
 use Rattle.claims.proofs.Cases.{by-call}
 use Rattle.claims.proofs.Cells.{cells, Agrees}
 use Rattle.claims.proofs.Steps.{fresh-agrees, arena-length, set-up-zero, plan-kept}
@@ -45,9 +47,6 @@ module _ (row : ℕ) (pos : 0 < row) where
 
   -- ---- one run
 
-  abbrev calls : List Turn → List Call
-  calls us = map (λ u. u .asks) us
-
   -- it shows what the model shows, and leaves an arena that agrees with the model's tables
   record Follows (P : Pool) (a t : List ℕ) (us : List Turn) : Type 0 where
     modelled : AsModelled row P a t us
@@ -56,9 +55,9 @@ module _ (row : ℕ) (pos : 0 < row) where
 
   follows : (P : Pool) (a : List ℕ) (us : List Turn) → T (wellFormed P) → T (arenaRight row (length a)) → Agrees (cells row P) a
       → EngineOnly row P a (encode row P) us → Follows P a (encode row P) us
-  unfolding EngineOnly AllCleared ran model
+  unfolding EngineOnly AllCleared ran model plan report
   follows P a [] w h g t = record {
-    modelled = record { answers = refl; tables = refl; counted = ap (totals row) (view-encode masks-laws row pos P w); cleared = tt };
+    modelled = record { answers = refl; tables = refl; counted = ap (λ (r : Result). r .answer) (call-follows P w a h g reports); cleared = tt };
     formed = w;
     agrees = g;
   }
@@ -81,7 +80,7 @@ module _ (row : ℕ) (pos : 0 < row) where
         modelled = record {
           answers = rw e (ap (λ l. p .answer ∷ l) (r .modelled .answers));
           tables = ap (λ (z : Result). ran row (z .arena) (z .room) us .room) e ∙ r .modelled .tables;
-          counted = ap (λ (z : Result). totals row (view row (ran row (z .arena) (z .room) us .room))) e ∙ r .modelled .counted;
+          counted = ap (λ (z : Result). reported row (ran row (z .arena) (z .room) us)) e ∙ r .modelled .counted;
           cleared = rw e (plan-kept row pos P w b g₁ c .cleared, r .modelled .cleared);
         };
         formed = r .formed;
@@ -91,10 +90,10 @@ module _ (row : ℕ) (pos : 0 < row) where
 
   -- from a fresh pool
   run-follows : (a t : List ℕ) (us : List Turn) → T (setUpRight row a t)
-      → EngineOnly row (freshPool (length a / row)) (setUp row a t .arena) (setUp row a t .room) us
-      → Follows (freshPool (length a / row)) (setUp row a t .arena) (setUp row a t .room) us
+      → EngineOnly row (fed row (length a)) (setUp row a t .arena) (setUp row a t .room) us
+      → Follows (fed row (length a)) (setUp row a t .arena) (setUp row a t .room) us
   run-follows a t us h s =
-      let P : Pool = freshPool (length a / row) in
+      let P : Pool = fed row (length a) in
       let k : row * (length a / row) ≡ length a = whole-rows row (length a) (set-up-lawful row a t h) in
       rw (set-up-done row a t h)
       (follows P (zeros (length a)) us (fresh-formed (length a / row)) (rw (zeros-length (length a)) (set-up-lawful row a t h))
@@ -104,14 +103,19 @@ module _ (row : ℕ) (pos : 0 < row) where
 
   pub steers-nothing : SteersNothing row
   steers-nothing a₁ t₁ a₂ t₂ us₁ us₂ h₁ h₂ l same s₁ s₂ =
-      let r₁ : Follows (freshPool (length a₁ / row)) (setUp row a₁ t₁ .arena) (setUp row a₁ t₁ .room) us₁ = run-follows a₁ t₁ us₁ h₁ s₁ in
-      let r₂ : Follows (freshPool (length a₂ / row)) (setUp row a₂ t₂ .arena) (setUp row a₂ t₂ .room) us₂ = run-follows a₂ t₂ us₂ h₂ s₂ in
-      let P : Pool = model row (freshPool (length a₁ / row)) (calls us₁) .pool in
-      let e : model row (freshPool (length a₂ / row)) (calls us₂) .pool ≡ P = sym (ap₂ (λ n cs. model row (freshPool (n / row)) cs .pool) l same) in (
+      let r₁ : Follows (fed row (length a₁)) (setUp row a₁ t₁ .arena) (setUp row a₁ t₁ .room) us₁ = run-follows a₁ t₁ us₁ h₁ s₁ in
+      let r₂ : Follows (fed row (length a₂)) (setUp row a₂ t₂ .arena) (setUp row a₂ t₂ .room) us₂ = run-follows a₂ t₂ us₂ h₂ s₂ in
+      let e : model row (fed row (length a₁)) (calls us₁) ≡ model row (fed row (length a₂)) (calls us₂) = ap₂ (λ n cs. model row (fed row n) cs) l same in
+      let P : Pool = model row (fed row (length a₁)) (calls us₁) .pool in (
+        record {
+          answers = r₁ .modelled .answers ∙ ap (λ m. m .answers) e ∙ sym (r₂ .modelled .answers);
+          tables = r₁ .modelled .tables ∙ ap (λ m. encode row (m .pool)) e ∙ sym (r₂ .modelled .tables);
+          totals = r₁ .modelled .counted ∙ ap (λ m. done (listed (totals row (m .pool)))) e ∙ sym (r₂ .modelled .counted);
+          outside = outside row pos P (r₁ .formed) _ _ (r₁ .agrees)
+              (subst (λ Q. Agrees (cells row Q) (ranFresh row a₂ t₂ us₂ .arena)) (ap (λ m. m .pool) (sym e)) (r₂ .agrees));
+        },
         r₁ .modelled,
         r₂ .modelled,
-        outside row pos P (r₁ .formed) _ _ (r₁ .agrees)
-            (subst (λ Q. Agrees (cells row Q) (ran row (setUp row a₂ t₂ .arena) (setUp row a₂ t₂ .room) us₂ .arena)) e (r₂ .agrees)),
       )
 
 -- ---- the premise
@@ -121,3 +125,11 @@ stores-admitted row P a i v t = record {
   long = length-set a i v;
   bytes = λ j n. getD-set-other a i j v 0 (λ e. T-not (requested row P i) (subst (λ k. T (not (requested row P k))) e n) t);
 }
+
+-- ---- how the model is fed
+
+pub room-follows : (row : ℕ) → RoomFollows row
+unfolding setUpRightBy roomFor
+room-follows row a t h =
+    eqb→eq (length t) (roomBytes (length a / row)) (and-right (arenaRight row (length a)) _ h)
+    ∙ sym (choose-true (arenaRight row (length a)) _ _ (T-true (arenaRight row (length a)) (set-up-lawful row a t h)))

@@ -1,7 +1,7 @@
 -- The history of report: what the tables count to is what the calls since the last set up come to.
-use Rattle.mem.proofs.Prelude.{_∙_, _≡_, sym, ap, refl, ap₂, subst, true, Bool, false, _&&_, not, true≢false, some, List, [], _∷_, _++_, append-assoc}
-use Rattle.mem.proofs.Prelude.{map, _+_, ℕ, _<_, _≤_, _*_, suc, _/_, zero, add-zero, zero-add, add-assoc, mul-div-cancel-left, arith, eqb-false}
-use Rattle.mem.proofs.Prelude.{eqb-true, T, eqb, eqb→eq, eqb-refl, length, getD, length-append, replicate}
+use Rattle.mem.proofs.Prelude.{_∙_, _≡_, sym, ap, refl, ap₂, subst, true, Bool, false, _&&_, not, true≢false, some, List, [], _∷_, _++_, append-assoc, map, _+_}
+use Rattle.mem.proofs.Prelude.{ℕ, _<_, _≤_, _*_, suc, _/_, zero, add-zero, zero-add, add-assoc, mul-div-cancel-left, arith, eqb-false, eqb-true, T, eqb, eqb→eq}
+use Rattle.mem.proofs.Prelude.{eqb-refl, length, getD, length-append, replicate}
 use Rattle.mem.specs.Lists.{choose, any, sum}
 use Rattle.mem.specs.Bytes.{bit}
 use Rattle.mem.proofs.Tests.{T-true, true-T, choose-true, choose-case, and-right, eq→eqb}
@@ -11,18 +11,19 @@ use Rattle.model.specs.declared.Slot.the-variants.{Fresh, Idle, Live}
 use Rattle.model.specs.declared.Refusal.{Refusal}
 use Rattle.model.specs.State.{Span, Pool, Place, free, group, isLive, isReady, disp, size, wellFormed, poolOf, become, slotNumber, rowsIn, rows, beginning}
 use Rattle.model.specs.State.{start, granted, count}
-use Rattle.model.specs.Plans.{Plan, turnReady, refill, reserve, vacant, releaseAt, freshPool, refused, onBlock, release, resizeInPlace, moveTo, measureAt}
-use Rattle.model.specs.Plans.{measure, slotSum, freeRow, heldRows, totals, report, Call, setsUp, grants, releases, resizes, measures, reports, plan}
+use Rattle.model.specs.Plans.{Plan, turnReady, refill, reserve, vacant, releaseAt, freshPool, refused, release, resizeInPlace, moveTo, measureAt, measure}
+use Rattle.model.specs.Plans.{slotSum, freeRow, heldRows, totals, report, Call, setsUp, grants, releases, resizes, measures, reports, plan}
 use Rattle.model.specs.Tables.{byMasks, encode, view, sound, roomBytes}
 use Rattle.model.specs.Calls.{Result, call, setUp, setUpRight, callBy, setUpRightBy}
 use Rattle.model.proofs.Rooms.{rows-append}
 use Rattle.model.proofs.Fresh.{fresh-rows, fresh-formed, whole-rows, set-up-lawful, set-up-done, set-up-sound}
-use Rattle.model.proofs.Lookup.{placed, place-unique, lookup-start, lookup-found}
-use Rattle.model.proofs.Reserve.{Served, served, reserve-size, groupOf, reserve-formed, reserve-keeps}
+use Rattle.model.proofs.Lookup.{placed, place-unique, lookup-found}
+use Rattle.model.proofs.Reserve.{Served, served, reserve-size, groupOf}
 use Rattle.model.proofs.Formed.{any-middle, plan-formed}
 use Rattle.model.proofs.Tables.{masks-laws, Sound, sound-facts, view-encode, encode-length}
-use Rattle.model.proofs.Calls.{Asks, on-live}
-use Rattle.claims.specs.History.{Entry, Ledger, opening, without, entered, Asked, booked, kept, Counts, History}
+use Rattle.model.proofs.Calls.{Asks, call-sound, carried-whole}
+use Rattle.model.proofs.Moves.{Old, old, old-released, stays-start}
+use Rattle.claims.specs.History.{Entry, Ledger, opening, without, entered, Asked, booked, kept, Counts, Tells, History}
 use Rattle.claims.proofs.Cases.{reserve-live, taken-same, refuses, by-call, Named, on-named, on-grant, on-resize}
 use Rattle.claims.proofs.Demand1.{demand1}
 use Rattle.claims.proofs.Demand2.{Accepted, accepted, set-up-accepted, sound-leaves}
@@ -225,17 +226,6 @@ module _ (b : Entry) where
 
 -- ---- calls on a pool whose live blocks are those of a ledger
 
--- a live block is released by its start
-release-found : (row : ℕ) → 0 < row → (p : Place) → T (wellFormed (poolOf p)) → T (isLive (p .state)) → release row (poolOf p) (start row p) ≡ releaseAt row p
-unfolding release
-release-found row pos p w l =
-    ap (onBlock (poolOf p) (releaseAt row)) (lookup-start row pos p w (live-granted (p .state) l)) ∙ on-live (poolOf p) (releaseAt row) p l
-  where
-    live-granted : (x : Slot) → T (isLive x) → T (granted x)
-    live-granted Fresh l = absurd l
-    live-granted (Idle r k d) l = absurd l
-    live-granted (Live a) l = tt
-
 module _ (row : ℕ) where
   -- the ledger's blocks are the pool's live ones, and they are as many as its grants less its releases
   record Tallies (l : Ledger) (P : Pool) : Type 0 where
@@ -295,12 +285,10 @@ module _ (row : ℕ) where
     -- the old block is where it was when the new one has been granted
     moved-enters : (o m : ℕ) (p q : Place) → Named row P o p → m < tooLarge → reserve row P m ≡ some q → Enters (resizes o m) (moveTo row P p m (some q))
     moved-enters o m p q n s e z =
-        let (p′, j, y) = reserve-keeps row P m q w e p (n .pool) (n .live) in
-        let h : T (isLive (p′ .state)) = subst (λ x. T (isLive x)) (sym (y .state)) (n .live) in
-        let i : start row p′ ≡ start row p =
-        omega (arith, ap (λ r. row * r) (y .first), ap₂ (λ i c. i * slotBytes c) (y .number) (y .cls), ap disp (y .state)) in
-        let u : release row (poolOf q) (start row p) ≡ releaseAt row p′ =
-        rw (← j, ← i) (release-found row pos p′ (subst (λ Q. T (wellFormed Q)) (sym j) (reserve-formed row P m q w s e .formed)) h) in
+        let y : Old row pos P w m s q e p (n .pool) (n .live) = old row pos P w m s q e p (n .pool) (n .live) in
+        let p′ : Place = y .place in
+        let i : start row p′ ≡ start row p = stays-start row p p′ (y .stays) in
+        let u : release row (poolOf q) (start row p) ≡ releaseAt row p′ = old-released row pos P w m s q e p (n .pool) (n .live) in
         record {
           sums = λ g.
               omega (
@@ -308,9 +296,9 @@ module _ (row : ℕ) where
                 struck p o n g,
                 t .sums g,
                 reserve-weigh row g P m q w e,
-                ap (weigh row g 0) j,
-                live-weigh row g p′ h,
-                ap₂ (λ x y. g (record { start = x; size = y })) i (ap size (y .state)),
+                ap (weigh row g 0) (y .pool),
+                live-weigh row g p′ (y .live),
+                ap₂ (λ x y. g (record { start = x; size = y })) i (ap size (y .stays .state)),
                 released-weigh row g p′,
                 ap (λ (r : Plan). weigh row g 0 (r .pool)) u,
               );
@@ -357,7 +345,7 @@ module _ (row : ℕ) (pos : 0 < row) (n : ℕ) where
     tables : T (sound row n t)
     tallies : Tallies row l (view row t)
 
-  kept-counts : (l : Ledger) (t : List ℕ) → Kept l t → Counts row l t n
+  kept-counts : (l : Ledger) (t : List ℕ) → Kept l t → Counts row l (totals row (view row t)) n
   unfolding totals weight choose
   kept-counts l t k =
       let P : Pool = view row t in
@@ -429,6 +417,17 @@ module _ (row : ℕ) (pos : 0 < row) (n : ℕ) where
   calls-kept l t [] k = k
   calls-kept l t (c ∷ cs) k = calls-kept _ (call row (c .arena) t (c .asks) .room) cs (call-kept l (c .arena) t k (c .asks))
 
+  -- what report gives over an arena of n bytes
+  kept-told : (b : List ℕ) → length b ≡ n → (l : Ledger) (t : List ℕ) → Kept l t → Tells row b (record { ledger = l; room = t }) n
+  unfolding plan report
+  kept-told b e l t k =
+      let h : sound row (length b) t ≡ true = T-true (sound row (length b) t) (subst (λ m. T (sound row m t)) (sym e) (k .tables)) in
+      record {
+        totals = totals row (view row t);
+        given = ap (λ (r : Result). r .answer) (call-sound row b t h reports tt ∙ carried-whole row b t (report row (view row t)) refl);
+        counts = kept-counts l t k;
+      }
+
 pub history : (row : ℕ) → 0 < row → History row
-history row pos a t cs h =
-    kept-counts row pos (length a) _ _ (calls-kept row pos (length a) opening (setUp row a t .room) cs (fresh-kept row pos (length a) a t h refl))
+history row pos a t cs b h e =
+    kept-told row pos (length a) b e _ _ (calls-kept row pos (length a) opening (setUp row a t .room) cs (fresh-kept row pos (length a) a t h refl))

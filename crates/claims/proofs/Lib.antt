@@ -11,3 +11,4 @@ pub mod Requested
 pub mod Demand3
 pub mod History
 pub mod Alike
+pub mod Demands

@@ -1,13 +1,13 @@
 -- A resize leaves what document 01 says: in place, or as a grant, a copy and a release.
-use Rattle.mem.proofs.Prelude.{_∙_, _≡_, sym, ap, refl, ap₂, subst, true, Bool, false, not, ⊎-elim, inl, inr, _⊎_, some, none, Option, List, [], _∷_}
-use Rattle.mem.proofs.Prelude.{_++_, append-assoc, _+_, ℕ, _<_, _≤_, _*_, _-_, _/_, suc, mul-comm, le-div-iff-mul-le, mul-add, arith}
-use Rattle.mem.proofs.Prelude.{lt-leb, leb-false, leb-true, T, leb, leb→le, le→leb, T-not, length, getD, length-append}
+use Rattle.mem.proofs.Prelude.{_∙_, _≡_, sym, ap, refl, subst, true, Bool, false, not, ⊎-elim, inl, inr, _⊎_, some, none, Option, List, [], _∷_, _++_}
+use Rattle.mem.proofs.Prelude.{append-assoc, _+_, ℕ, _<_, _≤_, _*_, _-_, _/_, suc, mul-comm, le-div-iff-mul-le, mul-add, arith, lt-leb, leb-false, leb-true, T}
+use Rattle.mem.proofs.Prelude.{leb, leb→le, le→leb, T-not, length, getD, length-append}
 use native.Mathlib.Nat.{div-lt-iff-lt-mul}
 use Rattle.mem.specs.Lists.{choose, every}
 use Rattle.mem.specs.Bytes.{zeros, put, part}
 use Rattle.mem.proofs.Tests.{T-true, true-T, and-left, and-right, and-both, every-right, choose-case, choose-false}
-use Rattle.mem.proofs.Laws.{put-length, put-append, put-before, put-past, part-put, part-written, part-length, part-part, getD-part, zeros-length}
-use Rattle.mem.proofs.Laws.{zeros-add, zeros-put, eq→same}
+use Rattle.mem.proofs.Laws.{put-length, put-append, put-before, put-past, part-put, part-written, part-length, part-part, getD-part, zeros-length, zeros-add}
+use Rattle.mem.proofs.Laws.{zeros-put, eq→same}
 use Rattle.classes.specs.Classes.{slotBytes, classOf, rowsOf, tooLarge}
 use Rattle.model.specs.declared.Slot.{Slot}
 use Rattle.model.specs.declared.Refusal.the-variants.{NoRoom}
@@ -27,7 +27,7 @@ use Rattle.model.proofs.Calls.{call-sound, carried-whole}
 use Rattle.model.proofs.Moves.{Old, old, old-released, old-apart, stays-owned}
 use Rattle.claims.specs.Demand1.{order, headerDue, guardDue, Due}
 use Rattle.claims.specs.Demand2 as demand2
-use Rattle.claims.specs.AsSaid.{Waits, Goes, Serves, sized, stay, InPlace, Moved, Resized, ResizesAsSaid}
+use Rattle.claims.specs.AsSaid.{Waits, Goes, Serves, sized, stay, InPlace, Moved, ResizesAsSaid}
 use Rattle.claims.proofs.Cases.{release-parts, reserve-live}
 use Rattle.claims.proofs.Demand1.{demand1}
 use Rattle.claims.proofs.Demand2.{Accepted, accepted, none-due, found-intact}
@@ -293,7 +293,7 @@ module _ (row : ℕ) (pos : 0 < row) (P : Pool) (w : T (wellFormed P)) (a : List
   old-whole =
       let s = beside .stays in
       let e : damage row copied (beside .place)
-          ≡ damageIn (p .cls) (slotNumber p) (disp (p .state)) (size (p .state)) (part (owned row p) (slotBytes (p .cls)) copied) =
+      ≡ damageIn (p .cls) (slotNumber p) (disp (p .state)) (size (p .state)) (part (owned row p) (slotBytes (p .cls)) copied) =
       rw (s .first, s .cls, s .number, s .state) in
       e ∙ rw (old-bytes, T-true (headerDue row a p) (i .header), T-true (guardDue row a p) (i .guard))
 
@@ -421,9 +421,14 @@ resizes-as-said row pos a t o n z =
     ∙ ap (applied (masked row) a)
     (choose-false (leb tooLarge n) _ (onBlock (view row t) (resizeAt row (view row t) n) (lookup row (view row t) o)) (lt-leb tooLarge n h)
     ∙ on-intact row pos (view row t) (s .formed) a o p i (resizeAt row (view row t) n)) in
-    let e : start row p ≡ o = i .live .here .starts in
-    (p, record { block = i; done = subst (λ o. Done o p) e (resized-as-said row pos a t s n h (y .sound-tables) p (subst (λ o. demand2.Intact row a (view row t) o p) (sym e) i)
-    (call row a t c) z l) })
+    let e : start row p ≡ o = i .live .here .starts in (
+      p,
+      record {
+        block = i;
+        done = subst (λ o. Done o p) e (resized-as-said row pos a t s n h (y .sound-tables) p (subst (λ o. demand2.Intact row a (view row t) o p) (sym e) i)
+            (call row a t c) z l);
+      },
+    )
   where
     not-large : (tooLarge ≤ n → ⊥) → n < tooLarge
     not-large f = omega (arith, f)

@@ -1,6 +1,6 @@
 -- Every call keeps tables and arena in agreement, finds no damage, and leaves zeros where a block gains bytes.
-use Rattle.mem.proofs.Prelude.{_∙_, _≡_, sym, ap, refl, subst, some, List, [], _∷_, _++_, append-assoc, map, _+_, ℕ, _<_, _≤_, _*_, _-_, suc, zero}
-use Rattle.mem.proofs.Prelude.{min, arith, T, leb, leb→le, length, drop, getD, length-append, replicate}
+use Rattle.mem.proofs.Prelude.{_∙_, _≡_, sym, ap, refl, subst, some, List, [], _∷_, _++_, append-assoc, map, _+_, ℕ, _<_, _≤_, _*_, _-_, suc, zero, min, arith}
+use Rattle.mem.proofs.Prelude.{T, leb, leb→le, length, drop, getD, length-append, replicate}
 use native.Mathlib.Nat.{zero-mul}
 use lib.ListN.{length-take}
 use Rattle.mem.specs.Lists.{choose, every, any}

@@ -10,7 +10,6 @@ use lib.ListN.{length, getD}
 use Rattle.mem.specs.Lists.{any, every}
 use Rattle.mem.specs.Bytes.{put, part}
 use Rattle.classes.specs.Classes.{slotBytes, classOf, rowsOf}
-use Rattle.model.specs.declared.Slot.{Slot}
 use Rattle.model.specs.declared.Slot.the-variants.{Idle, Live}
 use Rattle.model.specs.State.{Pool, Place, isLive, count, disp, size, poolOf, become, base, owned, start}
 use Rattle.model.specs.Blocks.{reserved, guard}

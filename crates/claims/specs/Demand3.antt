@@ -10,12 +10,12 @@ use lib.Dec.{T, leb, ltb}
 use lib.ListN.{length, getD, set}
 use Rattle.mem.specs.Lists.{any}
 use Rattle.model.specs.State.{Pool, Place, isLive, size, places, start}
-use Rattle.model.specs.Answers.{Answer}
+use Rattle.model.specs.Answers.{Answer, done, listed}
 use Rattle.model.specs.Plans.{Call, setsUp, grants, releases, resizes, measures, reports, plan, lookup, totals, freshPool}
-use Rattle.model.specs.Tables.{encode, view}
+use Rattle.model.specs.Tables.{encode, roomFor}
 use Rattle.model.specs.Calls.{call, setUp, setUpRight}
 
--- THE MODEL: "Every call steps on that state and its arguments alone". It is fed a number of rows and calls.
+-- THE MODEL: "Every call steps on that state and its arguments alone". What it answers to calls, and its state after them.
 pub record Modelled : Type 0 where
   pub answers : List Answer
   pub pool : Pool
@@ -24,6 +24,10 @@ pub record Modelled : Type 0 where
 pub record Turn : Type 0 where
   pub arena : List ℕ
   pub asks : Call
+
+-- the calls of a run
+abbrev pub calls : List Turn → List Call
+calls us = map (λ u. u .asks) us
 
 -- What a run leaves.
 pub record Ended : Type 0 where
@@ -38,6 +42,14 @@ module _ (row : ℕ) where
       let p = plan row P c in
       let m = model (p .pool) cs in
       record { answers = p .answer ∷ m .answers; pool = m .pool }
+
+  -- "The model is fed the lengths of arena and table room": the rows of its first state are the arena's length over the row's. The room's
+  -- length is one formula of the arena's, so it tells nothing more.
+  abbrev pub fed : ℕ → Pool
+  fed n = freshPool (n / row)
+
+  abbrev pub RoomFollows : Type 0
+  RoomFollows = (a t : List ℕ) → T (setUpRight row a t) → length t ≡ roomFor row (length a)
 
   -- "Its requested bytes lie from its start on, as many as the n last accepted for it."
   abbrev pub covers : ℕ → Place → Bool
@@ -59,6 +71,14 @@ module _ (row : ℕ) where
       let r = call row (u .arena) t (u .asks) in
       let e = ran (r .arena) (r .room) us in
       record { answers = r .answer ∷ e .answers; arena = e .arena; room = e .room }
+
+  -- a run from a fresh pool: "A fresh pool is what an accepted set up leaves."
+  abbrev pub ranFresh : List ℕ → List ℕ → List Turn → Ended
+  ranFresh a t us = ran (setUp row a t .arena) (setUp row a t .room) us
+
+  -- the totals after a run: what report gives over what it leaves
+  abbrev pub reported : Ended → Answer
+  reported e = call row (e .arena) (e .room) reports .answer
 
   -- "Nothing but the calls and the engine's stores writes": before each call the engine stored into requested bytes of blocks
   -- then live, and nowhere else
@@ -92,26 +112,32 @@ module _ (row : ℕ) where
       Cleared P (u .asks) (call row (u .arena) t (u .asks) .answer) (call row (u .arena) t (u .asks) .arena)
       × AllCleared (plan row P (u .asks) .pool) (call row (u .arena) t (u .asks) .arena) (call row (u .arena) t (u .asks) .room) us
 
-  -- what one run of the calls from a pool P shows
+  -- what one run of the calls from a pool P shows: the model's answers, tables and totals, and zeros where a block gains bytes
   pub record AsModelled (P : Pool) (a t : List ℕ) (us : List Turn) : Type 0 where
-    pub answers : ran a t us .answers ≡ model P (map (λ u. u .asks) us) .answers
-    pub tables : ran a t us .room ≡ encode row (model P (map (λ u. u .asks) us) .pool)
-    pub counted : totals row (view row (ran a t us .room)) ≡ totals row (model P (map (λ u. u .asks) us) .pool)
+    pub answers : ran a t us .answers ≡ model P (calls us) .answers
+    pub tables : ran a t us .room ≡ encode row (model P (calls us) .pool)
+    pub counted : reported (ran a t us) ≡ done (listed (totals row (model P (calls us) .pool)))
     pub cleared : AllCleared P a t us
 
-  -- DEMAND 3. "A fresh pool is what an accepted set up leaves": over any arena and room bytes of the right lengths, different in
-  -- each run. The same list of calls, and any stores of the engine, different in each.
+  -- what two runs show beside one another: equal answers, equal tables, equal totals, and equal bytes but for the requested ones of the
+  -- blocks of P
+  pub record SameRuns (P : Pool) (d e : Ended) : Type 0 where
+    pub answers : d .answers ≡ e .answers
+    pub tables : d .room ≡ e .room
+    pub totals : reported d ≡ reported e
+    pub outside : SameOutside P (d .arena) (e .arena)
+
+  -- DEMAND 3. Over any arena and room bytes of the right lengths, different in each run; the same list of calls, and any stores of the
+  -- engine, different in each.
   abbrev pub SteersNothing : Type 0
   SteersNothing = (a₁ t₁ a₂ t₂ : List ℕ) (us₁ us₂ : List Turn)
       → T (setUpRight row a₁ t₁) → T (setUpRight row a₂ t₂) → length a₁ ≡ length a₂
-      → map (λ u. u .asks) us₁ ≡ map (λ u. u .asks) us₂
-      → EngineOnly (freshPool (length a₁ / row)) (setUp row a₁ t₁ .arena) (setUp row a₁ t₁ .room) us₁
-      → EngineOnly (freshPool (length a₂ / row)) (setUp row a₂ t₂ .arena) (setUp row a₂ t₂ .room) us₂
-      → AsModelled (freshPool (length a₁ / row)) (setUp row a₁ t₁ .arena) (setUp row a₁ t₁ .room) us₁
-      × AsModelled (freshPool (length a₂ / row)) (setUp row a₂ t₂ .arena) (setUp row a₂ t₂ .room) us₂
-      × SameOutside (model (freshPool (length a₁ / row)) (map (λ u. u .asks) us₁) .pool)
-      (ran (setUp row a₁ t₁ .arena) (setUp row a₁ t₁ .room) us₁ .arena)
-      (ran (setUp row a₂ t₂ .arena) (setUp row a₂ t₂ .room) us₂ .arena)
+      → calls us₁ ≡ calls us₂
+      → EngineOnly (fed (length a₁)) (setUp row a₁ t₁ .arena) (setUp row a₁ t₁ .room) us₁
+      → EngineOnly (fed (length a₂)) (setUp row a₂ t₂ .arena) (setUp row a₂ t₂ .room) us₂
+      → SameRuns (model (fed (length a₁)) (calls us₁) .pool) (ranFresh a₁ t₁ us₁) (ranFresh a₂ t₂ us₂)
+      × AsModelled (fed (length a₁)) (setUp row a₁ t₁ .arena) (setUp row a₁ t₁ .room) us₁
+      × AsModelled (fed (length a₂)) (setUp row a₂ t₂ .arena) (setUp row a₂ t₂ .room) us₂
 
   -- the premise admits every store into a requested byte of a live block
   abbrev pub StoresAdmitted : Type 0

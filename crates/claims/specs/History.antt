@@ -7,9 +7,9 @@ use mathlib.Core.List.{List, [], _∷_}
 use lib.Dec.{T, eqb}
 use lib.ListN.{length, getD}
 use Rattle.mem.specs.Lists.{choose, sum}
-use Rattle.model.specs.Answers.{Answer}
-use Rattle.model.specs.Plans.{Call, setsUp, grants, releases, resizes, measures, reports, totals}
-use Rattle.model.specs.Tables.{view}
+use Rattle.model.specs.declared.Totals.{Totals}
+use Rattle.model.specs.Answers.{Answer, done, listed}
+use Rattle.model.specs.Plans.{Call, setsUp, grants, releases, resizes, measures, reports}
 use Rattle.model.specs.Calls.{call, setUp, setUpRight}
 
 -- a call over whatever arena bytes
@@ -59,13 +59,19 @@ module _ (row : ℕ) where
   kept l t [] = record { ledger = l; room = t }
   kept l t (c ∷ cs) = let r = call row (c .arena) t (c .asks) in kept (booked l (c .asks) (r .answer)) (r .room) cs
 
-  -- the rules, of the totals that the tables count to and the arena's rows
-  pub record Counts (l : Ledger) (t : List ℕ) (n : ℕ) : Type 0 where
-    pub blocks : totals row (view row t) .blocks + l .released ≡ l .granted
-    pub bytes : totals row (view row t) .bytes ≡ sum (λ e. e .size) (l .blocks)
-    pub rows : totals row (view row t) .held + totals row (view row t) .free ≡ n / row
+  -- the rules, of totals and the arena's length
+  pub record Counts (l : Ledger) (s : Totals) (n : ℕ) : Type 0 where
+    pub blocks : s .blocks + l .released ≡ l .granted
+    pub bytes : s .bytes ≡ sum (λ e. e .size) (l .blocks)
+    pub rows : s .held + s .free ≡ n / row
 
-  -- HISTORY: from an accepted set up, for every list of calls over any arena at each
+  -- what report answers over an arena b and the tables that calls left: it is done, and its values are totals that keep the rules
+  pub record Tells (b : List ℕ) (k : Books) (n : ℕ) : Type 0 where
+    pub totals : Totals
+    pub given : call row b (k .room) reports .answer ≡ done (listed totals)
+    pub counts : Counts (k .ledger) totals n
+
+  -- HISTORY: from an accepted set up, for every list of calls over any arena at each, and then a report over any arena of the pool's length
   abbrev pub History : Type 0
-  History = (a t : List ℕ) (cs : List Asked) → T (setUpRight row a t)
-      → Counts (kept opening (setUp row a t .room) cs .ledger) (kept opening (setUp row a t .room) cs .room) (length a)
+  History = (a t : List ℕ) (cs : List Asked) (b : List ℕ) → T (setUpRight row a t) → length b ≡ length a
+      → Tells b (kept opening (setUp row a t .room) cs) (length a)

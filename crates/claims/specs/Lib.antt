@@ -6,3 +6,4 @@ pub mod AsSaid
 pub mod Demand3
 pub mod History
 pub mod Alike
+pub mod Demands

@@ -6,8 +6,8 @@ use Rattle.classes.specs.Classes.{rowBytes, tooLarge, unitsOf, slotBytes, slots
 use Rattle.model.specs.State.{slotSound, spanSound, places}
 use Rattle.model.specs.Blocks.{header, guard, spare, frame, headerRight, guardRight, damageIn}
 use Rattle.model.specs.Plans.{plan, opens, refill, grantSlot, inPlace}
-use Rattle.model.specs.Tables.{slotRecord, rowRecord, laterRecords, roomBytes, viewSlot, viewSlots, viewGroup, viewHolder}
-use Rattle.model.specs.Tables.{spanRecordsBy, encodeBy, viewRowsBy, viewBy, arenaRight, soundBy}
+use Rattle.model.specs.Tables.{slotRecord, rowRecord, laterRecords, roomBytes, viewSlot, viewSlots, viewGroup, viewHolder, spanRecordsBy, encodeBy}
+use Rattle.model.specs.Tables.{viewRowsBy, viewBy, arenaRight, soundBy}
 use Rattle.model.specs.Calls.{callBy, carriedBy, checkedBy, setUpBy, setUpRightBy, unless}
 use Rattle.model.specs.Bench.{sheet, passes, right}
 

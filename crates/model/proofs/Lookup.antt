@@ -1,7 +1,7 @@
 -- A granted slot is found by its start, and by nothing else.
-use Rattle.mem.proofs.Prelude.{_≡_, sym, ap, refl, ap₂, subst, true, Bool, false, inl, inr, _⊎_, some, none, Option, List, [], _∷_, _++_}
-use Rattle.mem.proofs.Prelude.{append-assoc, append-nil, _+_, ℕ, _<_, _≤_, _*_, _-_, suc, _/_, mul-comm, le-div-iff-mul-le, mul-add, arith, eq-eqb}
-use Rattle.mem.proofs.Prelude.{leb-false, leb-true, T, eqb, leb, eqb→eq, leb→le, ltb→lt, length, length-append}
+use Rattle.mem.proofs.Prelude.{_≡_, sym, ap, refl, ap₂, subst, true, Bool, false, inl, inr, _⊎_, some, none, Option, List, [], _∷_, _++_, append-assoc}
+use Rattle.mem.proofs.Prelude.{append-nil, _+_, ℕ, _<_, _≤_, _*_, _-_, suc, _/_, mul-comm, le-div-iff-mul-le, mul-add, arith, eq-eqb, leb-false, leb-true, T}
+use Rattle.mem.proofs.Prelude.{eqb, leb, eqb→eq, leb→le, ltb→lt, length, length-append}
 use Prim.Native.Nat.{max}
 use native.Mathlib.Nat.{mul-le-mul-right, suc-mul, div-lt-iff-lt-mul}
 use Rattle.mem.specs.Lists.{choose, every, find}
@@ -10,8 +10,8 @@ use Rattle.classes.specs.Classes.{slotBytes, slotsOf, rowsOf}
 use Rattle.classes.proofs.Laws.{bytes-least, rows-hold}
 use Rattle.model.specs.declared.Slot.{Slot}
 use Rattle.model.specs.declared.Slot.the-variants.{Fresh, Idle, Live}
-use Rattle.model.specs.State.{Span, Pool, Place, free, group, granted, disp, size, slotSound, spanSound, wellFormed, poolOf, slotNumber}
-use Rattle.model.specs.State.{slotPlaces, placesFrom, places, rowsIn, rows, owned, start}
+use Rattle.model.specs.State.{Span, Pool, Place, free, group, granted, disp, size, slotSound, spanSound, wellFormed, poolOf, slotNumber, slotPlaces}
+use Rattle.model.specs.State.{placesFrom, places, rowsIn, rows, owned, start}
 use Rattle.model.specs.Plans.{lookup}
 use Rattle.model.proofs.Tables.{group-slots}
 use Rattle.model.proofs.Rooms.{rows-append}

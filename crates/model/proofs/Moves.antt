@@ -3,8 +3,8 @@ use Rattle.mem.proofs.Prelude.{_∙_, _≡_, sym, ap, ap₂, subst, ⊎-elim, i
 use Rattle.classes.specs.Classes.{slotBytes, tooLarge}
 use Rattle.model.specs.declared.Slot.{Slot}
 use Rattle.model.specs.declared.Slot.the-variants.{Fresh, Idle, Live}
-use Rattle.model.specs.State.{Pool, Place, isLive, granted, disp, wellFormed, poolOf, slotNumber, rows, owned, start}
-use Rattle.model.specs.Plans.{lookup, onBlock, releaseAt, release, reserve}
+use Rattle.model.specs.State.{Pool, Place, isLive, granted, disp, wellFormed, poolOf, owned, start}
+use Rattle.model.specs.Plans.{onBlock, releaseAt, release, reserve}
 use Rattle.model.proofs.Lookup.{lookup-start, owned-apart}
 use Rattle.model.proofs.Calls.{on-live}
 use Rattle.model.proofs.Reserve.{reserve-formed, Stays, reserve-keeps, reserve-other}

@@ -1,8 +1,7 @@
 -- What a grant takes: the pool that it makes is well formed, and every live block stays where it is.
-use Rattle.mem.proofs.Prelude.{_∙_, _≡_, sym, ap, refl, subst, true, Bool, false, _&&_, not, _||_, ⊎-elim, inl, inr, _⊎_, some, none, Option, List}
-use Rattle.mem.proofs.Prelude.{[], _∷_, _++_, append-assoc, map, append-nil, _+_, ℕ, _<_, _≤_, _*_, _-_, suc, _/_, zero, _%_, add-zero, arith, eq-eqb}
-use Rattle.mem.proofs.Prelude.{T, eqb, leb, ltb, eqb→eq, eqb-refl, lt→ltb, le→leb, length, drop, getD, length-append, replicate, length-map}
-use Rattle.mem.proofs.Prelude.{length-replicate, length-take-le}
+use Rattle.mem.proofs.Prelude.{_∙_, _≡_, sym, ap, refl, subst, true, Bool, false, _&&_, not, _||_, ⊎-elim, inl, inr, _⊎_, some, none, Option, List, [], _∷_}
+use Rattle.mem.proofs.Prelude.{_++_, append-assoc, map, append-nil, _+_, ℕ, _<_, _≤_, _*_, _-_, suc, _/_, zero, _%_, add-zero, arith, eq-eqb, T, eqb, leb, ltb}
+use Rattle.mem.proofs.Prelude.{eqb→eq, eqb-refl, lt→ltb, le→leb, length, drop, getD, length-append, replicate, length-map, length-replicate, length-take-le}
 use native.Mathlib.Nat.{mod-lt}
 use lib.Seq.{split-at}
 use Rattle.mem.specs.Lists.{choose, every, any, first}

@@ -1,34 +1,26 @@
 -- A block that moves: in the tables that the grant leaves it still lives, and the new block is apart from it.
-use Rattle.mem.proofs.Prelude.{_∙_, _≡_, sym, ap, refl, ap₂, subst, true, ⊎-elim, inl, inr, _⊎_, some, none, Option, List, [], _∷_, _+_, ℕ, _<_, _≤_}
-use Rattle.mem.proofs.Prelude.{_*_, min, arith, T}
+use Rattle.mem.proofs.Prelude.{_∙_, _≡_, sym, ap, refl, ap₂, true, ⊎-elim, inl, inr, _⊎_, some, none, Option, List, [], _∷_, _+_, ℕ, _<_, _≤_, _*_, min, arith}
 use Rattle.mem.specs.Bytes.{put, part}
 use Rattle.mem.proofs.Tests.{T-true}
 use Rattle.classes.specs.Classes.{slotBytes, tooLarge}
 use Rattle.model.specs.declared.Refusal.the-variants as refusals
 use Rattle.model.specs.declared.Reply.{Reply}
-use Rattle.model.specs.declared.Slot.{Slot}
-use Rattle.model.specs.declared.Slot.the-variants.{Fresh, Idle, Live}
-use Rattle.model.specs.State.{Place, isLive, granted, disp, size, wellFormed, poolOf, slotNumber, rows, owned, start}
+use Rattle.model.specs.State.{Place, disp, size, poolOf, slotNumber, rows, owned, start}
 use Rattle.model.specs.Blocks.{frame}
 use Rattle.model.specs.Answers.{done}
-use Rattle.model.specs.Plans.{Plan, lookup, onBlock, reserve, release, releaseAt, resizeMove, moveTo, enframe}
+use Rattle.model.specs.Plans.{Plan, reserve, release, releaseAt, resizeMove, moveTo, enframe}
 use Rattle.model.specs.Tables.{byMasks, view, encode, sound}
 use Rattle.model.specs.Calls.{written}
 use Rattle.model.proofs.Tables.{masks-laws, encode-sound}
-use Rattle.model.proofs.Lookup.{Fits, fits, disp-inside, lookup-start, owned-apart}
-use Rattle.model.proofs.Calls.{on-live}
-use Rattle.model.proofs.Reserve.{reserve-size, Granted, reserve-formed, Stays, reserve-keeps, reserve-other}
+use Rattle.model.proofs.Lookup.{Fits, fits, disp-inside}
+use Rattle.model.proofs.Reserve.{reserve-size, Granted, reserve-formed, Stays}
+use Rattle.model.proofs.Moves.{Old, old, old-released, old-apart}
 use Rattle.rows.specs.declared.Block.{Block}
 use Rattle.rows.specs.Rows.{Lent, blockOf, ownedAt, startAt, Holds}
 use Rattle.rows.proofs.Rooms.{facts, few-rows}
 use Rattle.ops.specs.declared.Reserved.the-variants.{Taken, NoRoom}
 use Rattle.ops.specs.Blocks.{Standing, reservedAs, CarriedOut}
 use Rattle.ops.proofs.Places.{place-stands, held-pool}
-
-live-granted : (x : Slot) → T (isLive x) → T (granted x)
-live-granted Fresh l = l
-live-granted (Idle r k d) l = tt
-live-granted (Live a) l = tt
 
 -- one slot of two pools is one block
 stays-block : (row : ℕ) (p q : Place) → Stays row p q → blockOf row q ≡ blockOf row p
@@ -71,57 +63,42 @@ module _ {row len : ℕ} {t : List ℕ} (r : Lent byMasks row len t) (n : ℕ) (
 
   module _ {b : Block} {p : Place} (h : Holds byMasks row t b p) where
     -- the old block in the new tables
-    pub record Beside : Type 0 where
-      pub place : Place
-      pub pool : poolOf place ≡ poolOf q
-      pub holds : Holds byMasks row (encode row (poolOf q)) b place
-      pub other : place ≡ q → ⊥
+    pub there : poolOf p ≡ view row t
+    there = sym (held-pool r h)
 
-    pub beside : Beside
-    beside = go (reserve-keeps row (view row t) n q (facts r .formed) found p (sym (held-pool r h)) (h .live))
-      where
-        go : (p′ : Place) × (poolOf p′ ≡ poolOf q) × Stays row p p′ → Beside
-        go (p′, e, k) = record {
-          place = p′;
-          pool = e;
-          holds = record {
-            laws = masks-laws;
-            pos = r .pos;
-            bytes = ap (encode row) (sym e);
-            block = h .block ∙ sym (stays-block row p p′ k);
-            live = subst (λ x. T (isLive x)) (sym (k .state)) (h .live);
-            formed = subst (λ P. T (wellFormed P)) (sym e) (grant-formed .formed);
-            few = omega (arith, few-rows r, grant-formed .long, ap (rows row) e);
-          };
-          other = λ z. reserve-other row (r .pos) (view row t) n q (facts r .formed) found p (sym (held-pool r h)) (h .live) (subst (Stays row p) z k);
-        }
+    pub beside : Old row (r .pos) (view row t) (facts r .formed) n small q found p there (h .live)
+    beside = old row (r .pos) (view row t) (facts r .formed) n small q found p there (h .live)
+
+    pub beside-holds : Holds byMasks row (encode row (poolOf q)) b (beside .place)
+    beside-holds = record {
+      laws = masks-laws;
+      pos = r .pos;
+      bytes = ap (encode row) (sym (beside .pool));
+      block = h .block ∙ sym (stays-block row p (beside .place) (beside .stays));
+      live = beside .live;
+      formed = beside .formed;
+      few = omega (arith, few-rows r, grant-formed .long, ap (rows row) (beside .pool));
+    }
 
     -- the bytes of the two blocks are apart
     pub copy-apart : (k : ℕ) → k ≤ b .alloc .size → k ≤ size (q .state) → (startAt row b + k ≤ start row q) ⊎ (start row q + k ≤ startAt row b)
     copy-apart k l j =
-        let o : Place = beside .place in
-        let w : T (wellFormed (poolOf o)) = beside .holds .formed in
-        let fo : Fits o = fits o w in
+        let fp : Fits p = fits p (h .formed) in
         let fq : Fits q = fits q (grant-formed .formed) in
-        let io : 16 * disp (o .state) + size (o .state) + 4 ≤ slotBytes (o .cls) = disp-inside (o .cls) (o .state) (fo .class) (fo .state) in
+        let ip : 16 * disp (p .state) + size (p .state) + 4 ≤ slotBytes (p .cls) = disp-inside (p .cls) (p .state) (fp .class) (fp .state) in
         let iq : 16 * disp (q .state) + size (q .state) + 4 ≤ slotBytes (q .cls) = disp-inside (q .cls) (q .state) (fq .class) (fq .state) in
-        let e₁ : startAt row b ≡ start row o = ap (startAt row) (beside .holds .block) in
-        let e₂ : b .alloc .size ≡ size (o .state) = ap (λ c. c .alloc .size) (beside .holds .block) in
-        ⊎-elim (λ x. inl (omega (arith, x, io, iq, e₁, e₂))) (λ x. inr (omega (arith, x, io, iq, e₁, e₂)))
-        (owned-apart row (r .pos) o q w (sym (beside .pool)) (λ x. beside .other (sym x)))
+        let e₁ : startAt row b ≡ start row p = ap (startAt row) (h .block) in
+        let e₂ : b .alloc .size ≡ size (p .state) = ap (λ c. c .alloc .size) (h .block) in
+        ⊎-elim (λ x. inl (omega (arith, x, ip, iq, e₁, e₂))) (λ x. inr (omega (arith, x, ip, iq, e₁, e₂)))
+        (old-apart row (r .pos) (view row t) (facts r .formed) n small q found p there (h .live))
 
     pub taken-size : size (q .state) ≡ n
     taken-size = reserve-size row (view row t) n q (facts r .formed) found
 
     -- the old block is released by its start
     released-old : release row (poolOf q) (start row p) ≡ releaseAt row (beside .place)
-    unfolding release
-    released-old =
-        let o : Place = beside .place in
-        let e : start row p ≡ start row o = ap (startAt row) (sym (h .block) ∙ beside .holds .block) in
-        ap (onBlock (poolOf q) (releaseAt row))
-        (ap₂ (lookup row) (sym (beside .pool)) e ∙ lookup-start row (r .pos) o (beside .holds .formed) (live-granted (o .state) (beside .holds .live)))
-        ∙ on-live (poolOf q) (releaseAt row) o (beside .holds .live)
+    unfolding beside
+    released-old = old-released row (r .pos) (view row t) (facts r .formed) n small q found p there (h .live)
 
     -- the plan of the move
     move-plan : resizeMove row (poolOf p) p n ≡ moveTo row (poolOf p) p n (some q)

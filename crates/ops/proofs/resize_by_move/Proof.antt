@@ -9,7 +9,7 @@ use Rattle.rows.specs.Rows.{Lent, blockOf, startAt, Holds}
 use Rattle.rows.proofs.Rooms.{by-masks}
 use Rattle.ops.specs.Blocks.{Standing, roomAfter}
 use Rattle.ops.proofs.Places.{held-stands}
-use Rattle.ops.proofs.Moves.{reserved-place, reserved-none, reserve-leaves, beside, copy-apart, taken-size, moved, moved-nowhere}
+use Rattle.ops.proofs.Moves.{reserved-place, reserved-none, reserve-leaves, beside, beside-holds, copy-apart, taken-size, moved, moved-nowhere}
 use Rattle.ops.proofs.resize_by_move.Statement.{statement}
 use Rattle.ops.proofs.resize_by_move.Tie as tie
 
@@ -108,8 +108,8 @@ still : (c : tie.After-known-told) → (let s = c .before .before .before .befor
     (beside (room s) (a .n) (s .pre .1 .1 .0) (new c .0) (new c .1) h .place))
 still c p h =
     let s = c .before .before .before .before .before .before .before .before .before in
-    let o = beside (room s) (s .args .n) (s .pre .1 .1 .0) (new c .0) (new c .1) h in
-    subst (λ u. Holds byMasks (s .args .row) u (s .args .b) (o .place)) (sym (after c)) (o .holds)
+    subst (λ u. Holds byMasks (s .args .row) u (s .args .b) (beside (room s) (s .args .n) (s .pre .1 .1 .0) (new c .0) (new c .1) h .place))
+    (sym (after c)) (beside-holds (room s) (s .args .n) (s .pre .1 .1 .0) (new c .0) (new c .1) h)
 
 discard-requires : tie.Need-discard-requires
 discard-requires c κs =

@@ -1,0 +1,41 @@
+-- All that is claimed holds at the card's row size.
+use Rattle.mem.proofs.Prelude.{_<_, lit≤}
+use Rattle.classes.specs.Classes.{rowBytes}
+use Rattle.classes.proofs.Laws.{all-classes}
+use Rattle.model.proofs.Bench.{bench}
+use Rattle.claims.specs.Demands.{Demands}
+use Rattle.claims.proofs.Tables.{tables}
+use Rattle.claims.proofs.Bench.{too-large-anywhere}
+use Rattle.claims.proofs.Demand1.{demand1}
+use Rattle.claims.proofs.Demand2.{releases-exactly, measures-exactly, grants-exactly, grants-as-said, never-shared, leaves-sound}
+use Rattle.claims.proofs.AsSaid.{never-at-zero, reads-only, releases-as-said}
+use Rattle.claims.proofs.Resizes.{resizes-as-said}
+use Rattle.claims.proofs.Demand3.{steers-nothing, stores-admitted, room-follows}
+use Rattle.claims.proofs.History.{history}
+
+some-bytes : 0 < rowBytes
+unfolding rowBytes
+some-bytes = lit≤ tt
+
+pub demands : Demands rowBytes
+demands = record {
+  demand1 = demand1 rowBytes some-bytes;
+  releases-exactly = releases-exactly rowBytes some-bytes;
+  measures-exactly = measures-exactly rowBytes some-bytes;
+  grants-exactly = grants-exactly rowBytes some-bytes;
+  grants-as-said = grants-as-said rowBytes some-bytes;
+  releases-as-said = releases-as-said rowBytes some-bytes;
+  resizes-as-said = resizes-as-said rowBytes some-bytes;
+  reads-only = reads-only rowBytes some-bytes;
+  never-at-zero = never-at-zero rowBytes;
+  never-shared = never-shared rowBytes some-bytes;
+  steers-nothing = steers-nothing rowBytes some-bytes;
+  stores-admitted = stores-admitted rowBytes;
+  room-follows = room-follows rowBytes;
+  tables = tables;
+  leaves-sound = leaves-sound rowBytes some-bytes;
+  history = history rowBytes some-bytes;
+  all-classes = all-classes;
+  bench = bench;
+  too-large-anywhere = too-large-anywhere rowBytes some-bytes;
+}

@@ -1,0 +1,39 @@
+-- All that is claimed, at one place. At the card's row size, `Demands rowBytes`, it speaks of `call rowBytes`, the definition that every
+-- contract of the crates `pool` and `slotpool` is an equation with.
+use Prim.Native.Nat.{ℕ}
+use lib.Dec.{T}
+use Rattle.mem.specs.Lists.{every}
+use Rattle.classes.specs.Facts.{AllClasses}
+use Rattle.model.specs.Bench.{sheet, right}
+use Rattle.claims.specs.Tables.{TableForm}
+use Rattle.claims.specs.Bench.{TooLargeAnywhere}
+use Rattle.claims.specs.Demand1.{Demand1}
+use Rattle.claims.specs.Demand2.{ReleasesExactly, MeasuresExactly, GrantsExactly, GrantsAsSaid, NeverShared, LeavesSound}
+use Rattle.claims.specs.AsSaid.{NeverAtZero, ReadsOnly, ReleasesAsSaid, ResizesAsSaid}
+use Rattle.claims.specs.Demand3.{RoomFollows, SteersNothing, StoresAdmitted}
+use Rattle.claims.specs.History.{History}
+
+pub record Demands (row : ℕ) : Type 0 where
+  -- 1: every call ends with the first answer due, and a refusal changes nothing
+  pub demand1 : Demand1 row
+  -- 2: every call does what document 01 says
+  pub releases-exactly : ReleasesExactly row
+  pub measures-exactly : MeasuresExactly row
+  pub grants-exactly : GrantsExactly row
+  pub grants-as-said : GrantsAsSaid row
+  pub releases-as-said : ReleasesAsSaid row
+  pub resizes-as-said : ResizesAsSaid row
+  pub reads-only : ReadsOnly row
+  pub never-at-zero : NeverAtZero row
+  pub never-shared : NeverShared row
+  -- 3: packet contents steer nothing
+  pub steers-nothing : SteersNothing row
+  pub stores-admitted : StoresAdmitted row
+  pub room-follows : RoomFollows row
+  -- the tables, the history of report, the class facts, the bench sheet
+  pub tables : TableForm row
+  pub leaves-sound : LeavesSound row
+  pub history : History row
+  pub all-classes : AllClasses
+  pub bench : T (every right sheet)
+  pub too-large-anywhere : TooLargeAnywhere row
