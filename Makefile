@@ -7,8 +7,9 @@ LIB = target/staticlib/libslotpool.a
 
 all: $(LIB)
 
-$(LIB): crates.txt $(shell find crates -name '*.rt')
-	rt staticlib slotpool
+# from what has been proved, so it depends on code, definitions and proofs
+$(LIB): crates.txt $(shell find crates -name '*.rt' -o -name '*.antt')
+	.ci/show rt staticlib slotpool
 
 target/gather: examples/gather.c include/slotpool.h $(LIB)
 	cc -O2 -Wall -Wextra -std=c11 -Iinclude -o $@ examples/gather.c $(LIB)
