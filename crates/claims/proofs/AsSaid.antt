@@ -1,30 +1,54 @@
 -- Release and resize leave what document 01 says, measure and report leave everything, and no block starts at 0.
 use Rattle.mem.proofs.Prelude.{_∙_, _≡_, sym, ap, refl, subst, true, Bool, false, not, true≢false, ⊎-elim, inl, inr, _⊎_, List, [], _∷_, _++_, append-nil, ℕ}
-use Rattle.mem.proofs.Prelude.{_<_, arith, eqb-false, eqb-true, T, eqb, length, getD}
+use Rattle.mem.proofs.Prelude.{_<_, _/_, arith, eqb-false, eqb-true, T, eqb, length, getD}
 use Rattle.mem.specs.Lists.{any, every}
 use Rattle.mem.specs.Bytes.{zeros, put}
-use Rattle.mem.proofs.Tests.{true-T, choose-case}
-use Rattle.mem.proofs.Laws.{put-length, put-before, put-past, zeros-length, zeros-put}
+use Rattle.mem.proofs.Tests.{T-true, true-T, choose-case}
+use Rattle.mem.proofs.Laws.{put-all, put-length, put-before, put-past, zeros-length, zeros-put}
 use Rattle.model.specs.declared.Slot.{Slot}
 use Rattle.model.specs.declared.Slot.the-variants.{Fresh, Idle, Live}
 use Rattle.model.specs.declared.Damage.the-variants.{Intact}
 use Rattle.model.specs.State.{Pool, Place, isLive, wellFormed, poolOf}
-use Rattle.model.specs.Plans.{Plan, Call, releases, measures, reports, plan, lookup, onBlock, releaseAt, release, measureAt, measure, report, resize}
-use Rattle.model.specs.Tables.{byMasks, encode, view}
-use Rattle.model.specs.Calls.{Result, masked, applied, written, call}
+use Rattle.model.specs.Plans.{freshPool, Plan, Call, releases, measures, reports, plan, lookup, onBlock, releaseAt, release, measureAt, measure, report, resize}
+use Rattle.model.specs.Tables.{sound, byMasks, encode, view}
+use Rattle.model.specs.Calls.{callBy, setUpRight, Result, masked, applied, written, call}
 use Rattle.model.proofs.Tables.{masks-laws, sound-facts, view-encode}
 use Rattle.model.proofs.Formed.{release-formed}
-use Rattle.model.proofs.Calls.{Asks, on-live}
+use Rattle.model.proofs.Fresh.{fresh-formed, set-up-done}
+use Rattle.model.proofs.Calls.{call-sound, carried-whole, Asks, on-live}
 use Rattle.claims.specs.Demand2 as demand2
-use Rattle.claims.specs.AsSaid.{ZeroedOnly, NeverAtZero, Unchanged, ReadsOnly, Waits, Goes, ReleasesAsSaid}
+use Rattle.claims.specs.AsSaid.{MadeFresh, SetsUpAsSaid, ReportsAsSaid, ZeroedOnly, NeverAtZero, Unchanged, ReadsOnly, Waits, Goes, ReleasesAsSaid}
 use Rattle.claims.proofs.Cases.{release-parts, on-named}
 use Rattle.claims.proofs.Demand1.{demand1, starts-found}
-use Rattle.claims.proofs.Demand2.{Accepted, accepted, releases-exactly}
+use Rattle.claims.proofs.Demand2.{set-up-accepted, Accepted, accepted, releases-exactly}
 
 -- ---- no block starts at 0
 
 pub never-at-zero : (row : ℕ) → NeverAtZero row
 never-at-zero row P p s = omega (arith, s .starts)
+
+-- zeros written from a place on
+zeroed : (a b : List ℕ) (p k : ℕ) → b ≡ put p (zeros k) a → ZeroedOnly a b p k
+zeroed a b p k e = record {
+  long = ap length e ∙ put-length p (zeros k) a;
+  zero = λ i h l. ap (λ c. getD c i 0) e ∙ ap (λ bs. getD (put p bs a) i 0) (sym (append-nil (zeros k))) ∙ zeros-put p [] k [] a i (omega arith) (omega arith);
+  others = λ i h.
+      ap (λ c. getD c i 0) e
+      ∙ ⊎-elim (put-before p (zeros k) a i 0) (λ l. put-past p (zeros k) a i 0 (omega (arith, l, zeros-length k))) h;
+}
+
+-- ---- set up
+
+pub sets-up-as-said : (row : ℕ) → 0 < row → SetsUpAsSaid row
+unfolding callBy
+sets-up-as-said row pos a t z =
+    let h : T (setUpRight row a t) = set-up-accepted row pos a t z in
+    let n : ℕ = length a / row in
+    subst (MadeFresh row a) (sym (set-up-done row a t h)) (record {
+      value = refl;
+      pool = view-encode masks-laws row pos (freshPool n) (fresh-formed n);
+      bytes = zeroed a (zeros (length a)) 0 (length a) (sym (put-all (zeros (length a)) a (zeros-length (length a))));
+    })
 
 -- ---- measure and report
 
@@ -60,17 +84,13 @@ reads-only row pos = record {
   reported = λ a t. unchanged row pos a t reports tt (reports-nothing row pos a t);
 }
 
--- ---- release
+pub reports-as-said : (row : ℕ) → ReportsAsSaid row
+unfolding plan report
+reports-as-said row a t s =
+    ap (λ (r : Result). r .answer)
+    (call-sound row a t (T-true (sound row (length a) t) s) reports tt ∙ carried-whole row a t (report row (view row t)) refl)
 
--- zeros written from a place on
-zeroed : (a b : List ℕ) (p k : ℕ) → b ≡ put p (zeros k) a → ZeroedOnly a b p k
-zeroed a b p k e = record {
-  long = ap length e ∙ put-length p (zeros k) a;
-  zero = λ i h l. ap (λ c. getD c i 0) e ∙ ap (λ bs. getD (put p bs a) i 0) (sym (append-nil (zeros k))) ∙ zeros-put p [] k [] a i (omega arith) (omega arith);
-  others = λ i h.
-      ap (λ c. getD c i 0) e
-      ∙ ⊎-elim (put-before p (zeros k) a i 0) (λ l. put-past p (zeros k) a i 0 (omega (arith, l, zeros-length k))) h;
-}
+-- ---- release
 
 none-live : (ss : List Slot) → any isLive ss ≡ false → T (every (λ x. not (isLive x)) ss)
 none-live [] e = tt

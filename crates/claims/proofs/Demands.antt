@@ -8,7 +8,7 @@ use Rattle.claims.proofs.Tables.{tables}
 use Rattle.claims.proofs.Bench.{too-large-anywhere}
 use Rattle.claims.proofs.Demand1.{demand1}
 use Rattle.claims.proofs.Demand2.{releases-exactly, measures-exactly, grants-exactly, grants-as-said, never-shared, leaves-sound}
-use Rattle.claims.proofs.AsSaid.{never-at-zero, reads-only, releases-as-said}
+use Rattle.claims.proofs.AsSaid.{never-at-zero, sets-up-as-said, reads-only, reports-as-said, releases-as-said}
 use Rattle.claims.proofs.Resizes.{resizes-as-said}
 use Rattle.claims.proofs.Demand3.{steers-nothing, stores-admitted, room-follows}
 use Rattle.claims.proofs.History.{history}
@@ -23,9 +23,11 @@ demands = record {
   releases-exactly = releases-exactly rowBytes some-bytes;
   measures-exactly = measures-exactly rowBytes some-bytes;
   grants-exactly = grants-exactly rowBytes some-bytes;
+  sets-up-as-said = sets-up-as-said rowBytes some-bytes;
   grants-as-said = grants-as-said rowBytes some-bytes;
   releases-as-said = releases-as-said rowBytes some-bytes;
   resizes-as-said = resizes-as-said rowBytes some-bytes;
+  reports-as-said = reports-as-said rowBytes;
   reads-only = reads-only rowBytes some-bytes;
   never-at-zero = never-at-zero rowBytes;
   never-shared = never-shared rowBytes some-bytes;

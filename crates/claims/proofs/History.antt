@@ -21,12 +21,13 @@ use Rattle.model.proofs.Lookup.{placed, place-unique, lookup-found}
 use Rattle.model.proofs.Reserve.{Served, served, reserve-size, groupOf}
 use Rattle.model.proofs.Formed.{any-middle, plan-formed}
 use Rattle.model.proofs.Tables.{masks-laws, Sound, sound-facts, view-encode, encode-length}
-use Rattle.model.proofs.Calls.{Asks, call-sound, carried-whole}
+use Rattle.model.proofs.Calls.{Asks}
 use Rattle.model.proofs.Moves.{Old, old, old-released, stays-start}
 use Rattle.claims.specs.History.{Entry, Ledger, opening, without, entered, Asked, booked, kept, Counts, Tells, History}
 use Rattle.claims.proofs.Cases.{reserve-live, taken-same, refuses, by-call, Named, on-named, on-grant, on-resize}
 use Rattle.claims.proofs.Demand1.{demand1}
 use Rattle.claims.proofs.Demand2.{Accepted, accepted, set-up-accepted, sound-leaves}
+use Rattle.claims.proofs.AsSaid.{reports-as-said}
 
 -- ---- What a pool weighs: each live block as much as f says of its start and size. That the blocks of a ledger and of a pool are the same,
 -- in whatever order, is said so: whatever f says, they weigh the same.
@@ -419,14 +420,11 @@ module _ (row : ℕ) (pos : 0 < row) (n : ℕ) where
 
   -- what report gives over an arena of n bytes
   kept-told : (b : List ℕ) → length b ≡ n → (l : Ledger) (t : List ℕ) → Kept l t → Tells row b (record { ledger = l; room = t }) n
-  unfolding plan report
-  kept-told b e l t k =
-      let h : sound row (length b) t ≡ true = T-true (sound row (length b) t) (subst (λ m. T (sound row m t)) (sym e) (k .tables)) in
-      record {
-        totals = totals row (view row t);
-        given = ap (λ (r : Result). r .answer) (call-sound row b t h reports tt ∙ carried-whole row b t (report row (view row t)) refl);
-        counts = kept-counts l t k;
-      }
+  kept-told b e l t k = record {
+    totals = totals row (view row t);
+    given = reports-as-said row b t (subst (λ m. T (sound row m t)) (sym e) (k .tables));
+    counts = kept-counts l t k;
+  }
 
 pub history : (row : ℕ) → 0 < row → History row
 history row pos a t cs b h e =

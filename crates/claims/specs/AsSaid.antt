@@ -1,6 +1,6 @@
--- Demand 2, the other calls: "Every call does what document 01 says". What an accepted release and an accepted resize leave, byte by byte
+-- Demand 2, the calls but grant: "Every call does what document 01 says". What an accepted set up, release and resize leave, byte by byte
 -- and slot by slot, and that measure and report leave everything, without a word of the plans.
-use Prim.Native.Nat.{ℕ, suc, _+_, _*_, _-_, _≤_, _<_, min}
+use Prim.Native.Nat.{ℕ, suc, _+_, _*_, _-_, _/_, _≤_, _<_, min}
 use mathlib.Core.Path.{_≡_}
 use mathlib.Core.Bool.{false, not}
 use mathlib.Core.Logic.{_⊎_}
@@ -13,8 +13,9 @@ use Rattle.classes.specs.Classes.{slotBytes, classOf, rowsOf}
 use Rattle.model.specs.declared.Slot.the-variants.{Idle, Live}
 use Rattle.model.specs.State.{Pool, Place, isLive, count, disp, size, poolOf, become, base, owned, start}
 use Rattle.model.specs.Blocks.{reserved, guard}
-use Rattle.model.specs.Plans.{Call, grants, releases, resizes, measures, reports, freshPool}
-use Rattle.model.specs.Tables.{view}
+use Rattle.model.specs.Answers.{done, listed}
+use Rattle.model.specs.Plans.{Call, setsUp, grants, releases, resizes, measures, reports, freshPool, totals}
+use Rattle.model.specs.Tables.{view, sound}
 use Rattle.model.specs.Calls.{Result, call}
 use Rattle.claims.specs.Demand1.{StartsAt}
 use Rattle.claims.specs.Demand2.{Intact}
@@ -30,6 +31,17 @@ module _ (row : ℕ) where
   abbrev pub NeverAtZero : Type 0
   NeverAtZero = (P : Pool) (p : Place) → StartsAt row P 0 p → ⊥
 
+  -- SET UP
+
+  -- "Set up writes zero over the whole arena and makes tables with no groups."
+  pub record MadeFresh (a : List ℕ) (r : Result) : Type 0 where
+    pub value : r .answer .values ≡ 0 ∷ []
+    pub pool : view row (r .room) ≡ freshPool (length a / row)
+    pub bytes : ZeroedOnly a (r .arena) 0 (length a)
+
+  abbrev pub SetsUpAsSaid : Type 0
+  SetsUpAsSaid = (a t : List ℕ) → call row a t setsUp .answer .number ≡ 0 → MadeFresh a (call row a t setsUp)
+
   -- MEASURE AND REPORT
 
   -- a call that leaves every byte of arena and tables
@@ -41,6 +53,10 @@ module _ (row : ℕ) where
   pub record ReadsOnly : Type 0 where
     pub measured : (a t : List ℕ) (o : ℕ) → Unchanged a t (measures o)
     pub reported : (a t : List ℕ) → Unchanged a t reports
+
+  -- "Report gives, in this order: live blocks, their requested bytes, rows held, rows free, ready slots, waiting slots"
+  abbrev pub ReportsAsSaid : Type 0
+  ReportsAsSaid = (a t : List ℕ) → T (sound row (length a) t) → call row a t reports .answer ≡ done (listed (totals row (view row t)))
 
   -- RELEASE
 

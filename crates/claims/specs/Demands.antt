@@ -9,7 +9,7 @@ use Rattle.claims.specs.Tables.{TableForm}
 use Rattle.claims.specs.Bench.{TooLargeAnywhere}
 use Rattle.claims.specs.Demand1.{Demand1}
 use Rattle.claims.specs.Demand2.{ReleasesExactly, MeasuresExactly, GrantsExactly, GrantsAsSaid, NeverShared, LeavesSound}
-use Rattle.claims.specs.AsSaid.{NeverAtZero, ReadsOnly, ReleasesAsSaid, ResizesAsSaid}
+use Rattle.claims.specs.AsSaid.{NeverAtZero, SetsUpAsSaid, ReadsOnly, ReportsAsSaid, ReleasesAsSaid, ResizesAsSaid}
 use Rattle.claims.specs.Demand3.{RoomFollows, SteersNothing, StoresAdmitted}
 use Rattle.claims.specs.History.{History}
 
@@ -20,9 +20,11 @@ pub record Demands (row : ℕ) : Type 0 where
   pub releases-exactly : ReleasesExactly row
   pub measures-exactly : MeasuresExactly row
   pub grants-exactly : GrantsExactly row
+  pub sets-up-as-said : SetsUpAsSaid row
   pub grants-as-said : GrantsAsSaid row
   pub releases-as-said : ReleasesAsSaid row
   pub resizes-as-said : ResizesAsSaid row
+  pub reports-as-said : ReportsAsSaid row
   pub reads-only : ReadsOnly row
   pub never-at-zero : NeverAtZero row
   pub never-shared : NeverShared row
