@@ -12,8 +12,6 @@
 //! assert_eq!(pool.release(block), Err(slotpool::Refusal::NoSuchBlock));
 //! ```
 
-pub mod reference;
-
 use std::fmt;
 
 /// Why a call was refused. A refused call changes no byte.

@@ -1,120 +1,124 @@
-//! The bench sheet of document 01, run on the library; W4 and W5 with their large arenas.
+//! The bench sheet of document 01, run on the library beside the second implementation; W4 and W5 with their large arenas.
 
-use slotpool::{room_len, Pool, Refusal};
+mod common;
 
-fn fresh(arena_len: usize) -> (Vec<u8>, Vec<u8>) {
-    let (mut arena, mut room) = (vec![9; arena_len], vec![9; room_len(arena_len)]);
-    Pool::set_up(&mut arena, &mut room).unwrap();
-    (arena, room)
+use common::Answer::{self, Done, Refused, Value};
+use common::Both;
+use common::Call::{self, Grant, Measure, Release, Report, Resize, Store};
+use slotpool::{Refusal, Totals};
+
+fn fresh(arena_len: usize) -> Both {
+    Both::new(arena_len, 9)
+}
+
+/// Makes calls, each with the answer due.
+fn due<const N: usize>(both: &mut Both, calls: [(Call, Answer); N]) {
+    for (call, answer) in calls {
+        assert_eq!(both.call(call), Ok(answer), "{call:?}");
+    }
 }
 
 #[test]
 fn w1_and_w2() {
-    let (mut a, mut r) = fresh(512);
-    let mut p = Pool::over(&mut a, &mut r);
-    assert_eq!(p.grant(0), Ok(16));
-    assert_eq!(p.arena()[12..16], [0, 160, 0, 0]);
-    assert_eq!(p.arena()[24..28], [12, 0, 0, 0]);
-    assert_eq!(p.grant(12), Ok(32));
-    assert_eq!(p.arena()[28..32], [0, 1, 1, 0]);
+    let mut both = fresh(512);
+    due(&mut both, [(Grant(0), Value(16))]);
+    assert_eq!(both.arena[12..16], [0, 160, 0, 0]);
+    assert_eq!(both.arena[24..28], [12, 0, 0, 0]);
+    due(&mut both, [(Grant(12), Value(32))]);
+    assert_eq!(both.arena[28..32], [0, 1, 1, 0]);
 }
 
 #[test]
 fn w3() {
-    let (mut a, mut r) = fresh(512);
-    assert_eq!(Pool::over(&mut a, &mut r).grant(13), Err(Refusal::NoRoom));
+    due(&mut fresh(512), [(Grant(13), Refused(Refusal::NoRoom))]);
 }
 
 #[test]
 fn w4() {
-    let (mut a, mut r) = fresh(131_072);
-    let mut p = Pool::over(&mut a, &mut r);
-    assert_eq!(p.grant(131_051), Ok(16));
-    assert_eq!(p.arena()[12..16], [0, 32, 0, 0]);
+    let mut both = fresh(131_072);
+    due(&mut both, [(Grant(131_051), Value(16))]);
+    assert_eq!(both.arena[12..16], [0, 32, 0, 0]);
 }
 
 #[test]
 fn w5() {
-    let (mut a, mut r) = fresh(130_560);
-    assert_eq!(Pool::over(&mut a, &mut r).grant(131_051), Err(Refusal::NoRoom));
+    due(&mut fresh(130_560), [(Grant(131_051), Refused(Refusal::NoRoom))]);
 }
 
 #[test]
 fn w6() {
     for rows in 1..=512 {
-        let (mut a, mut r) = fresh(512 * rows);
-        assert_eq!(Pool::over(&mut a, &mut r).grant(131_052), Err(Refusal::TooLarge));
+        due(&mut fresh(512 * rows), [(Grant(131_052), Refused(Refusal::TooLarge))]);
     }
+}
+
+/// The pool of W7 before its release.
+fn w7_granted() -> Both {
+    let mut both = fresh(4096);
+    due(&mut both, [(Grant(160), Value(16)), (Grant(160), Value(208))]);
+    both
 }
 
 #[test]
 fn w7_and_its_stores() {
-    for (store, due) in [(None, Ok(())), (Some(199), Err(Refusal::Overrun)), (Some(198), Ok(()))] {
-        let (mut a, mut r) = fresh(4096);
-        let mut p = Pool::over(&mut a, &mut r);
-        assert_eq!(p.grant(160), Ok(16));
-        assert_eq!(p.grant(160), Ok(208));
-        if let Some(at) = store {
-            p.arena_mut()[at] = 1;
-        }
-        assert_eq!(p.release(16), due);
-        if due.is_ok() {
-            assert_eq!(p.grant(160), Ok(400));
-        }
-    }
+    due(&mut w7_granted(), [(Release(16), Done), (Grant(160), Value(400))]);
+    due(&mut w7_granted(), [(Store(199, 1), Done), (Release(16), Refused(Refusal::Overrun))]);
+    due(&mut w7_granted(), [(Store(198, 1), Done), (Release(16), Done)]);
+}
+
+#[test]
+fn a_wrong_header_is_told_before_a_wrong_guard() {
+    let mut both = w7_granted();
+    due(&mut both, [(Store(12, 1), Done), (Store(199, 1), Done), (Release(16), Refused(Refusal::HeaderDamaged))]);
+    due(&mut both, [(Store(12, 0), Done), (Release(16), Refused(Refusal::Overrun))]);
 }
 
 #[test]
 fn w8_and_w9() {
-    let (mut a, mut r) = fresh(4096);
-    let mut p = Pool::over(&mut a, &mut r);
+    let mut both = fresh(4096);
     for i in 0..21 {
-        assert_eq!(p.grant(160), Ok(16 + 192 * i));
+        due(&mut both, [(Grant(160), Value(16 + 192 * i))]);
     }
-    assert_eq!(p.release(16), Ok(()));
-    assert_eq!(p.grant(160), Ok(32));
-    assert_eq!(p.arena()[28..32], [0, 160, 1, 0]);
-    assert_eq!(p.arena()[200..204], [12, 0, 0, 0]);
-    assert_eq!(p.release(16), Err(Refusal::NoSuchBlock));
+    due(&mut both, [(Release(16), Done), (Grant(160), Value(32))]);
+    assert_eq!(both.arena[28..32], [0, 160, 1, 0]);
+    assert_eq!(both.arena[200..204], [12, 0, 0, 0]);
+    due(&mut both, [(Release(16), Refused(Refusal::NoSuchBlock))]);
 }
 
 #[test]
-fn w10_and_w11() {
-    let (mut a, mut r) = fresh(4096);
-    let mut p = Pool::over(&mut a, &mut r);
-    p.grant(160).unwrap();
-    p.grant(160).unwrap();
-    assert_eq!(p.release(16), Ok(()));
-    assert_eq!(p.release(16), Err(Refusal::AlreadyFree));
-    let (mut a, mut r) = fresh(4096);
-    let mut p = Pool::over(&mut a, &mut r);
-    p.grant(160).unwrap();
-    assert_eq!(p.release(16), Ok(()));
-    assert_eq!(p.release(16), Err(Refusal::NoSuchBlock));
+fn w10() {
+    due(&mut w7_granted(), [(Release(16), Done), (Release(16), Refused(Refusal::AlreadyFree))]);
 }
 
 #[test]
-fn w12_and_w13() {
-    let (mut a, mut r) = fresh(4096);
-    let mut p = Pool::over(&mut a, &mut r);
-    p.grant(160).unwrap();
-    assert_eq!(p.resize(16, 188), Ok(16));
-    assert_eq!(p.resize(16, 141), Ok(16));
-    for (len, due) in [(4096, Err(Refusal::NoRoom)), (8192, Ok(4112))] {
-        let (mut a, mut r) = fresh(len);
-        let mut p = Pool::over(&mut a, &mut r);
-        p.grant(160).unwrap();
-        assert_eq!(p.resize(16, 189), due);
-    }
+fn w11() {
+    let mut both = fresh(4096);
+    let gone = Totals { rows_free: 8, ..Totals::default() };
+    due(&mut both, [(Grant(160), Value(16)), (Release(16), Done), (Release(16), Refused(Refusal::NoSuchBlock))]);
+    due(&mut both, [(Report, Answer::Totals(gone))]);
 }
 
 #[test]
-fn from_160_to_140_moves_and_damage_is_told() {
-    let (mut a, mut r) = fresh(8192);
-    let mut p = Pool::over(&mut a, &mut r);
-    p.grant(160).unwrap();
-    assert_eq!(p.resize(16, 140), Ok(4112));
-    p.arena_mut()[4109] = 77;
-    p.arena_mut()[4112 + 139] = 77;
-    assert_eq!(p.release(4112), Err(Refusal::HeaderDamaged));
+fn w12() {
+    let mut both = fresh(4096);
+    due(&mut both, [(Grant(160), Value(16)), (Resize(16, 188), Value(16)), (Measure(16), Value(188))]);
+    due(&mut both, [(Resize(16, 141), Value(16)), (Measure(16), Value(141))]);
+}
+
+#[test]
+fn w13() {
+    due(&mut fresh(4096), [(Grant(160), Value(16)), (Resize(16, 189), Refused(Refusal::NoRoom))]);
+    due(&mut fresh(8192), [(Grant(160), Value(16)), (Resize(16, 189), Value(4112))]);
+}
+
+#[test]
+fn size_156_is_class_9_and_157_class_10() {
+    // blocks of a class of 10 units, and of 12, are that far apart
+    due(&mut fresh(4096), [(Grant(156), Value(16)), (Grant(156), Value(16 + 160))]);
+    due(&mut fresh(4096), [(Grant(157), Value(16)), (Grant(157), Value(16 + 192))]);
+}
+
+#[test]
+fn from_160_to_140_moves() {
+    due(&mut fresh(8192), [(Grant(160), Value(16)), (Resize(16, 140), Value(4112))]);
 }

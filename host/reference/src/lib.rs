@@ -1,7 +1,7 @@
 //! A second implementation of the pool, written from the papers alone, with a plain state of its own: a list of groups, each a list
 //! of slots. It is for comparison; it is not what the library runs.
 
-use crate::{Refusal, Totals};
+use slotpool::{Refusal, Totals};
 
 const UNITS: [usize; 48] = [
     1, 2, 3, 4, 5, 6, 7, 8, 9, 10, 12, 15, 18, 20, 25, 31, 36, 42, 50, 63, 72, 84, 102, 127, 146, 170, 204, 255, 292, 340, 409, 511, 584, 682,

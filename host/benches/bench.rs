@@ -1,8 +1,8 @@
 //! Nanoseconds per call, of the library and of the second implementation with its own full check of the tables, over arenas of four
 //! sizes, empty, half full and nearly full. Each figure is the median of several runs, with the least and the most.
 
-use slotpool::reference::{Reference, Tables};
 use slotpool::{room_len, Pool};
+use slotpool_reference::{Reference, Tables};
 use std::hint::black_box;
 use std::time::Instant;
 

@@ -1,0 +1,115 @@
+//! Demand 3, run: one list of calls, twice, from fresh pools that were set up over different old bytes, with different stores of the engine
+//! into requested bytes of live blocks. After every call the two runs agree in all but those bytes.
+
+mod common;
+mod random;
+
+use common::{Answer, Both, Call};
+use random::{all_seen, block, kind, next_call, Numbers, Seen};
+use slotpool::Refusal;
+
+/// One of the two runs, beside the second implementation, with the numbers that its engine stores.
+struct Run {
+    both: Both,
+    engine: Numbers,
+}
+
+impl Run {
+    fn new(arena_len: usize, old: u8, seed: u64) -> Run {
+        Run { both: Both::new(arena_len, old), engine: Numbers::new(seed) }
+    }
+
+    /// Stores into a part of a live block's requested bytes, often all of them.
+    fn store(&mut self) {
+        let Some((start, n)) = block(&mut self.engine, &self.both) else { return };
+        let from = if self.engine.one_in(2) { 0 } else { self.engine.below(n) };
+        let to = if self.engine.one_in(2) { n } else { from + self.engine.below(n - from) };
+        for at in start + from..start + to {
+            self.both.make(Call::Store(at, self.engine.next() as u8));
+        }
+    }
+
+    /// Some stores, then the call: its answer, or what is wrong with it.
+    fn step(&mut self, call: Call) -> Result<Answer, String> {
+        for _ in 0..self.engine.below(3) {
+            self.store();
+        }
+        let live = self.both.second.live();
+        let answer = self.both.call(call)?;
+        if let Answer::Refused(Refusal::Unsound | Refusal::HeaderDamaged | Refusal::Overrun) = answer {
+            return Err(format!("{call:?}: {answer:?}, which is never due here"));
+        }
+        let gained = match (call, answer) {
+            (Call::Grant(n), Answer::Value(start)) => start..start + n,
+            (Call::Resize(offset, n), Answer::Value(start)) => {
+                let old = live.iter().find(|b| b.0 == offset).map_or(0, |b| b.1);
+                start + old.min(n)..start + n
+            }
+            _ => 0..0,
+        };
+        if self.both.arena[gained.clone()].iter().any(|&b| b != 0) {
+            return Err(format!("{call:?}: {answer:?}: not all gained bytes {gained:?} are zero"));
+        }
+        Ok(answer)
+    }
+
+    /// The arena with zero for the requested bytes of live blocks.
+    fn outside(&self) -> Vec<u8> {
+        let mut bytes = self.both.arena.clone();
+        for (start, n) in self.both.second.live() {
+            bytes[start..start + n].fill(0);
+        }
+        bytes
+    }
+}
+
+/// The call in both runs: its answer, or where they differ.
+fn step([one, other]: &mut [Run; 2], call: Call) -> Result<Answer, String> {
+    let (answer, second) = (one.step(call)?, other.step(call)?);
+    if answer != second {
+        return Err(format!("{call:?}: {answer:?} in one run, {second:?} in the other"));
+    }
+    if one.both.room != other.both.room {
+        return Err(format!("{call:?}: the tables of the runs differ"));
+    }
+    if let Some(at) = one.outside().iter().zip(&other.outside()).position(|(a, b)| a != b) {
+        return Err(format!("{call:?}: byte {at}, which no live block has requested, differs in the runs"));
+    }
+    Ok(answer)
+}
+
+/// Runs a list of calls twice. Gives after how many of them the requested bytes were different in the runs.
+fn twice(seed: u64, arena_len: usize, calls: usize, seen: &mut Seen) -> usize {
+    let mut numbers = Numbers::new(seed);
+    let mut runs = [Run::new(arena_len, 0xA5, numbers.next()), Run::new(arena_len, 0x5A, numbers.next())];
+    let mut different = 0;
+    for made in 0..calls {
+        let call = next_call(&mut numbers, &runs[0].both, |_, _| None);
+        match step(&mut runs, call) {
+            Ok(answer) => *seen.entry(kind(call, &answer)).or_default() += 1,
+            Err(why) => panic!("seed {seed}, arena of {arena_len} bytes, after {made} calls: {why}"),
+        }
+        different += usize::from(runs[0].both.arena != runs[1].both.arena);
+    }
+    different
+}
+
+#[test]
+fn stores_into_requested_bytes_change_nothing_else() {
+    let lengths = [512, 1024, 2048, 4096, 8192, 16_384, 4096, 8192, 131_072, 262_144];
+    let mut seen = Seen::new();
+    let (mut made, mut different) = (0, 0);
+    let mut seed = 0;
+    while made < 200_000 {
+        seed += 1;
+        let len = lengths[seed % lengths.len()];
+        let calls = if len > 16_384 { 200 } else { 2000 };
+        let differed = twice(seed as u64, len, calls, &mut seen);
+        assert!(differed > 0, "seed {seed}: the runs were the same in all bytes");
+        made += calls;
+        different += differed;
+    }
+    println!("{made} calls in {seed} pools, each in two runs; after {different} of them the requested bytes were different: {seen:?}");
+    assert!(different > made / 2, "the runs were mostly the same in all bytes");
+    all_seen(&seen, &[]);
+}

@@ -1,0 +1,152 @@
+//! Random calls on a pool, drawn with what the second implementation knows of it.
+
+use crate::common::{Answer, Both, Call};
+use slotpool_reference::{rows_of, slot_bytes, TOO_LARGE};
+use std::collections::{BTreeMap, BTreeSet};
+
+/// A small generator of numbers, the same on every machine.
+pub struct Numbers(u64);
+
+impl Numbers {
+    pub fn new(seed: u64) -> Numbers {
+        Numbers(seed.wrapping_mul(0x9E37_79B9_7F4A_7C15) | 1)
+    }
+
+    pub fn next(&mut self) -> u64 {
+        self.0 ^= self.0 << 13;
+        self.0 ^= self.0 >> 7;
+        self.0 ^= self.0 << 17;
+        self.0
+    }
+
+    pub fn below(&mut self, n: usize) -> usize {
+        (self.next() % n as u64) as usize
+    }
+
+    pub fn one_in(&mut self, n: usize) -> bool {
+        self.below(n) == 0
+    }
+
+    pub fn of<T: Copy>(&mut self, list: &[T]) -> T {
+        list[self.below(list.len())]
+    }
+}
+
+/// A size at or near the edge of a class, or any.
+fn size(numbers: &mut Numbers, arena_len: usize) -> usize {
+    match numbers.below(10) {
+        0 => numbers.of(&[0, 1, 3, 4, 5, 12, 13, 131_051, 131_052, 131_053, usize::MAX, usize::MAX - 3]),
+        1..=5 => {
+            let most = (0..48).rev().find(|&c| 512 * rows_of(c) <= arena_len).unwrap_or(0);
+            let c = numbers.below(most + 1);
+            (slot_bytes(c) - 4 + numbers.below(7)).saturating_sub(3 + numbers.below(24))
+        }
+        6..=8 => numbers.below(300),
+        _ => numbers.below(TOO_LARGE),
+    }
+}
+
+/// A live start, a freed one, an offset near a live start, or any number.
+fn offset(numbers: &mut Numbers, both: &Both) -> usize {
+    let live = both.second.live();
+    let freed = both.second.freed();
+    match numbers.below(20) {
+        0..=13 if !live.is_empty() => numbers.of(&live).0,
+        14..=15 if !freed.is_empty() => numbers.of(&freed),
+        16 if !live.is_empty() => (numbers.of(&live).0 + numbers.below(65)).saturating_sub(32),
+        17 => 16 * numbers.below(both.arena.len() / 16 + 4),
+        18 => numbers.below(both.arena.len() + 64),
+        _ => numbers.of(&[0, 1, 15, 16, 17, 511, 512, usize::MAX, usize::MAX - 16, both.arena.len(), both.arena.len() - 1]),
+    }
+}
+
+/// A live block that has requested bytes, if there is one: start and size.
+pub fn block(numbers: &mut Numbers, both: &Both) -> Option<(usize, usize)> {
+    let blocks: Vec<_> = both.second.live().into_iter().filter(|b| b.1 > 0).collect();
+    (!blocks.is_empty()).then(|| numbers.of(&blocks))
+}
+
+/// The engine that a pool serves: its next store, if it makes one.
+pub type Engine = fn(&mut Numbers, &Both) -> Option<Call>;
+
+/// The next call on a pool, or a store of its engine.
+pub fn next_call(numbers: &mut Numbers, both: &Both, engine: Engine) -> Call {
+    let live = both.second.live();
+    let totals = both.second.report();
+    let crowded = totals.rows_free == 0 && totals.ready_slots == 0;
+    match numbers.below(100) {
+        0..=37 if !crowded || numbers.one_in(3) => {
+            // the same size again makes groups full, and refills them
+            if !live.is_empty() && numbers.one_in(2) {
+                Call::Grant(numbers.of(&live).1)
+            } else {
+                Call::Grant(size(numbers, both.arena.len()))
+            }
+        }
+        0..=62 => Call::Release(offset(numbers, both)),
+        63..=80 => {
+            let o = offset(numbers, both);
+            let old = live.iter().find(|b| b.0 == o).map_or(0, |b| b.1);
+            let n = match numbers.below(4) {
+                0 => old,
+                1 => (old + numbers.below(40)).saturating_sub(20),
+                2 => old / 2 + numbers.below(old + 1),
+                _ => size(numbers, both.arena.len()),
+            };
+            Call::Resize(o, n)
+        }
+        81..=87 => Call::Measure(offset(numbers, both)),
+        88..=89 => Call::Report,
+        90 if numbers.one_in(20) => Call::SetUp,
+        _ => engine(numbers, both).unwrap_or(Call::Report),
+    }
+}
+
+/// How often each kind of call had each answer.
+pub type Seen = BTreeMap<String, usize>;
+
+/// A call and its answer's number; for a resize that is done, how.
+pub fn kind(call: Call, answer: &Answer) -> String {
+    let told = match answer {
+        Answer::Refused(r) => *r as usize,
+        _ => 0,
+    };
+    match (call, answer) {
+        (Call::SetUp, _) => format!("set up {told}"),
+        (Call::Grant(_), _) => format!("grant {told}"),
+        (Call::Release(_), _) => format!("release {told}"),
+        (Call::Resize(o, _), Answer::Value(v)) => format!("resize {}", if o == *v { "in place" } else { "by a move" }),
+        (Call::Resize(..), _) => format!("resize {told}"),
+        (Call::Measure(_), _) => format!("measure {told}"),
+        (Call::Report, _) => format!("report {told}"),
+        (Call::Store(..), _) => "store".to_string(),
+    }
+}
+
+/// Every answer of every call while no block is damaged.
+const UNDAMAGED: [&str; 17] = [
+    "set up 0",
+    "grant 0",
+    "grant 3",
+    "grant 8",
+    "release 0",
+    "release 4",
+    "release 5",
+    "resize in place",
+    "resize by a move",
+    "resize 3",
+    "resize 4",
+    "resize 5",
+    "resize 8",
+    "measure 0",
+    "measure 4",
+    "measure 5",
+    "report 0",
+];
+
+/// Fails if an answer due without damage or among `more` was not seen, or if any other was.
+pub fn all_seen(seen: &Seen, more: &[&str]) {
+    let due: BTreeSet<&str> = UNDAMAGED.iter().chain(more).copied().collect();
+    let were: BTreeSet<&str> = seen.keys().map(String::as_str).collect();
+    assert_eq!(were, due, "answers that were seen, and those due");
+}
