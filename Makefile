@@ -21,6 +21,6 @@ test:
 	.ci/run
 
 bench: $(LIB)
-	cd host && cargo run --quiet --release --offline --bin bench
-	cc -O2 -o target/malloc host/bench/malloc.c && target/malloc glibc
-	if command -v musl-gcc >/dev/null; then musl-gcc -O2 -static -o target/malloc-musl host/bench/malloc.c && target/malloc-musl musl; else echo "musl-gcc is not installed (Debian: musl-tools)"; fi
+	cd host && cargo bench --quiet --offline --bench bench
+	cc -O2 -o target/malloc host/benches/malloc.c && target/malloc glibc
+	if command -v musl-gcc >/dev/null; then musl-gcc -O2 -static -o target/malloc-musl host/benches/malloc.c && target/malloc-musl musl; else echo "musl-gcc is not installed (Debian: musl-tools)"; fi

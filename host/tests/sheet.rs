@@ -122,3 +122,26 @@ fn size_156_is_class_9_and_157_class_10() {
 fn from_160_to_140_moves() {
     due(&mut fresh(8192), [(Grant(160), Value(16)), (Resize(16, 140), Value(4112))]);
 }
+
+#[test]
+fn offset_0_is_never_a_start() {
+    let absent = Refused(Refusal::NoSuchBlock);
+    due(&mut fresh(512), [(Grant(0), Value(16)), (Release(0), absent), (Measure(0), absent), (Resize(0, 0), absent)]);
+}
+
+#[test]
+fn a_resize_in_place_keeps_the_first_bytes() {
+    let mut both = fresh(4096);
+    due(&mut both, [(Grant(160), Value(16)), (Store(16, 7), Done), (Store(175, 9), Done), (Resize(16, 188), Value(16))]);
+    assert_eq!((both.arena[16], both.arena[175], both.arena[176]), (7, 9, 0));
+    due(&mut both, [(Store(156, 5), Done), (Store(157, 6), Done), (Resize(16, 141), Value(16))]);
+    assert_eq!((both.arena[16], both.arena[156], both.arena[157]), (7, 5, 0));
+}
+
+#[test]
+fn a_move_copies_the_first_bytes() {
+    let mut both = fresh(8192);
+    due(&mut both, [(Grant(160), Value(16)), (Store(16, 7), Done), (Store(175, 9), Done), (Resize(16, 189), Value(4112))]);
+    assert_eq!((both.arena[4112], both.arena[4271], both.arena[4272]), (7, 9, 0));
+    assert!(both.arena[..4096].iter().all(|&b| b == 0), "the old group is gone");
+}
