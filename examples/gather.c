@@ -49,7 +49,7 @@ int main(void)
     }
     map();
 
-    /* the driver writes one byte too many, into the guard of the second entry */
+    /* the driver writes past the end of the second entry, into its guard */
     size_t value, end = list[1] + 188;
     uint8_t kept = arena[end - 5];
     arena[end - 5] = 1;
