@@ -27,7 +27,7 @@ use Rattle.model.proofs.Calls.{call-sound, carried-whole}
 use Rattle.model.proofs.Moves.{Old, old, old-released, old-apart, stays-owned}
 use Rattle.claims.specs.Demand1.{order, headerDue, guardDue, Due}
 use Rattle.claims.specs.Demand2 as demand2
-use Rattle.claims.specs.AsSaid.{Waits, Goes, Serves, sized, stay, InPlace, Moved, ResizesAsSaid}
+use Rattle.claims.specs.AsSaid.{Waits, Goes, Serves, sized, stay, copied, InPlace, MovedBy, ResizesAsSaid}
 use Rattle.claims.proofs.Cases.{release-parts, reserve-live}
 use Rattle.claims.proofs.Demand1.{demand1}
 use Rattle.claims.proofs.Demand2.{Accepted, accepted, none-due, found-intact}
@@ -52,7 +52,7 @@ module _ (row : ℕ) (pos : 0 < row) (a : List ℕ) (n : ℕ) (p : Place) (w : T
   o = start row p
 
   abbrev k : ℕ
-  k = stay row p n
+  k = stay p n
 
   abbrev r : ℕ
   r = reserved c d n
@@ -73,7 +73,7 @@ module _ (row : ℕ) (pos : 0 < row) (a : List ℕ) (n : ℕ) (p : Place) (w : T
   abbrev reframed : List ℕ
   reframed = put (o + k) tail headed
 
-  serves : Serves row p n
+  serves : Serves p n
   unfolding inPlace
   serves = record {
     fits = leb→le n (slotBytes c - 4 - 16 * d) (and-left (leb n (slotBytes c - 4 - 16 * d)) (leb c (suc (classOf n))) t);
@@ -141,8 +141,8 @@ module _ (row : ℕ) (pos : 0 < row) (a : List ℕ) (n : ℕ) (p : Place) (w : T
   unfolding resizeInPlace
   in-place-as-said z h v e =
       let x : z .arena ≡ reframed = ap (λ (r : Result). r .arena) e in
-      let y : view row (z .room) ≡ poolOf (sized row p n) =
-      ap (λ (r : Result). view row (r .room)) e ∙ view-encode masks-laws row pos (poolOf (sized row p n)) (resize-in-place-formed row p n w v h t .formed) in
+      let y : view row (z .room) ≡ poolOf (sized p n) =
+      ap (λ (r : Result). view row (r .room)) e ∙ view-encode masks-laws row pos (poolOf (sized p n)) (resize-in-place-formed row p n w v h t .formed) in
       record {
         serves = serves;
         value = ap (λ (r : Result). r .answer .values) e;
@@ -250,7 +250,7 @@ module _ (row : ℕ) (pos : 0 < row) (P : Pool) (w : T (wellFormed P)) (a : List
   inside-q = let f : Fits q = fits q (made .formed) in disp-inside (q .cls) (q .state) (f .class) (f .state)
 
   -- as many bytes as are copied
-  short : (stay row p n ≤ size (p .state)) × (stay row p n ≤ size (q .state))
+  short : (stay p n ≤ size (p .state)) × (stay p n ≤ size (q .state))
   short = (omega arith, omega (arith, reserve-size row P n q w found))
 
   -- the new block laid out, and the bytes copied into it
@@ -261,62 +261,62 @@ module _ (row : ℕ) (pos : 0 < row) (P : Pool) (w : T (wellFormed P)) (a : List
   laid = put (owned row q) framed a
 
   abbrev first : List ℕ
-  first = part (start row p) (stay row p n) laid
+  first = part (start row p) (stay p n) laid
 
-  abbrev copied : List ℕ
-  copied = put (start row q) first laid
+  abbrev copy : List ℕ
+  copy = copied (start row p) (start row q) (stay p n) laid
 
   laid-length : length laid ≡ length a
   laid-length = put-length (owned row q) framed a
 
-  copied-length : length copied ≡ length a
-  copied-length = put-length (start row q) first laid ∙ laid-length
+  copy-length : length copy ≡ length a
+  copy-length = put-length (start row q) first laid ∙ laid-length
 
   framed-length : length framed ≡ slotBytes (q .cls)
   framed-length = frame-length (q .cls) (slotNumber q) (disp (q .state)) (size (q .state)) inside-q
 
-  first-length : length first ≡ stay row p n
+  first-length : length first ≡ stay p n
   first-length =
-      part-length (start row p) (stay row p n) laid
+      part-length (start row p) (stay p n) laid
       (omega (arith, laid-length, long, owned-inside row pos p formed-p, ap (λ Q. row * rows row Q) there, inside-p, short .0))
 
   -- the old block's bytes are those it had
-  old-bytes : part (owned row p) (slotBytes (p .cls)) copied ≡ part (owned row p) (slotBytes (p .cls)) a
+  old-bytes : part (owned row p) (slotBytes (p .cls)) copy ≡ part (owned row p) (slotBytes (p .cls)) a
   old-bytes =
       part-put (owned row p) (slotBytes (p .cls)) (start row q) first laid
       (⊎-elim (λ x. inl (omega (arith, x))) (λ x. inr (omega (arith, x, first-length, inside-q, short .1))) apart)
       ∙ part-put (owned row p) (slotBytes (p .cls)) (owned row q) framed a (⊎-elim inl (λ x. inr (omega (arith, x, framed-length))) apart)
 
   -- so it is not damaged
-  old-whole : damage row copied (beside .place) ≡ Intact
+  old-whole : damage row copy (beside .place) ≡ Intact
   unfolding damageIn choose
   old-whole =
       let s = beside .stays in
-      let e : damage row copied (beside .place)
-      ≡ damageIn (p .cls) (slotNumber p) (disp (p .state)) (size (p .state)) (part (owned row p) (slotBytes (p .cls)) copied) =
+      let e : damage row copy (beside .place)
+      ≡ damageIn (p .cls) (slotNumber p) (disp (p .state)) (size (p .state)) (part (owned row p) (slotBytes (p .cls)) copy) =
       rw (s .first, s .cls, s .number, s .state) in
       e ∙ rw (old-bytes, T-true (headerDue row a p) (i .header), T-true (guardDue row a p) (i .guard))
 
   -- the release over the copy
   release-done : T (arenaRight row (length a))
-      → call row copied (encode row (poolOf q)) (releases (start row p)) ≡ applied (masked row) copied (releaseAt row (beside .place))
+      → call row copy (encode row (poolOf q)) (releases (start row p)) ≡ applied (masked row) copy (releaseAt row (beside .place))
   unfolding plan release
   release-done h =
       let u : List ℕ = encode row (poolOf q) in
-      let x : T (sound row (length copied) u) =
-      encode-sound masks-laws row pos (poolOf q) (length copied) (made .formed) (subst (λ m. T (arenaRight row m)) (sym copied-length) h)
-      (copied-length ∙ long ∙ ap (λ m. row * m) (sym (made .long))) in
-      call-sound row copied u (T-true (sound row (length copied) u) x) (releases (start row p)) tt
-      ∙ ap (carried row copied u)
+      let x : T (sound row (length copy) u) =
+      encode-sound masks-laws row pos (poolOf q) (length copy) (made .formed) (subst (λ m. T (arenaRight row m)) (sym copy-length) h)
+      (copy-length ∙ long ∙ ap (λ m. row * m) (sym (made .long))) in
+      call-sound row copy u (T-true (sound row (length copy) u) x) (releases (start row p)) tt
+      ∙ ap (carried row copy u)
       (ap (λ Q. release row Q (start row p)) (view-encode masks-laws row pos (poolOf q) (made .formed)) ∙ released-old)
-      ∙ carried-whole row copied u (releaseAt row (beside .place)) (ap (damaged row copied) (release-parts row (beside .place) .0) ∙ old-whole)
+      ∙ carried-whole row copy u (releaseAt row (beside .place)) (ap (damaged row copy) (release-parts row (beside .place) .0) ∙ old-whole)
 
-  new-owns : (j : ℕ) → j < stay row p n → Owns row q (start row q + j)
+  new-owns : (j : ℕ) → j < stay p n → Owns row q (start row q + j)
   new-owns j h = record { from = omega arith; to = omega (arith, inside-q, short .1) }
 
   -- no byte of the new block is cleared by it
-  new-kept : (r : Result) → Waits row copied (beside .place) r ⊎ Goes row copied (beside .place) r → (j : ℕ) → Owns row q j
-      → getD (r .arena) j 0 ≡ getD copied j 0
+  new-kept : (r : Result) → Waits row copy (beside .place) r ⊎ Goes row copy (beside .place) r → (j : ℕ) → Owns row q j
+      → getD (r .arena) j 0 ≡ getD copy j 0
   new-kept r (inl v) j o =
       let e : owned row (beside .place) ≡ owned row p = stays-owned row p (beside .place) (beside .stays) in
       let f : slotBytes (beside .place .cls) ≡ slotBytes (p .cls) = ap slotBytes (beside .stays .cls) in
@@ -327,13 +327,13 @@ module _ (row : ℕ) (pos : 0 < row) (P : Pool) (w : T (wellFormed P)) (a : List
       (reserve-live row P n q (served row P n q w found)) o (g .none-live))
 
   -- the new block has the bytes that the old one had
-  copy-there : (j : ℕ) → j < stay row p n → getD copied (start row q + j) 0 ≡ getD a (start row p + j) 0
+  copy-there : (j : ℕ) → j < stay p n → getD copy (start row q + j) 0 ≡ getD a (start row p + j) 0
   copy-there j h =
       let v : ℕ = start row q in
-      sym (getD-part v (stay row p n) copied j 0 h)
-      ∙ ap (λ l. getD l j 0) (part-written v (stay row p n) first laid first-length
+      sym (getD-part v (stay p n) copy j 0 h)
+      ∙ ap (λ l. getD l j 0) (part-written v (stay p n) first laid first-length
       (omega (arith, laid-length, long, owned-inside row pos q (made .formed), ap (λ m. row * m) (made .long), inside-q, short .1)))
-      ∙ getD-part (start row p) (stay row p n) laid j 0 h
+      ∙ getD-part (start row p) (stay p n) laid j 0 h
       ∙ ⊎-elim (λ x. put-before (owned row q) framed a (start row p + j) 0 (omega (arith, x, inside-p, short .0)))
       (λ x. put-past (owned row q) framed a (start row p + j) 0 (omega (arith, x, framed-length))) apart
 
@@ -352,26 +352,24 @@ module _ (row : ℕ) (pos : 0 < row) (a t : List ℕ) (s : Sound byMasks row (le
 
   moved-as-said : T (sound row (length a) t) → (p q : Place) → demand2.Intact row a (view row t) (start row p) p → reserve row (view row t) n ≡ some q
       → inPlace p n ≡ false → (z : Result) → z ≡ applied (masked row) a (moveTo row (view row t) p n (some q))
-      → Moved row a (start row p) n p (call row a t (grants n)) (getD (call row a t (grants n) .answer .values) 0 0) z
+      → MovedBy row a (start row p) n p (call row a t (grants n)) z
   unfolding inPlace enframe
   moved-as-said h p q i e f z l =
       let P : Pool = view row t in
       let b = beside row pos P (s .formed) a (s .long) n small q e p i in
       let g : call row a t (grants n) ≡ applied (masked row) a (grantAt row P (some q)) = grant-done h q e in
-      let c : List ℕ = copied row pos P (s .formed) a (s .long) n small q e p i in
+      let c : List ℕ = copy row pos P (s .formed) a (s .long) n small q e p i in
       let x : call row c (encode row (poolOf q)) (releases (start row p)) ≡ applied (masked row) c (releaseAt row (b .place)) =
       release-done row pos P (s .formed) a (s .long) n small q e p i (s .lawful) in
       let r : Result = call row c (encode row (poolOf q)) (releases (start row p)) in
       let u : release row (poolOf q) (start row p) ≡ releaseAt row (b .place) = released-old row pos P (s .formed) a (s .long) n small q e p i in
       let y : z .arena ≡ r .arena =
       ap (λ (r : Result). r .arena) l ∙ ap (λ (d : Plan). written c (d .changes)) u ∙ sym (ap (λ (r : Result). r .arena) x) in
-      subst (λ (g : Result). Moved row a (start row p) n p g (getD (g .answer .values) 0 0) z) (sym g) (record {
+      subst (λ (g : Result). MovedBy row a (start row p) n p g z) (sym g) (record {
         serves-not = λ v. subst T f (and-both (leb n (slotBytes (p .cls) - 4 - 16 * disp (p .state))) (leb (p .cls) (suc (classOf n)))
             (le→leb n (slotBytes (p .cls) - 4 - 16 * disp (p .state)) (v .fits)) (le→leb (p .cls) (suc (classOf n)) (v .near)));
         granted = refl;
         answer = ap (λ (r : Result). r .answer) l;
-        copied = c;
-        copy = refl;
         released = ap (λ (r : Result). r .answer .number) x ∙ ap (λ r. r .number) (release-parts row (b .place) .1);
         arena = y;
         room = ap (λ (r : Result). r .room) l ∙ ap (λ (d : Plan). encode row (d .pool)) u ∙ sym (ap (λ (r : Result). r .room) x);
@@ -385,8 +383,7 @@ module _ (row : ℕ) (pos : 0 < row) (a t : List ℕ) (s : Sound byMasks row (le
   -- a resize that was done, of the block at an offset
   resized-as-said : T (sound row (length a) t) → (p : Place) → demand2.Intact row a (view row t) (start row p) p → (z : Result) → z .answer .number ≡ 0
       → z ≡ applied (masked row) a (resizeAt row (view row t) n p)
-      → InPlace row a (start row p) n p z
-      ⊎ Moved row a (start row p) n p (call row a t (grants n)) (getD (call row a t (grants n) .answer .values) 0 0) z
+      → InPlace row a (start row p) n p z ⊎ MovedBy row a (start row p) n p (call row a t (grants n)) z
   unfolding resizeAt resizeMove
   resized-as-said h p i z d l =
       choose-case (λ (r : Plan). z ≡ applied (masked row) a r → M) (inPlace p n) (resizeInPlace row p n) (resizeMove row P p n)
@@ -398,7 +395,7 @@ module _ (row : ℕ) (pos : 0 < row) (a t : List ℕ) (s : Sound byMasks row (le
       P = view row t
 
       N : Type 0
-      N = Moved row a (start row p) n p (call row a t (grants n)) (getD (call row a t (grants n) .answer .values) 0 0) z
+      N = MovedBy row a (start row p) n p (call row a t (grants n)) z
 
       M : Type 0
       M = InPlace row a (start row p) n p z ⊎ N
@@ -434,5 +431,4 @@ resizes-as-said row pos a t o n z =
     not-large f = omega (arith, f)
 
     Done : ℕ → Place → Type 0
-    Done s p = InPlace row a s n p (call row a t (resizes o n))
-        ⊎ Moved row a s n p (call row a t (grants n)) (getD (call row a t (grants n) .answer .values) 0 0) (call row a t (resizes o n))
+    Done s p = InPlace row a s n p (call row a t (resizes o n)) ⊎ MovedBy row a s n p (call row a t (grants n)) (call row a t (resizes o n))

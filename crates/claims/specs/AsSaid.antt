@@ -26,6 +26,23 @@ pub record ZeroedOnly (a b : List ℕ) (from k : ℕ) : Type 0 where
   pub zero : (i : ℕ) → from ≤ i → i < from + k → getD b i 0 ≡ 0
   pub others : (i : ℕ) → (i < from) ⊎ (from + k ≤ i) → getD b i 0 ≡ getD a i 0
 
+-- "In place if n is at most s − 4 − 16d and the block's class is at most one above n's class"
+pub record Serves (p : Place) (n : ℕ) : Type 0 where
+  pub fits : n ≤ slotBytes (p .cls) - 4 - 16 * disp (p .state)
+  pub near : p .cls ≤ suc (classOf n)
+
+-- the block with another size: "Count and start change only by such a grant."
+abbrev pub sized : Place → ℕ → Place
+sized p n = become p (Live (record { count = count (p .state); disp = disp (p .state); size = n }))
+
+-- as many bytes as stay: "the lesser of old and new n"
+abbrev pub stay : Place → ℕ → ℕ
+stay p n = min (size (p .state)) n
+
+-- an arena with k of its bytes copied from one place to another
+abbrev pub copied : ℕ → ℕ → ℕ → List ℕ → List ℕ
+copied from to k a = put to (part from k a) a
+
 module _ (row : ℕ) where
   -- "Offset 0 is never a start."
   abbrev pub NeverAtZero : Type 0
@@ -82,19 +99,6 @@ module _ (row : ℕ) where
 
   -- RESIZE
 
-  -- "In place if n is at most s − 4 − 16d and the block's class is at most one above n's class"
-  pub record Serves (p : Place) (n : ℕ) : Type 0 where
-    pub fits : n ≤ slotBytes (p .cls) - 4 - 16 * disp (p .state)
-    pub near : p .cls ≤ suc (classOf n)
-
-  -- the block with another size; "Count and start change only by such a grant."
-  abbrev pub sized : Place → ℕ → Place
-  sized p n = become p (Live (record { count = count (p .state); disp = disp (p .state); size = n }))
-
-  -- as many as stay: "the lesser of old and new n"
-  abbrev pub stay : Place → ℕ → ℕ
-  stay p n = min (size (p .state)) n
-
   pub record InPlace (a : List ℕ) (o n : ℕ) (p : Place) (r : Result) : Type 0 where
     pub serves : Serves p n
     pub value : r .answer .values ≡ o ∷ []
@@ -111,24 +115,23 @@ module _ (row : ℕ) where
     pub others : (i : ℕ) → (i + 4 < o) ⊎ (owned row p + slotBytes (p .cls) ≤ i) → getD (r .arena) i 0 ≡ getD a i 0
 
   -- "Otherwise a grant of n is made while the old block is live, that many bytes are copied, then the old is released": g is what the
-  -- grant leaves, v the new start
-  pub record Moved (a : List ℕ) (o n : ℕ) (p : Place) (g : Result) (v : ℕ) (r : Result) : Type 0 where
+  -- grant leaves, v the new start, b the arena after the copy
+  pub record Moved (a : List ℕ) (o n : ℕ) (p : Place) (g : Result) (v : ℕ) (b : List ℕ) (r : Result) : Type 0 where
     pub serves-not : Serves p n → ⊥
     pub granted : g .answer .number ≡ 0
     pub answer : r .answer ≡ g .answer
-    -- the copy, and the release over it
-    pub copied : List ℕ
-    pub copy : copied ≡ put v (part o (stay p n) (g .arena)) (g .arena)
-    pub released : call row copied (g .room) (releases o) .answer .number ≡ 0
-    pub arena : r .arena ≡ call row copied (g .room) (releases o) .arena
-    pub room : r .room ≡ call row copied (g .room) (releases o) .room
+    pub released : call row b (g .room) (releases o) .answer .number ≡ 0
+    pub arena : r .arena ≡ call row b (g .room) (releases o) .arena
+    pub room : r .room ≡ call row b (g .room) (releases o) .room
     -- the block has the bytes that it had
     pub kept : (i : ℕ) → i < stay p n → getD (r .arena) (v + i) 0 ≡ getD a (o + i) 0
 
+  abbrev pub MovedBy : List ℕ → ℕ → ℕ → Place → Result → Result → Type 0
+  MovedBy a o n p g r = let v = getD (g .answer .values) 0 0 in Moved a o n p g v (copied o v (stay p n) (g .arena)) r
+
   pub record Resized (a t : List ℕ) (o n : ℕ) (p : Place) : Type 0 where
     pub block : Intact row a (view row t) o p
-    pub done : InPlace a o n p (call row a t (resizes o n))
-        ⊎ Moved a o n p (call row a t (grants n)) (getD (call row a t (grants n) .answer .values) 0 0) (call row a t (resizes o n))
+    pub done : InPlace a o n p (call row a t (resizes o n)) ⊎ MovedBy a o n p (call row a t (grants n)) (call row a t (resizes o n))
 
   abbrev pub ResizesAsSaid : Type 0
   ResizesAsSaid = (a t : List ℕ) (o n : ℕ) → call row a t (resizes o n) .answer .number ≡ 0 → (p : Place) × Resized a t o n p
