@@ -11,7 +11,7 @@ use Rattle.mem.specs.Lists.{any, every}
 use Rattle.mem.specs.Bytes.{put, part}
 use Rattle.classes.specs.Classes.{slotBytes, classOf, rowsOf}
 use Rattle.model.specs.declared.Slot.the-variants.{Idle, Live}
-use Rattle.model.specs.State.{Pool, Place, isLive, count, disp, size, poolOf, become, base, owned, start}
+use Rattle.model.specs.State.{Pool, Place, isLive, count, disp, size, poolOf, become, base, owned}
 use Rattle.model.specs.Blocks.{reserved, guard}
 use Rattle.model.specs.Answers.{done, listed}
 use Rattle.model.specs.Plans.{Call, setsUp, grants, releases, resizes, measures, reports, freshPool, totals}
