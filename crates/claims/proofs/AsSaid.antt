@@ -1,15 +1,12 @@
--- Release and resize leave what document 01 says, measure and report leave everything, and no block starts at 0.
-use Rattle.mem.proofs.Prelude.{_∙_, _≡_, sym, ap, refl, subst, true, Bool, false, not, true≢false, ⊎-elim, inl, inr, _⊎_, List, [], _∷_, _++_, append-nil, ℕ}
-use Rattle.mem.proofs.Prelude.{_<_, _/_, arith, eqb-false, eqb-true, T, eqb, length, getD}
-use Rattle.mem.specs.Lists.{any, every}
+-- Set up and release leave what document 01 says, measure and report leave everything, and no block starts at 0.
+use Rattle.mem.proofs.Prelude.{_∙_, _≡_, sym, ap, refl, subst, true, Bool, false, ⊎-elim, inl, inr, _⊎_, List, [], _++_, append-nil, ℕ, _<_, _/_, arith}
+use Rattle.mem.proofs.Prelude.{eqb-false, eqb-true, T, eqb, length, getD}
+use Rattle.mem.specs.Lists.{any}
 use Rattle.mem.specs.Bytes.{zeros, put}
-use Rattle.mem.proofs.Tests.{T-true, true-T, choose-case}
+use Rattle.mem.proofs.Tests.{T-true, true-T, every-not, choose-case}
 use Rattle.mem.proofs.Laws.{put-all, put-length, put-before, put-past, zeros-length, zeros-put}
-use Rattle.model.specs.declared.Slot.{Slot}
-use Rattle.model.specs.declared.Slot.the-variants.{Fresh, Idle, Live}
-use Rattle.model.specs.declared.Damage.the-variants.{Intact}
 use Rattle.model.specs.State.{Pool, Place, isLive, wellFormed, poolOf}
-use Rattle.model.specs.Plans.{freshPool, Plan, Call, releases, measures, reports, plan, lookup, onBlock, releaseAt, release, measureAt, measure, report, resize}
+use Rattle.model.specs.Plans.{freshPool, Plan, Call, releases, measures, reports, plan, lookup, onBlock, releaseAt, release, measureAt, measure, report}
 use Rattle.model.specs.Tables.{sound, byMasks, encode, view}
 use Rattle.model.specs.Calls.{callBy, setUpRight, Result, masked, applied, written, call}
 use Rattle.model.proofs.Tables.{masks-laws, sound-facts, view-encode}
@@ -21,11 +18,6 @@ use Rattle.claims.specs.AsSaid.{MadeFresh, SetsUpAsSaid, ReportsAsSaid, 
 use Rattle.claims.proofs.Cases.{release-parts, on-named}
 use Rattle.claims.proofs.Demand1.{demand1, starts-found}
 use Rattle.claims.proofs.Demand2.{set-up-accepted, Accepted, accepted, releases-exactly}
-
--- ---- no block starts at 0
-
-pub never-at-zero : (row : ℕ) → NeverAtZero row
-never-at-zero row P p s = omega (arith, s .starts)
 
 -- zeros written from a place on
 zeroed : (a b : List ℕ) (p k : ℕ) → b ≡ put p (zeros k) a → ZeroedOnly a b p k
@@ -92,12 +84,6 @@ reports-as-said row a t s =
 
 -- ---- release
 
-none-live : (ss : List Slot) → any isLive ss ≡ false → T (every (λ x. not (isLive x)) ss)
-none-live [] e = tt
-none-live (Fresh ∷ ss) e = none-live ss e
-none-live (Idle r k d ∷ ss) e = none-live ss e
-none-live (Live a ∷ ss) e = absurd (true≢false e)
-
 module _ (row : ℕ) (pos : 0 < row) (a : List ℕ) (p : Place) (w : T (wellFormed (poolOf p))) (l : T (isLive (p .state))) (r : Result)
     (done : r ≡ applied (masked row) a (releaseAt row p)) where
   -- what the plan of a live block's release leaves
@@ -107,7 +93,7 @@ module _ (row : ℕ) (pos : 0 < row) (a : List ℕ) (p : Place) (w : T (wellForm
       choose-case (λ (q : Plan). view row (r .room) ≡ q .pool → r .arena ≡ written a (q .changes) → Waits row a p r ⊎ Goes row a p r)
       (any isLive (p .lower ++ p .upper)) _ _
       (λ e v x. inl (record { other-live = true-T (any isLive (p .lower ++ p .upper)) e; pool = v; bytes = zeroed a (r .arena) _ _ x }))
-      (λ e v x. inr (record { none-live = none-live (p .lower ++ p .upper) e; pool = v; bytes = zeroed a (r .arena) _ _ x }))
+      (λ e v x. inr (record { none-live = every-not isLive (p .lower ++ p .upper) e; pool = v; bytes = zeroed a (r .arena) _ _ x }))
       (ap (λ (r : Result). view row (r .room)) done ∙ view-encode masks-laws row pos (releaseAt row p .pool) (release-formed row p w l .formed))
       (ap (λ (r : Result). r .arena) done)
 
@@ -134,3 +120,8 @@ releases-as-said row pos a t o z =
         left = released-as-said row pos a p (place-formed row pos (view row t) w a o p i) (i .live .live) (call row a t (releases o)) l;
       },
     )
+
+-- ---- offset 0
+
+pub never-at-zero : (row : ℕ) → NeverAtZero row
+never-at-zero row P p s = omega (arith, s .starts)

@@ -10,15 +10,15 @@ use Rattle.model.specs.declared.Slot.{Slot}
 use Rattle.model.specs.declared.Slot.the-variants.{Fresh, Idle, Live}
 use Rattle.model.specs.declared.Refusal.{Refusal}
 use Rattle.model.specs.State.{Span, Pool, Place, free, group, isLive, isReady, disp, size, wellFormed, poolOf, become, slotNumber, rowsIn, rows, beginning}
-use Rattle.model.specs.State.{start, granted, count}
+use Rattle.model.specs.State.{start, count}
 use Rattle.model.specs.Plans.{Plan, turnReady, refill, reserve, vacant, releaseAt, freshPool, refused, release, resizeInPlace, moveTo, measureAt, measure}
 use Rattle.model.specs.Plans.{slotSum, freeRow, heldRows, totals, report, Call, setsUp, grants, releases, resizes, measures, reports, plan}
 use Rattle.model.specs.Tables.{byMasks, encode, view, sound, roomBytes}
 use Rattle.model.specs.Calls.{Result, call, setUp, setUpRight, callBy, setUpRightBy}
 use Rattle.model.proofs.Rooms.{rows-append}
 use Rattle.model.proofs.Fresh.{fresh-rows, fresh-formed, whole-rows, set-up-lawful, set-up-done, set-up-sound}
-use Rattle.model.proofs.Lookup.{placed, place-unique, lookup-found}
-use Rattle.model.proofs.Reserve.{Served, served, reserve-size, groupOf}
+use Rattle.model.proofs.Lookup.{placed, groupOf, place-unique, lookup-found}
+use Rattle.model.proofs.Reserve.{Served, served, reserve-size}
 use Rattle.model.proofs.Formed.{any-middle, plan-formed}
 use Rattle.model.proofs.Tables.{masks-laws, Sound, sound-facts, view-encode, encode-length}
 use Rattle.model.proofs.Calls.{Asks}

@@ -1,18 +1,15 @@
 -- A resize leaves what document 01 says: in place, or as a grant, a copy and a release.
-use Rattle.mem.proofs.Prelude.{_∙_, _≡_, sym, ap, refl, subst, true, Bool, false, not, ⊎-elim, inl, inr, _⊎_, some, none, Option, List, [], _∷_, _++_}
-use Rattle.mem.proofs.Prelude.{append-assoc, _+_, ℕ, _<_, _≤_, _*_, _-_, _/_, suc, mul-comm, le-div-iff-mul-le, mul-add, arith, lt-leb, leb-false, leb-true, T}
-use Rattle.mem.proofs.Prelude.{leb, leb→le, le→leb, T-not, length, getD, length-append}
-use native.Mathlib.Nat.{div-lt-iff-lt-mul}
-use Rattle.mem.specs.Lists.{choose, every}
+use Rattle.mem.proofs.Prelude.{_∙_, _≡_, sym, ap, refl, subst, false, ⊎-elim, inl, inr, _⊎_, some, none, Option, List, [], _∷_, _++_, append-assoc, _+_, ℕ, _<_}
+use Rattle.mem.proofs.Prelude.{_≤_, _*_, _-_, suc, arith, lt-leb, T, leb, leb→le, le→leb, length, getD, length-append}
+use Rattle.mem.specs.Lists.{choose}
 use Rattle.mem.specs.Bytes.{zeros, put, part}
-use Rattle.mem.proofs.Tests.{T-true, true-T, and-left, and-right, and-both, every-right, choose-case, choose-false}
+use Rattle.mem.proofs.Tests.{T-true, true-T, and-left, and-right, and-both, choose-case, choose-false}
 use Rattle.mem.proofs.Laws.{put-length, put-append, put-before, put-past, part-put, part-written, part-length, part-part, getD-part, zeros-length, zeros-add}
 use Rattle.mem.proofs.Laws.{zeros-put, eq→same}
-use Rattle.classes.specs.Classes.{slotBytes, classOf, rowsOf, tooLarge}
-use Rattle.model.specs.declared.Slot.{Slot}
+use Rattle.classes.specs.Classes.{slotBytes, classOf, tooLarge}
 use Rattle.model.specs.declared.Refusal.the-variants.{NoRoom}
 use Rattle.model.specs.declared.Damage.the-variants.{Intact}
-use Rattle.model.specs.State.{Pool, Place, isLive, disp, size, wellFormed, poolOf, slotNumber, rows, base, owned, start}
+use Rattle.model.specs.State.{Pool, Place, isLive, disp, size, wellFormed, poolOf, slotNumber, rows, owned, start}
 use Rattle.model.specs.Blocks.{reserved, header, guard, spare, headerRight, guardRight, damageIn, damage, frame}
 use Rattle.model.specs.Plans.{Plan, Call, grants, releases, resizes, plan, lookup, onBlock, releaseAt, release, inPlace, resizeInPlace, resizeMove, moveTo}
 use Rattle.model.specs.Plans.{resizeAt, resize, reserve, grantAt, grant, enframe}
@@ -20,25 +17,20 @@ use Rattle.model.specs.Tables.{byMasks, encode, view, sound, arenaRight}
 use Rattle.model.specs.Calls.{Result, masked, applied, written, damaged, carried, call}
 use Rattle.model.proofs.Tables.{masks-laws, Sound, sound-facts, view-encode, encode-sound}
 use Rattle.model.proofs.Blocks.{header-length, guard-fits, spare-length, frame-length}
-use Rattle.model.proofs.Lookup.{Fits, fits, disp-inside, span-unique, split-unique, same-placed, owned-inside, Owns, owned-row}
-use Rattle.model.proofs.Reserve.{Granted, reserve-formed, reserve-size, groupOf, served}
+use Rattle.model.proofs.Lookup.{Fits, fits, disp-inside, owned-inside, Owns, outside-group}
+use Rattle.model.proofs.Reserve.{Granted, reserve-formed, reserve-size, served}
 use Rattle.model.proofs.Formed.{resize-in-place-formed}
 use Rattle.model.proofs.Calls.{call-sound, carried-whole}
 use Rattle.model.proofs.Moves.{Old, old, old-released, old-apart, stays-owned}
 use Rattle.claims.specs.Demand1.{order, headerDue, guardDue, Due}
 use Rattle.claims.specs.Demand2 as demand2
-use Rattle.claims.specs.AsSaid.{Waits, Goes, Serves, sized, stay, copied, InPlace, MovedBy, ResizesAsSaid}
+use Rattle.claims.specs.AsSaid.{Waits, Goes, Serves, sized, stay, InPlace, MovedBy, ResizesAsSaid}
 use Rattle.claims.proofs.Cases.{release-parts, reserve-live}
 use Rattle.claims.proofs.Demand1.{demand1}
 use Rattle.claims.proofs.Demand2.{Accepted, accepted, none-due, found-intact}
 use Rattle.claims.proofs.AsSaid.{released-as-said, on-intact, place-formed}
 
 -- ---- resize in place
-
--- bytes of a slot by their place in the arena
-module _ (row : ℕ) (a : List ℕ) (p : Place) where
-  part-owned : (i k : ℕ) → i + k ≤ slotBytes (p .cls) → part i k (part (owned row p) (slotBytes (p .cls)) a) ≡ part (owned row p + i) k a
-  part-owned i k h = part-part (owned row p) (slotBytes (p .cls)) i k a h
 
 module _ (row : ℕ) (pos : 0 < row) (a : List ℕ) (n : ℕ) (p : Place) (w : T (wellFormed (poolOf p))) (l : length a ≡ row * rows row (poolOf p))
     (t : T (inPlace p n)) where
@@ -101,7 +93,7 @@ module _ (row : ℕ) (pos : 0 < row) (a : List ℕ) (n : ℕ) (p : Place) (w : T
   header-there =
       let q : owned row p + 16 * d ≡ o - 4 = omega arith in
       eq→same _ _
-      (part-owned row reframed p (16 * d) 4 (omega (arith, inside)) ∙ ap (λ j. part j 4 reframed) q
+      (part-part (owned row p) (slotBytes c) (16 * d) 4 reframed (omega (arith, inside)) ∙ ap (λ j. part j 4 reframed) q
       ∙ part-put (o - 4) 4 (o + k) tail headed (inl (omega arith))
       ∙ part-written (o - 4) 4 head a (header-length c (slotNumber p) d n) (omega (arith, l, owned-inside row pos p w, inside)))
 
@@ -128,7 +120,7 @@ module _ (row : ℕ) (pos : 0 < row) (a : List ℕ) (n : ℕ) (p : Place) (w : T
       fits-in (owned row p) (slotBytes c) (length g) _ _ _ (guard-place .0) q (owned-inside row pos p w)
       (put-length (o + k) (zeros m) headed ∙ put-length (o - 4) head a ∙ l) in
       eq→same _ _
-      (part-owned row reframed p (slotBytes c - length g) (length g) u ∙ ap (λ j. part j (length g) reframed) q
+      (part-part (owned row p) (slotBytes c) (slotBytes c - length g) (length g) reframed u ∙ ap (λ j. part j (length g) reframed) q
       ∙ ap (part (o + k + length (zeros m)) (length g)) e ∙ part-written (o + k + length (zeros m)) (length g) g (put (o + k) (zeros m) headed) refl b)
     where
       bare : (s h : ℕ) → h ≤ s → s - h + h ≤ s
@@ -168,58 +160,6 @@ module _ (row : ℕ) (pos : 0 < row) (a : List ℕ) (n : ℕ) (p : Place) (w : T
       }
 
 -- ---- resize by a move
-
--- one list of slots in which only x may be live: a live one is x
-lone-live : (us : List Slot) (x : Slot) (vs us′ : List Slot) (y : Slot) (vs′ : List Slot) → us ++ (x ∷ vs) ≡ us′ ++ (y ∷ vs′)
-    → T (every (λ z. not (isLive z)) (us ++ vs)) → T (isLive y) → length us ≡ length us′
-lone-live [] x vs [] y vs′ e n l = refl
-lone-live [] x vs (z ∷ us′) y vs′ e n l =
-    let h : vs ≡ us′ ++ (y ∷ vs′) = cc in
-    let m : T (every (λ z. not (isLive z)) (us′ ++ (y ∷ vs′))) = subst (λ l. T (every (λ z. not (isLive z)) l)) h n in
-    absurd (T-not (isLive y) (and-left (not (isLive y)) _ (every-right (λ z. not (isLive z)) us′ (y ∷ vs′) m)) l)
-lone-live (z ∷ us) x vs [] y vs′ e n l =
-    let h : z ≡ y = cc in
-    absurd (T-not (isLive y) (subst (λ z. T (not (isLive z))) h (and-left (not (isLive z)) _ n)) l)
-lone-live (z ∷ us) x vs (z′ ∷ us′) y vs′ e n l =
-    let h : us ++ (x ∷ vs) ≡ us′ ++ (y ∷ vs′) = cc in
-    ap suc (lone-live us x vs us′ y vs′ h (and-right (not (isLive z)) _ n) l)
-
-module _ (row : ℕ) (pos : 0 < row) where
-  -- a slot's bytes lie outside a group that has no live slot but another
-  outside-group : (p q : Place) (i : ℕ) → T (wellFormed (poolOf p)) → poolOf q ≡ poolOf p → (q ≡ p → ⊥) → T (isLive (q .state)) → Owns row q i
-      → T (every (λ x. not (isLive x)) (p .lower ++ p .upper)) → (i < base row p) ⊎ (base row p + row * rowsOf row (p .cls) ≤ i)
-  outside-group p q i w e d l u n = go (leb (base row p) i) refl (leb (base row p + row * rowsOf row (p .cls)) i) refl
-    where
-      w′ : T (wellFormed (poolOf q))
-      w′ = subst (λ P. T (wellFormed P)) (sym e) w
-
-      inside : base row p ≤ i → i < base row p + row * rowsOf row (p .cls) → ⊥
-      inside f h =
-          let v : (q .before ≡ p .before) × (groupOf q ≡ groupOf p) × (q .after ≡ p .after) =
-          span-unique row pos (i / row) (q .before) (groupOf q) (q .after) (p .before) (groupOf p) (p .after) e (owned-row row pos q i w′ u)
-          (record {
-            from = le-div-iff-mul-le pos .1 (omega (arith, f, mul-comm row (rows row (p .before))));
-            to = div-lt-iff-lt-mul pos .1
-                (omega (
-                  arith,
-                  h,
-                  mul-comm (rows row (p .before) + rowsOf row (p .cls)) row,
-                  mul-add row (rows row (p .before)) (rowsOf row (p .cls)),
-                ));
-          }) in
-          let g : groupOf q ≡ groupOf p = v .1 in
-          let c : q .cls ≡ p .cls = cc in
-          let s : p .lower ++ (p .state ∷ p .upper) ≡ q .lower ++ (q .state ∷ q .upper) = cc in
-          let j : length (p .lower) ≡ length (q .lower) = lone-live (p .lower) (p .state) (p .upper) (q .lower) (q .state) (q .upper) s n l in
-          let x : (q .lower ≡ p .lower) × (q .state ≡ p .state) × (q .upper ≡ p .upper) =
-          split-unique (q .lower) (q .upper) (p .lower) (p .upper) (q .state) (p .state) (sym s) (sym j) in
-          d (same-placed (v .0) c (x .0) (x .1) (x .2) (v .2))
-
-      go : (b : Bool) → leb (base row p) i ≡ b → (b′ : Bool) → leb (base row p + row * rowsOf row (p .cls)) i ≡ b′
-          → (i < base row p) ⊎ (base row p + row * rowsOf row (p .cls) ≤ i)
-      go false f b′ h = inl (leb-false (base row p) i f)
-      go true f true h = inr (leb-true (base row p + row * rowsOf row (p .cls)) i h)
-      go true f false h = absurd (inside (leb-true (base row p) i f) (leb-false (base row p + row * rowsOf row (p .cls)) i h))
 
 -- the old block p and the new block q, in an arena as long as the pool
 module _ (row : ℕ) (pos : 0 < row) (P : Pool) (w : T (wellFormed P)) (a : List ℕ) (long : length a ≡ row * rows row P) (n : ℕ) (small : n < tooLarge)
@@ -264,7 +204,7 @@ module _ (row : ℕ) (pos : 0 < row) (P : Pool) (w : T (wellFormed P)) (a : List
   first = part (start row p) (stay p n) laid
 
   abbrev copy : List ℕ
-  copy = copied (start row p) (start row q) (stay p n) laid
+  copy = put (start row q) first laid
 
   laid-length : length laid ≡ length a
   laid-length = put-length (owned row q) framed a
@@ -337,79 +277,71 @@ module _ (row : ℕ) (pos : 0 < row) (P : Pool) (w : T (wellFormed P)) (a : List
       ∙ ⊎-elim (λ x. put-before (owned row q) framed a (start row p + j) 0 (omega (arith, x, inside-p, short .0)))
       (λ x. put-past (owned row q) framed a (start row p + j) 0 (omega (arith, x, framed-length))) apart
 
--- ---- every accepted resize
-
-module _ (row : ℕ) (pos : 0 < row) (a t : List ℕ) (s : Sound byMasks row (length a) t) (n : ℕ) (small : n < tooLarge) where
-  -- the grant of a move
-  grant-done : T (sound row (length a) t) → (q : Place) → reserve row (view row t) n ≡ some q
-      → call row a t (grants n) ≡ applied (masked row) a (grantAt row (view row t) (some q))
-  unfolding plan grant
-  grant-done h q e =
-      call-sound row a t (T-true (sound row (length a) t) h) (grants n) tt
-      ∙ ap (carried row a t)
-      (choose-false (leb tooLarge n) _ (grantAt row (view row t) (reserve row (view row t) n)) (lt-leb tooLarge n small) ∙ ap (grantAt row (view row t)) e)
-      ∙ carried-whole row a t (grantAt row (view row t) (some q)) refl
-
-  moved-as-said : T (sound row (length a) t) → (p q : Place) → demand2.Intact row a (view row t) (start row p) p → reserve row (view row t) n ≡ some q
-      → inPlace p n ≡ false → (z : Result) → z ≡ applied (masked row) a (moveTo row (view row t) p n (some q))
-      → MovedBy row a (start row p) n p (call row a t (grants n)) z
+  -- the grant, the copy and the release make the move
+  moved : (g z : Result) → g ≡ applied (masked row) a (grantAt row P (some q)) → T (arenaRight row (length a)) → inPlace p n ≡ false
+      → z ≡ applied (masked row) a (moveTo row P p n (some q)) → MovedBy row a (start row p) n p g z
   unfolding inPlace enframe
-  moved-as-said h p q i e f z l =
-      let P : Pool = view row t in
-      let b = beside row pos P (s .formed) a (s .long) n small q e p i in
-      let g : call row a t (grants n) ≡ applied (masked row) a (grantAt row P (some q)) = grant-done h q e in
-      let c : List ℕ = copy row pos P (s .formed) a (s .long) n small q e p i in
-      let x : call row c (encode row (poolOf q)) (releases (start row p)) ≡ applied (masked row) c (releaseAt row (b .place)) =
-      release-done row pos P (s .formed) a (s .long) n small q e p i (s .lawful) in
-      let r : Result = call row c (encode row (poolOf q)) (releases (start row p)) in
-      let u : release row (poolOf q) (start row p) ≡ releaseAt row (b .place) = released-old row pos P (s .formed) a (s .long) n small q e p i in
+  moved g z e h f l =
+      let r : Result = call row copy (encode row (poolOf q)) (releases (start row p)) in
+      let x : r ≡ applied (masked row) copy (releaseAt row (beside .place)) = release-done h in
       let y : z .arena ≡ r .arena =
-      ap (λ (r : Result). r .arena) l ∙ ap (λ (d : Plan). written c (d .changes)) u ∙ sym (ap (λ (r : Result). r .arena) x) in
-      subst (λ (g : Result). MovedBy row a (start row p) n p g z) (sym g) (record {
+      ap (λ (r : Result). r .arena) l ∙ ap (λ (d : Plan). written copy (d .changes)) released-old ∙ sym (ap (λ (r : Result). r .arena) x) in
+      subst (λ (g : Result). MovedBy row a (start row p) n p g z) (sym e) (record {
         serves-not = λ v. subst T f (and-both (leb n (slotBytes (p .cls) - 4 - 16 * disp (p .state))) (leb (p .cls) (suc (classOf n)))
             (le→leb n (slotBytes (p .cls) - 4 - 16 * disp (p .state)) (v .fits)) (le→leb (p .cls) (suc (classOf n)) (v .near)));
         granted = refl;
         answer = ap (λ (r : Result). r .answer) l;
-        released = ap (λ (r : Result). r .answer .number) x ∙ ap (λ r. r .number) (release-parts row (b .place) .1);
+        released = ap (λ (r : Result). r .answer .number) x ∙ ap (λ r. r .number) (release-parts row (beside .place) .1);
         arena = y;
-        room = ap (λ (r : Result). r .room) l ∙ ap (λ (d : Plan). encode row (d .pool)) u ∙ sym (ap (λ (r : Result). r .room) x);
+        room = ap (λ (r : Result). r .room) l ∙ ap (λ (d : Plan). encode row (d .pool)) released-old ∙ sym (ap (λ (r : Result). r .room) x);
         kept = λ j k.
             ap (λ b. getD b (start row q + j) 0) y
-            ∙ new-kept row pos P (s .formed) a (s .long) n small q e p i r (released-as-said row pos c (b .place) (b .formed) (b .live) r x) (start row q + j)
-            (new-owns row pos P (s .formed) a (s .long) n small q e p i j k)
-            ∙ copy-there row pos P (s .formed) a (s .long) n small q e p i j k;
+            ∙ new-kept r (released-as-said row pos copy (beside .place) (beside .formed) (beside .live) r x) (start row q + j) (new-owns j k)
+            ∙ copy-there j k;
       })
 
-  -- a resize that was done, of the block at an offset
-  resized-as-said : T (sound row (length a) t) → (p : Place) → demand2.Intact row a (view row t) (start row p) p → (z : Result) → z .answer .number ≡ 0
-      → z ≡ applied (masked row) a (resizeAt row (view row t) n p)
+-- ---- every accepted resize
+
+module _ (row : ℕ) (pos : 0 < row) (a t : List ℕ) (h : T (sound row (length a) t)) (n : ℕ) (small : n < tooLarge) where
+  abbrev P : Pool
+  P = view row t
+
+  s : Sound byMasks row (length a) t
+  s = sound-facts byMasks row (length a) t h
+
+  -- the grant of a move
+  grant-done : (q : Place) → reserve row P n ≡ some q → call row a t (grants n) ≡ applied (masked row) a (grantAt row P (some q))
+  unfolding plan grant
+  grant-done q e =
+      call-sound row a t (T-true (sound row (length a) t) h) (grants n) tt
+      ∙ ap (carried row a t) (choose-false (leb tooLarge n) _ (grantAt row P (reserve row P n)) (lt-leb tooLarge n small) ∙ ap (grantAt row P) e)
+      ∙ carried-whole row a t (grantAt row P (some q)) refl
+
+  -- a resize that was done, of the block p
+  resized-as-said : (p : Place) → demand2.Intact row a P (start row p) p → (z : Result) → z .answer .number ≡ 0
+      → z ≡ applied (masked row) a (resizeAt row P n p)
       → InPlace row a (start row p) n p z ⊎ MovedBy row a (start row p) n p (call row a t (grants n)) z
   unfolding resizeAt resizeMove
-  resized-as-said h p i z d l =
-      choose-case (λ (r : Plan). z ≡ applied (masked row) a r → M) (inPlace p n) (resizeInPlace row p n) (resizeMove row P p n)
+  resized-as-said p i z d l =
+      choose-case (λ (r : Plan). z ≡ applied (masked row) a r → InPlace row a (start row p) n p z ⊎ M) (inPlace p n) (resizeInPlace row p n)
+      (resizeMove row P p n)
       (λ e l. inl (in-place-as-said row pos a n p (place-formed row pos P (s .formed) a (start row p) p i)
       (s .long ∙ ap (λ Q. row * rows row Q) (sym (i .live .here .slotted .pool))) (true-T (inPlace p n) e) z small (i .live .live) l))
       (λ e l. inr (go e (reserve row P n) refl l)) l
     where
-      P : Pool
-      P = view row t
-
-      N : Type 0
-      N = MovedBy row a (start row p) n p (call row a t (grants n)) z
-
       M : Type 0
-      M = InPlace row a (start row p) n p z ⊎ N
+      M = MovedBy row a (start row p) n p (call row a t (grants n)) z
 
-      go : inPlace p n ≡ false → (r : Option Place) → reserve row P n ≡ r → z ≡ applied (masked row) a (moveTo row P p n r) → N
+      go : inPlace p n ≡ false → (r : Option Place) → reserve row P n ≡ r → z ≡ applied (masked row) a (moveTo row P p n r) → M
       go e none f l = absurd (omega (arith, d, ap (λ (r : Result). r .answer .number) l))
-      go e (some q) f l = moved-as-said h p q i f e z l
+      go e (some q) f l = moved row pos P (s .formed) a (s .long) n small q f p i (call row a t (grants n)) z (grant-done q f) (s .lawful) e l
 
 pub resizes-as-said : (row : ℕ) → 0 < row → ResizesAsSaid row
 unfolding plan resize
 resizes-as-said row pos a t o n z =
     let c : Call = resizes o n in
     let y : Accepted row pos a t c = accepted row pos a t c tt z in
-    let s : Sound byMasks row (length a) t = sound-facts byMasks row (length a) t (y .sound-tables) in
+    let w : T (wellFormed (view row t)) = sound-facts byMasks row (length a) t (y .sound-tables) .formed in
     let (_, (n₃, m)) = none-due (Due row a t c) (order c) _ (demand1 row pos a t c .number) z in
     let h : n < tooLarge = not-large n₃ in
     let (p, i) = found-intact row pos a t (y .sound-tables) c (NoRoom ∷ []) m in
@@ -417,13 +349,13 @@ resizes-as-said row pos a t o n z =
     y .left
     ∙ ap (applied (masked row) a)
     (choose-false (leb tooLarge n) _ (onBlock (view row t) (resizeAt row (view row t) n) (lookup row (view row t) o)) (lt-leb tooLarge n h)
-    ∙ on-intact row pos (view row t) (s .formed) a o p i (resizeAt row (view row t) n)) in
+    ∙ on-intact row pos (view row t) w a o p i (resizeAt row (view row t) n)) in
     let e : start row p ≡ o = i .live .here .starts in (
       p,
       record {
         block = i;
-        done = subst (λ o. Done o p) e (resized-as-said row pos a t s n h (y .sound-tables) p (subst (λ o. demand2.Intact row a (view row t) o p) (sym e) i)
-            (call row a t c) z l);
+        done = subst (λ o. Done o p) e
+            (resized-as-said row pos a t (y .sound-tables) n h p (subst (λ o. demand2.Intact row a (view row t) o p) (sym e) i) (call row a t c) z l);
       },
     )
   where

@@ -8,15 +8,14 @@ use mathlib.Core.List.{List, [], _∷_, _++_}
 use lib.Dec.{T}
 use lib.ListN.{length, getD}
 use Rattle.mem.specs.Lists.{any, every}
-use Rattle.mem.specs.Bytes.{put, part}
 use Rattle.classes.specs.Classes.{slotBytes, classOf, rowsOf}
 use Rattle.model.specs.declared.Slot.the-variants.{Idle, Live}
 use Rattle.model.specs.State.{Pool, Place, isLive, count, disp, size, poolOf, become, base, owned}
 use Rattle.model.specs.Blocks.{reserved, guard}
 use Rattle.model.specs.Answers.{done, listed}
-use Rattle.model.specs.Plans.{Call, setsUp, grants, releases, resizes, measures, reports, freshPool, totals}
+use Rattle.model.specs.Plans.{copies, Call, setsUp, grants, releases, resizes, measures, reports, freshPool, totals}
 use Rattle.model.specs.Tables.{view, sound}
-use Rattle.model.specs.Calls.{Result, call}
+use Rattle.model.specs.Calls.{Result, write, call}
 use Rattle.claims.specs.Demand1.{StartsAt}
 use Rattle.claims.specs.Demand2.{Intact}
 
@@ -38,10 +37,6 @@ sized p n = become p (Live (record { count = count (p .state); disp = disp (p .s
 -- as many bytes as stay: "the lesser of old and new n"
 abbrev pub stay : Place → ℕ → ℕ
 stay p n = min (size (p .state)) n
-
--- an arena with k of its bytes copied from one place to another
-abbrev pub copied : ℕ → ℕ → ℕ → List ℕ → List ℕ
-copied from to k a = put to (part from k a) a
 
 module _ (row : ℕ) where
   -- "Offset 0 is never a start."
@@ -127,7 +122,7 @@ module _ (row : ℕ) where
     pub kept : (i : ℕ) → i < stay p n → getD (r .arena) (v + i) 0 ≡ getD a (o + i) 0
 
   abbrev pub MovedBy : List ℕ → ℕ → ℕ → Place → Result → Result → Type 0
-  MovedBy a o n p g r = let v = getD (g .answer .values) 0 0 in Moved a o n p g v (copied o v (stay p n) (g .arena)) r
+  MovedBy a o n p g r = let v = getD (g .answer .values) 0 0 in Moved a o n p g v (write (g .arena) (copies o v (stay p n))) r
 
   pub record Resized (a t : List ℕ) (o n : ℕ) (p : Place) : Type 0 where
     pub block : Intact row a (view row t) o p

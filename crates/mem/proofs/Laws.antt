@@ -1,8 +1,8 @@
 -- Laws of bytes: writes, parts, zeros, tests of equality, numbers low byte first, and walks over lists.
-use Rattle.mem.proofs.Prelude.{_∙_, _≡_, sym, ap, refl, ap₂, subst, Bool, false, _&&_, and-assoc, and-false, inl, inr, _⊎_, List, [], _∷_}
-use Rattle.mem.proofs.Prelude.{_++_, append-assoc, _+_, ℕ, _<_, _≤_, _*_, _-_, suc, _/_, zero, _^_, _%_, add-zero, zero-add, pow-suc, arith, T}
-use Rattle.mem.proofs.Prelude.{eqb, ltb, eqb→eq, ltb→lt, eqb-refl, lt→ltb, length, drop, getD, length-append, take, set, length-drop}
-use Rattle.mem.proofs.Prelude.{length-replicate, take-append-drop, drop-drop, drop-cons, getD-drop, length-take-le}
+use Rattle.mem.proofs.Prelude.{_∙_, _≡_, sym, ap, refl, ap₂, subst, Bool, false, _&&_, and-assoc, and-false, inl, inr, _⊎_, List, [], _∷_, _++_}
+use Rattle.mem.proofs.Prelude.{append-assoc, _+_, ℕ, _<_, _≤_, _*_, _-_, suc, _/_, zero, _^_, _%_, add-zero, zero-add, pow-suc, arith, T, eqb, ltb}
+use Rattle.mem.proofs.Prelude.{eqb→eq, ltb→lt, eqb-refl, lt→ltb, length, drop, getD, length-append, take, set, length-drop, length-replicate}
+use Rattle.mem.proofs.Prelude.{take-append-drop, drop-drop, drop-cons, getD-drop, length-take-le}
 use native.Mathlib.Nat.{add-suc, suc-add, add-comm, mul-zero, mul-suc}
 use lib.ListN.{replicate-append-replicate}
 use lib.Seq.{sets, sets-eq, length-sets, take-take, take-set-le, drop-append-add, drop-set-lt, drop-set-add, getD-take, take-at}

@@ -1,6 +1,6 @@
 -- Laws of tests: conjunctions as facts, tests over a list, choices.
-use Rattle.mem.proofs.Prelude.{_≡_, ap, refl, subst, true, Bool, false, _&&_, _||_, true≢false, List, [], _∷_, _++_, map, ℕ, _<_, suc, zero}
-use Rattle.mem.proofs.Prelude.{arith, T, eqb, eqb→eq, eqb-refl, length, getD}
+use Rattle.mem.proofs.Prelude.{_≡_, ap, refl, subst, true, Bool, false, _&&_, not, _||_, true≢false, List, [], _∷_, _++_, map, ℕ, _<_, suc, zero, arith}
+use Rattle.mem.proofs.Prelude.{T, eqb, eqb→eq, eqb-refl, length, getD}
 use Prim.Native.Nat.{suc-le-suc}
 use native.Mathlib.Nat.{not-suc-le-zero, le-of-suc-le-suc, zero-lt-suc}
 use mathlib.Core.Bool.{false≢true}
@@ -66,6 +66,15 @@ every-left f (x ∷ xs) ys t =
 pub every-right : {A : Type 0} (f : A → Bool) (xs ys : List A) → T (every f (xs ++ ys)) → T (every f ys)
 every-right f [] ys t = t
 every-right f (x ∷ xs) ys t = every-right f xs ys (and-right (f x) (every f (xs ++ ys)) t)
+
+-- where none passes a test, each fails it
+pub every-not : {A : Type 0} (f : A → Bool) (l : List A) → any f l ≡ false → T (every (λ x. not (f x)) l)
+every-not f [] e = tt
+every-not f (x ∷ l) e = go (f x) refl e (every-not f l)
+  where
+    go : (b : Bool) → f x ≡ b → (b || any f l) ≡ false → (any f l ≡ false → T (every (λ x. not (f x)) l)) → T (not (f x) && every (λ x. not (f x)) l)
+    go true h e r = absurd (true≢false e)
+    go false h e r = rw h (r e)
 
 pub every-map : {A B : Type 0} (f : B → Bool) (g : A → B) (xs : List A) → every f (map g xs) ≡ every (λ x. f (g x)) xs
 every-map f g [] = refl

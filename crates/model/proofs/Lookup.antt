@@ -1,7 +1,7 @@
 -- A granted slot is found by its start, and by nothing else.
-use Rattle.mem.proofs.Prelude.{_≡_, sym, ap, refl, ap₂, subst, true, Bool, false, inl, inr, _⊎_, some, none, Option, List, [], _∷_, _++_, append-assoc}
+use Rattle.mem.proofs.Prelude.{_≡_, sym, ap, refl, ap₂, subst, true, Bool, false, not, inl, inr, _⊎_, some, none, Option, List, [], _∷_, _++_, append-assoc}
 use Rattle.mem.proofs.Prelude.{append-nil, _+_, ℕ, _<_, _≤_, _*_, _-_, suc, _/_, mul-comm, le-div-iff-mul-le, mul-add, arith, eq-eqb, leb-false, leb-true, T}
-use Rattle.mem.proofs.Prelude.{eqb, leb, eqb→eq, leb→le, ltb→lt, length, length-append}
+use Rattle.mem.proofs.Prelude.{eqb, leb, eqb→eq, leb→le, ltb→lt, T-not, length, length-append}
 use Prim.Native.Nat.{max}
 use native.Mathlib.Nat.{mul-le-mul-right, suc-mul, div-lt-iff-lt-mul}
 use Rattle.mem.specs.Lists.{choose, every, find}
@@ -10,8 +10,8 @@ use Rattle.classes.specs.Classes.{slotBytes, slotsOf, rowsOf}
 use Rattle.classes.proofs.Laws.{bytes-least, rows-hold}
 use Rattle.model.specs.declared.Slot.{Slot}
 use Rattle.model.specs.declared.Slot.the-variants.{Fresh, Idle, Live}
-use Rattle.model.specs.State.{Span, Pool, Place, free, group, granted, disp, size, slotSound, spanSound, wellFormed, poolOf, slotNumber, slotPlaces}
-use Rattle.model.specs.State.{placesFrom, places, rowsIn, rows, owned, start}
+use Rattle.model.specs.State.{Span, Pool, Place, free, group, isLive, granted, disp, size, slotSound, spanSound, wellFormed, poolOf, slotNumber}
+use Rattle.model.specs.State.{slotPlaces, placesFrom, places, rowsIn, rows, base, owned, start}
 use Rattle.model.specs.Plans.{lookup}
 use Rattle.model.proofs.Tables.{group-slots}
 use Rattle.model.proofs.Rooms.{rows-append}
@@ -78,6 +78,10 @@ placed X c us x vs Y = record { before = X; cls = c; lower = us; state = x; uppe
 pub same-placed : {X X′ : Pool} {c c′ : ℕ} {us us′ : List Slot} {x x′ : Slot} {vs vs′ : List Slot} {Y Y′ : Pool}
     → X ≡ X′ → c ≡ c′ → us ≡ us′ → x ≡ x′ → vs ≡ vs′ → Y ≡ Y′ → placed X c us x vs Y ≡ placed X′ c′ us′ x′ vs′ Y′
 same-placed b c l s u a = cc
+
+-- the group that a place is in
+abbrev pub groupOf : Place → Span
+groupOf p = group (p .cls) (p .lower ++ (p .state ∷ p .upper))
 
 -- a place of the pool P
 abbrev pub Of : Pool → Place → Type 0
@@ -180,26 +184,24 @@ module _ (row : ℕ) (pos : 0 < row) where
       let f : Fits p = fits p w in
       omega (arith, rows-hold row (p .cls) pos, mul-le-mul-right (slotBytes (p .cls)) (f .number), mul-comm (slotBytes (p .cls)) (slotsOf (p .cls)))
 
-  -- the row of a start is one of its group's
+  -- row r is one of a span's
   pub record InRows (r : ℕ) (X : Pool) (s : Span) : Type 0 where
     pub from : rows row X ≤ r
     pub to : r < rows row X + rowsIn row s
 
-  pub start-row : (p : Place) → T (wellFormed (poolOf p)) → InRows (start row p / row) (p .before) (group (p .cls) (p .lower ++ (p .state ∷ p .upper)))
+  -- the row of a byte of a group is one of the group's
+  pub byte-row : (p : Place) (i : ℕ) → base row p ≤ i → i < base row p + row * rowsOf row (p .cls) → InRows (i / row) (p .before) (groupOf p)
+  byte-row p i h l = record {
+    from = le-div-iff-mul-le pos .1 (omega (arith, h, mul-comm row (rows row (p .before))));
+    to = div-lt-iff-lt-mul pos .1
+        (omega (arith, l, mul-comm (rows row (p .before) + rowsOf row (p .cls)) row, mul-add row (rows row (p .before)) (rowsOf row (p .cls))));
+  }
+
+  pub start-row : (p : Place) → T (wellFormed (poolOf p)) → InRows (start row p / row) (p .before) (groupOf p)
   start-row p w =
       let f : Fits p = fits p w in
       let d : 16 * disp (p .state) + size (p .state) + 4 ≤ slotBytes (p .cls) = disp-inside (p .cls) (p .state) (f .class) (f .state) in
-      record {
-        from = le-div-iff-mul-le pos .1 (omega (arith, mul-comm row (rows row (p .before))));
-        to = div-lt-iff-lt-mul pos .1
-            (omega (
-              arith,
-              slot-inside p w,
-              suc-mul (slotNumber p) (slotBytes (p .cls)),
-              mul-comm (rows row (p .before) + rowsOf row (p .cls)) row,
-              mul-add row (rows row (p .before)) (rowsOf row (p .cls)),
-            ));
-      }
+      byte-row p (start row p) (omega arith) (omega (arith, d, slot-inside p w, suc-mul (slotNumber p) (slotBytes (p .cls))))
 
   -- one pool, split in two ways round one row
   pub span-unique : (r : ℕ) (X : Pool) (s : Span) (Y X′ : Pool) (s′ : Span) (Y′ : Pool) → X ++ (s ∷ Y) ≡ X′ ++ (s′ ∷ Y′)
@@ -226,31 +228,33 @@ module _ (row : ℕ) (pos : 0 < row) where
       let b : j < i → ⊥ = λ l. omega (arith, mul-le-mul-right (slotBytes c) l, suc-mul j (slotBytes c)) in
       omega arith
 
+  -- two places of one pool, whose groups have a row in common, are one if their slots' numbers are
+  pub group-unique : (r : ℕ) (p q : Place) → poolOf q ≡ poolOf p → InRows r (q .before) (groupOf q) → InRows r (p .before) (groupOf p)
+      → (q .before ≡ p .before → q .cls ≡ p .cls → q .lower ++ (q .state ∷ q .upper) ≡ p .lower ++ (p .state ∷ p .upper) → slotNumber q ≡ slotNumber p)
+      → q ≡ p
+  group-unique r p q e i j n =
+      let u : (q .before ≡ p .before) × (groupOf q ≡ groupOf p) × (q .after ≡ p .after) =
+      span-unique r (q .before) (groupOf q) (q .after) (p .before) (groupOf p) (p .after) e i j in
+      let k : groupOf q ≡ groupOf p = u .1 in
+      let c : q .cls ≡ p .cls = cc in
+      let l : q .lower ++ (q .state ∷ q .upper) ≡ p .lower ++ (p .state ∷ p .upper) = cc in
+      let v : (q .lower ≡ p .lower) × (q .state ≡ p .state) × (q .upper ≡ p .upper) =
+      split-unique (q .lower) (q .upper) (p .lower) (p .upper) (q .state) (p .state) l (n (u .0) c l) in
+      same-placed (u .0) c (v .0) (v .1) (v .2) (u .2)
+
   -- two places of one pool with one start are one
   pub place-unique : (p q : Place) → T (wellFormed (poolOf p)) → poolOf q ≡ poolOf p → start row q ≡ start row p → q ≡ p
   place-unique p q w e s =
       let w′ : T (wellFormed (poolOf q)) = subst (λ P. T (wellFormed P)) (sym e) w in
-      let sp : List Slot = p .lower ++ (p .state ∷ p .upper) in
-      let sq : List Slot = q .lower ++ (q .state ∷ q .upper) in
       let f : Fits p = fits p w in
       let g : Fits q = fits q w′ in
-      let u : (q .before ≡ p .before) × (group (q .cls) sq ≡ group (p .cls) sp) × (q .after ≡ p .after) =
-      span-unique (start row p / row) (q .before) (group (q .cls) sq) (q .after) (p .before) (group (p .cls) sp) (p .after) e
-      (subst (λ n. InRows (n / row) (q .before) (group (q .cls) sq)) s (start-row q w′)) (start-row p w) in
-      let b : q .before ≡ p .before = u .0 in
-      let k : group (q .cls) sq ≡ group (p .cls) sp = u .1 in
-      let a : q .after ≡ p .after = u .2 in
-      let c : q .cls ≡ p .cls = cc in
-      let l : sq ≡ sp = cc in
+      group-unique (start row p / row) p q e (subst (λ n. InRows (n / row) (q .before) (groupOf q)) s (start-row q w′)) (start-row p w)
+      (λ b c l.
       let m : slotBytes (q .cls) ≡ slotBytes (p .cls) = ap slotBytes c in
-      let n : slotNumber q ≡ slotNumber p =
       same-slot (p .cls) (slotNumber q) (slotNumber p) (disp (q .state)) (disp (p .state))
       (omega (arith, disp-inside (q .cls) (q .state) (g .class) (g .state), m))
       (omega (arith, disp-inside (p .cls) (p .state) (f .class) (f .state)))
-      (omega (arith, s, ap (λ X. row * rows row X) b, ap (λ z. slotNumber q * z) m)) in
-      let v : (q .lower ≡ p .lower) × (q .state ≡ p .state) × (q .upper ≡ p .upper) =
-      split-unique (q .lower) (q .upper) (p .lower) (p .upper) (q .state) (p .state) l n in
-      same-placed b c (v .0) (v .1) (v .2) a
+      (omega (arith, s, ap (λ X. row * rows row X) b, ap (λ z. slotNumber q * z) m)))
 
   -- a granted slot is found by its start
   pub lookup-start : (p : Place) → T (wellFormed (poolOf p)) → T (granted (p .state)) → lookup row (poolOf p) (start row p) ≡ some p
@@ -287,6 +291,21 @@ pub record Owns (row : ℕ) (p : Place) (i : ℕ) : Type 0 where
   pub from : owned row p ≤ i
   pub to : i < owned row p + slotBytes (p .cls)
 
+-- one list of slots in which only x may be live: a live one is x
+lone-live : (us : List Slot) (x : Slot) (vs us′ : List Slot) (y : Slot) (vs′ : List Slot) → us ++ (x ∷ vs) ≡ us′ ++ (y ∷ vs′)
+    → T (every (λ z. not (isLive z)) (us ++ vs)) → T (isLive y) → length us ≡ length us′
+lone-live [] x vs [] y vs′ e n l = refl
+lone-live [] x vs (z ∷ us′) y vs′ e n l =
+    let h : vs ≡ us′ ++ (y ∷ vs′) = cc in
+    let m : T (every (λ z. not (isLive z)) (us′ ++ (y ∷ vs′))) = subst (λ l. T (every (λ z. not (isLive z)) l)) h n in
+    absurd (T-not (isLive y) (and-left (not (isLive y)) _ (every-right (λ z. not (isLive z)) us′ (y ∷ vs′) m)) l)
+lone-live (z ∷ us) x vs [] y vs′ e n l =
+    let h : z ≡ y = cc in
+    absurd (T-not (isLive y) (subst (λ z. T (not (isLive z))) h (and-left (not (isLive z)) _ n)) l)
+lone-live (z ∷ us) x vs (z′ ∷ us′) y vs′ e n l =
+    let h : us ++ (x ∷ vs) ≡ us′ ++ (y ∷ vs′) = cc in
+    ap suc (lone-live us x vs us′ y vs′ h (and-right (not (isLive z)) _ n) l)
+
 one-slot : (s i j x : ℕ) → i * s ≤ x → x < suc i * s → j * s ≤ x → x < suc j * s → i ≡ j
 one-slot s i j x a b c d =
     let l : i < j → ⊥ = λ h. omega (arith, mul-le-mul-right s h) in
@@ -295,42 +314,36 @@ one-slot s i j x a b c d =
 
 module _ (row : ℕ) (pos : 0 < row) where
   -- the row of an owned byte is one of its group's
-  pub owned-row : (p : Place) (i : ℕ) → T (wellFormed (poolOf p)) → Owns row p i
-      → InRows row pos (i / row) (p .before) (group (p .cls) (p .lower ++ (p .state ∷ p .upper)))
-  owned-row p i w o = record {
-    from = le-div-iff-mul-le pos .1 (omega (arith, o .from, mul-comm row (rows row (p .before))));
-    to = div-lt-iff-lt-mul pos .1
-        (omega (
-          arith,
-          o .to,
-          slot-inside row pos p w,
-          suc-mul (slotNumber p) (slotBytes (p .cls)),
-          mul-comm (rows row (p .before) + rowsOf row (p .cls)) row,
-          mul-add row (rows row (p .before)) (rowsOf row (p .cls)),
-        ));
-  }
+  owned-row : (p : Place) (i : ℕ) → T (wellFormed (poolOf p)) → Owns row p i → InRows row pos (i / row) (p .before) (groupOf p)
+  owned-row p i w o =
+      byte-row row pos p i (omega (arith, o .from)) (omega (arith, o .to, slot-inside row pos p w, suc-mul (slotNumber p) (slotBytes (p .cls))))
 
   pub owned-unique : (p q : Place) (i : ℕ) → T (wellFormed (poolOf p)) → poolOf q ≡ poolOf p → Owns row p i → Owns row q i → q ≡ p
   owned-unique p q i w e o o′ =
-      let w′ : T (wellFormed (poolOf q)) = subst (λ P. T (wellFormed P)) (sym e) w in
-      let sp : List Slot = p .lower ++ (p .state ∷ p .upper) in
-      let sq : List Slot = q .lower ++ (q .state ∷ q .upper) in
-      let u : (q .before ≡ p .before) × (group (q .cls) sq ≡ group (p .cls) sp) × (q .after ≡ p .after) =
-      span-unique row pos (i / row) (q .before) (group (q .cls) sq) (q .after) (p .before) (group (p .cls) sp) (p .after) e
-      (owned-row q i w′ o′) (owned-row p i w o) in
-      let b : row * rows row (q .before) ≡ row * rows row (p .before) = ap (λ X. row * rows row X) (u .0) in
-      let k : group (q .cls) sq ≡ group (p .cls) sp = u .1 in
-      let c : q .cls ≡ p .cls = cc in
-      let l : sq ≡ sp = cc in
+      group-unique row pos (i / row) p q e (owned-row q i (subst (λ P. T (wellFormed P)) (sym e) w) o′) (owned-row p i w o)
+      (λ f c l.
+      let b : row * rows row (q .before) ≡ row * rows row (p .before) = ap (λ X. row * rows row X) f in
       let s : ℕ = slotBytes (p .cls) in
       let m : slotNumber q * slotBytes (q .cls) ≡ slotNumber q * s = ap (λ z. slotNumber q * slotBytes z) c in
-      let n : slotNumber q ≡ slotNumber p =
       one-slot s (slotNumber q) (slotNumber p) (i - (row * rows row (p .before) + 12))
       (omega (arith, o′ .from, b, m)) (omega (arith, o′ .to, b, m, ap slotBytes c, suc-mul (slotNumber q) s))
-      (omega (arith, o .from)) (omega (arith, o .to, suc-mul (slotNumber p) s)) in
-      let v : (q .lower ≡ p .lower) × (q .state ≡ p .state) × (q .upper ≡ p .upper) =
-      split-unique (q .lower) (q .upper) (p .lower) (p .upper) (q .state) (p .state) l n in
-      same-placed (u .0) c (v .0) (v .1) (v .2) (u .2)
+      (omega (arith, o .from)) (omega (arith, o .to, suc-mul (slotNumber p) s)))
+
+  -- a live slot's bytes lie outside the rows of a group that has no live slot but perhaps another
+  pub outside-group : (p q : Place) (i : ℕ) → T (wellFormed (poolOf p)) → poolOf q ≡ poolOf p → (q ≡ p → ⊥) → T (isLive (q .state)) → Owns row q i
+      → T (every (λ x. not (isLive x)) (p .lower ++ p .upper)) → (i < base row p) ⊎ (base row p + row * rowsOf row (p .cls) ≤ i)
+  outside-group p q i w e d l o n = go (leb (base row p) i) refl (leb (base row p + row * rowsOf row (p .cls)) i) refl
+    where
+      inside : base row p ≤ i → i < base row p + row * rowsOf row (p .cls) → ⊥
+      inside f h =
+          d (group-unique row pos (i / row) p q e (owned-row q i (subst (λ P. T (wellFormed P)) (sym e) w) o) (byte-row row pos p i f h)
+          (λ b c s. sym (lone-live (p .lower) (p .state) (p .upper) (q .lower) (q .state) (q .upper) (sym s) n l)))
+
+      go : (b : Bool) → leb (base row p) i ≡ b → (b′ : Bool) → leb (base row p + row * rowsOf row (p .cls)) i ≡ b′
+          → (i < base row p) ⊎ (base row p + row * rowsOf row (p .cls) ≤ i)
+      go false f b′ h = inl (leb-false (base row p) i f)
+      go true f true h = inr (leb-true (base row p + row * rowsOf row (p .cls)) i h)
+      go true f false h = absurd (inside (leb-true (base row p) i f) (leb-false (base row p + row * rowsOf row (p .cls)) i h))
 
   -- the bytes of two slots of one pool are apart
   pub owned-apart : (p q : Place) → T (wellFormed (poolOf p)) → poolOf q ≡ poolOf p → (q ≡ p → ⊥)

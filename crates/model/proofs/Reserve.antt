@@ -17,7 +17,7 @@ use Rattle.model.specs.Plans.{Site, opens, openFrom, run, turnReady, ref
 use Rattle.model.proofs.Tables.{group-slots}
 use Rattle.model.proofs.Rooms.{rows-append}
 use Rattle.model.proofs.Fresh.{fresh-rows}
-use Rattle.model.proofs.Lookup.{placed, InRows, span-unique, split-unique}
+use Rattle.model.proofs.Lookup.{placed, groupOf, InRows, span-unique, split-unique}
 
 -- ---- refill
 
@@ -326,10 +326,6 @@ no-group zero c ss [] R e = let z : _≡_ {A = ℕ} 0 1 = cc in omega arith
 no-group zero c ss (l ∷ L) R e = let z : _≡_ {A = ℕ} 0 1 = cc in omega arith
 no-group (suc k) c ss [] R e = let z : _≡_ {A = ℕ} 0 1 = cc in omega arith
 no-group (suc k) c ss (l ∷ L) R e = let q : freshPool k ≡ L ++ (group c ss ∷ R) = cc in no-group k c ss L R q
-
--- the group that a place is in
-abbrev pub groupOf : Place → Span
-groupOf p = group (p .cls) (p .lower ++ (p .state ∷ p .upper))
 
 -- a place outside the part of a pool that another part of as many rows takes the place of
 module _ (row : ℕ) (X M N Y : Pool) (long : rows row N ≡ rows row M) (p : Place) where
