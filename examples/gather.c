@@ -49,12 +49,12 @@ int main(void)
     }
     map();
 
-    /* the driver writes past the end of the second entry, into its guard */
-    size_t value, end = list[1] + 188;
-    uint8_t kept = arena[end - 5];
-    arena[end - 5] = 1;
-    printf("release %zu after an overrun: %s\n", list[1], name(slotpool_release(arena, ARENA, room, room_len, list[1])));
-    arena[end - 5] = kept;
+    /* the driver writes one byte too many into the second entry */
+    size_t value, past = list[1] + sizes[1];
+    uint8_t kept = arena[past];
+    arena[past] = 1;
+    printf("release %zu with one byte written past its end: %s\n", list[1], name(slotpool_release(arena, ARENA, room, room_len, list[1])));
+    arena[past] = kept;
 
     printf("resize %zu to 188: %s", list[0], name(slotpool_resize(arena, ARENA, room, room_len, list[0], 188, &value)));
     printf(", %zu\n", value);

@@ -22,7 +22,7 @@ enum {
     SLOTPOOL_NO_SUCH_BLOCK = 4,  /* no slot starts at the offset */
     SLOTPOOL_ALREADY_FREE = 5,   /* the last start of a slot that is not live */
     SLOTPOOL_HEADER_DAMAGED = 6, /* the 4 bytes before the block are not those due */
-    SLOTPOOL_OVERRUN = 7,        /* header right, guard not that due */
+    SLOTPOOL_OVERRUN = 7,        /* header right, the byte past the end or the guard not that due */
     SLOTPOOL_NO_ROOM = 8         /* no slot of the class, and no run of free rows for a new group */
 };
 

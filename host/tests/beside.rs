@@ -6,7 +6,7 @@ mod random;
 use common::{library, Answer, Both, Call};
 use random::{all_seen, block, kind, next_call, Engine, Numbers, Seen};
 use slotpool::{room_len, Refusal};
-use slotpool_reference::{class_of, rows_of, slots_of, Reference, State, Tables, TOO_LARGE};
+use slotpool_reference::{class_of, rows_of, slot_bytes, slots_of, Reference, State, Tables, TOO_LARGE};
 use std::fmt::Arguments;
 
 /// The byte that stands in an arena before set up.
@@ -148,6 +148,55 @@ fn use_counts_wrap() {
     println!("places of a block in its slot: {places:?}");
     // where the number of places does not divide 256, a start tells a count that wraps from one that does not
     assert!(places.iter().any(|p| 256 % p != 0));
+}
+
+/// Changes single bytes from the first one past a live block of `n` bytes at `start` to its end and the byte after that. Calls on the block are
+/// refused with 7 exactly if the byte is the first spare one, or one of the guard's five.
+fn past_the_end(both: &mut Both, start: usize, n: usize, end: usize) {
+    let reserved = end - start - n;
+    let guard = if reserved >= 5 { end - 5 } else { end };
+    let first = start + n;
+    for at in (first..=end).filter(|at| at - first < 2 || end - at < 8) {
+        let compared = at < end && (at == first || at >= guard);
+        let old = both.arena[at];
+        for byte in [old ^ 1, old ^ 0x80] {
+            both.call(Call::Store(at, byte)).unwrap();
+            let told = format_args!("a block of {n} bytes at {start}, {reserved} spare, byte {at}");
+            if compared {
+                for call in [Call::Measure(start), Call::Release(start), Call::Resize(start, n), Call::Resize(start, n / 2)] {
+                    assert_eq!(both.call(call), Ok(Answer::Refused(Refusal::Overrun)), "{told}: {call:?}");
+                }
+            } else {
+                assert_eq!(both.call(Call::Measure(start)), Ok(Answer::Value(n)), "{told}");
+            }
+        }
+        both.call(Call::Store(at, old)).unwrap();
+    }
+}
+
+#[test]
+fn one_byte_past_the_end() {
+    // every size to 300, and those about the largest of each class
+    let edges = (0..48).map(|c| slot_bytes(c) - 4).flat_map(|most| most.saturating_sub(6)..=most + 1);
+    let mut blocks = [0; 7];
+    for n in (0..=300).chain(edges).filter(|&n| n < TOO_LARGE) {
+        let class = class_of(n);
+        let mut both = Both::new(512 * rows_of(class), OLD);
+        for _ in 0..slots_of(class) {
+            both.call(Call::Grant(n)).unwrap();
+        }
+        // the first slot's block, then the next one there: its start is displaced if the slot has a unit to spare
+        for _ in 0..2 {
+            let (start, _) = both.second.live()[0];
+            let end = 16 + slot_bytes(class) - 4;
+            past_the_end(&mut both, start, n, end);
+            blocks[(end - start - n).min(6)] += 1;
+            both.call(Call::Release(start)).unwrap();
+            both.call(Call::Grant(n)).unwrap();
+        }
+    }
+    println!("blocks with 0 to 5 and with more spare bytes: {blocks:?}");
+    assert!(blocks.iter().all(|&k| k > 0));
 }
 
 /// A pool after a thousand random calls, and as many more as it takes to have a live block.

@@ -1,4 +1,4 @@
-//! The bench sheet of document 01, run on the library beside the second implementation; W4 and W5 with their large arenas.
+//! The bench sheet of document 01, with what document 02 adds, run on the library beside the second implementation; W4 and W5 with their large arenas.
 
 mod common;
 
@@ -6,6 +6,8 @@ use common::Answer::{self, Done, Refused, Value};
 use common::Both;
 use common::Call::{self, Grant, Measure, Release, Report, Resize, Store};
 use slotpool::{Refusal, Totals};
+
+const OVERRUN: Answer = Refused(Refusal::Overrun);
 
 fn fresh(arena_len: usize) -> Both {
     Both::new(arena_len, 9)
@@ -62,15 +64,44 @@ fn w7_granted() -> Both {
 #[test]
 fn w7_and_its_stores() {
     due(&mut w7_granted(), [(Release(16), Done), (Grant(160), Value(400))]);
-    due(&mut w7_granted(), [(Store(199, 1), Done), (Release(16), Refused(Refusal::Overrun))]);
+    for at in [176, 199] {
+        due(&mut w7_granted(), [(Store(at, 1), Done), (Measure(16), OVERRUN), (Resize(16, 188), OVERRUN), (Release(16), OVERRUN)]);
+    }
     due(&mut w7_granted(), [(Store(198, 1), Done), (Release(16), Done)]);
 }
 
 #[test]
+fn one_byte_past_a_block() {
+    // three spare bytes, of which the first is compared; five, whose first is the guard's; one; and none
+    let three = &mut fresh(4096);
+    due(three, [(Grant(185), Value(16)), (Store(201, 1), Done), (Measure(16), OVERRUN), (Release(16), OVERRUN)]);
+    due(three, [(Store(201, 0), Done), (Store(202, 1), Done), (Store(203, 1), Done), (Measure(16), Value(185)), (Release(16), Done)]);
+    due(&mut fresh(4096), [(Grant(183), Value(16)), (Store(199, 1), Done), (Release(16), OVERRUN)]);
+    due(&mut fresh(4096), [(Grant(187), Value(16)), (Store(203, 1), Done), (Measure(16), OVERRUN), (Release(16), OVERRUN)]);
+    let none = &mut fresh(4096);
+    due(none, [(Grant(188), Value(16)), (Grant(188), Value(208)), (Store(204, 1), Done), (Measure(16), Value(188))]);
+    due(none, [(Measure(208), Refused(Refusal::HeaderDamaged)), (Release(16), Done)]);
+}
+
+#[test]
+fn the_start_is_compared_where_no_bytes_were_asked_for() {
+    due(&mut fresh(512), [(Grant(0), Value(16)), (Store(16, 1), Done), (Measure(16), OVERRUN), (Resize(16, 1), OVERRUN), (Release(16), OVERRUN)]);
+}
+
+#[test]
+fn the_compared_byte_moves_with_the_size() {
+    let mut both = fresh(4096);
+    due(&mut both, [(Grant(160), Value(16)), (Resize(16, 141), Value(16)), (Store(157, 1), Done), (Measure(16), OVERRUN)]);
+    due(&mut both, [(Store(157, 0), Done), (Store(176, 1), Done), (Measure(16), Value(141))]);
+}
+
+#[test]
 fn a_wrong_header_is_told_before_a_wrong_guard() {
-    let mut both = w7_granted();
-    due(&mut both, [(Store(12, 1), Done), (Store(199, 1), Done), (Release(16), Refused(Refusal::HeaderDamaged))]);
-    due(&mut both, [(Store(12, 0), Done), (Release(16), Refused(Refusal::Overrun))]);
+    for at in [176, 199] {
+        let mut both = w7_granted();
+        due(&mut both, [(Store(12, 1), Done), (Store(at, 1), Done), (Release(16), Refused(Refusal::HeaderDamaged))]);
+        due(&mut both, [(Store(12, 0), Done), (Release(16), OVERRUN)]);
+    }
 }
 
 #[test]

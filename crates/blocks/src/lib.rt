@@ -8,7 +8,7 @@ ghost use Prim.Native.Nat.{_+_, _*_, _-_, _≤_, _<_};
 ghost use lib.ListN.{length};
 ghost use Rattle.mem.specs.Bytes.{zeros, put, part};
 ghost use Rattle.classes.specs.Classes.{slotBytes};
-ghost use Rattle.model.specs.Blocks.{reserved, header, guard, spare, frame, damageIn};
+ghost use Rattle.model.specs.Blocks.{reserved, header, guard, spare, frame, guardRight, damageIn};
 use model::Damage;
 use model::Refusal;
 
@@ -51,6 +51,27 @@ fn guard(r: usize) -> [u8; 5]
     ]
 }
 
+// Whether the byte right after the requested ones is 0, where it is a reserved one, and the guard is that due.
+fn guard_right(slot: &[u8], c: usize, d: usize, n: usize) -> bool
+    requires { ⌜ (c < 48) × (16 * d + n + 4 ≤ slotBytes c) ⌝ }
+    requires { ⌜ length (now slot) ≡ slotBytes c ⌝ }
+    ensures { λ r. ⌜ r ≡ guardRight c d n (now (slot .entry)) ⌝ }
+{
+    let r = reserved(c, d, n);
+    if r == 0 {
+        return true;
+    }
+    let end = slot.len();
+    if slot[end - r] != 0 {
+        return false;
+    }
+    if r < 5 {
+        return true;
+    }
+    let g = guard(r);
+    mem::same_bytes(&slot[end - 5..end], &g)
+}
+
 // Whether the header and the guard of a block are those due.
 fn inspect(slot: &[u8], c: usize, i: usize, d: usize, n: usize) -> Damage
     requires { ⌜ (c < 48) × (16 * d + n + 4 ≤ slotBytes c) ⌝ }
@@ -62,13 +83,7 @@ fn inspect(slot: &[u8], c: usize, i: usize, d: usize, n: usize) -> Damage
     if !mem::same_bytes(&slot[at..at + 4], &h) {
         return Damage::Damaged(Refusal::HeaderDamaged);
     }
-    let r = reserved(c, d, n);
-    if r < 5 {
-        return Damage::Intact;
-    }
-    let g = guard(r);
-    let end = slot.len();
-    if !mem::same_bytes(&slot[end - 5..end], &g) {
+    if !guard_right(slot, c, d, n) {
         return Damage::Damaged(Refusal::Overrun);
     }
     Damage::Intact

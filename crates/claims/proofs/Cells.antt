@@ -15,10 +15,10 @@ use Rattle.model.specs.declared.Slot.the-variants.{Live}
 use Rattle.model.specs.declared.Damage.the-variants.{Intact}
 use Rattle.model.specs.State.{Span, Pool, Place, free, group, isLive, disp, size, slotSound, spanSound, wellFormed, poolOf, slotNumber, rows, owned, count}
 use Rattle.model.specs.State.{become, start}
-use Rattle.model.specs.Blocks.{reserved, header, spare, guard, frame, headerRight, guardRight, damageIn, ownedBytes, damage}
+use Rattle.model.specs.Blocks.{reserved, header, firstSpare, spare, guard, frame, headerRight, guardRight, damageIn, ownedBytes, damage}
 use Rattle.model.specs.Plans.{freshPool}
 use Rattle.model.proofs.Tables.{group-slots}
-use Rattle.model.proofs.Blocks.{header-length, spare-length, guard-fits}
+use Rattle.model.proofs.Blocks.{header-length, spare-length, spare-first, guard-fits}
 use Rattle.model.proofs.Lookup.{Fits, disp-inside}
 
 -- ---- cells
@@ -214,6 +214,20 @@ agrees-frame c i x l =
     (agrees-append (agrees-due (zeros (16 * disp x)))
     (agrees-append (agrees-due (header c i (disp x) (size x))) (zeros-agree (size x) (reserved c (disp x) (size x)))))
 
+-- the byte right after the requested ones, if it is a reserved one
+first-due : (c i d n : ℕ) (bs : List ℕ) → Agrees (blockCells c i d n) bs
+    → (let z = firstSpare (reserved c d n) in part (16 * d + 4 + n) (length z) bs ≡ z)
+unfolding blockCells
+first-due c i d n bs f =
+    let r : ℕ = reserved c d n in
+    let z : List ℕ = firstSpare r in
+    let A : List Cell = due (zeros (16 * d)) ++ (due (header c i d n) ++ packets n) in
+    let rest : List ℕ = drop (length z) (spare r) in
+    let l : length A ≡ 16 * d + 4 + n = simp (length-append, due-length, zeros-length, header-length, length-replicate) (omega arith) in
+    let q : blockCells c i d n ≡ A ++ (due z ++ due rest) =
+    ap (λ s. due (zeros (16 * d)) ++ (due (header c i d n) ++ (packets n ++ due s))) (spare-first r) ∙ rw (map-append settled z rest) (simp append-assoc) in
+    due-agrees z _ (agrees-part (16 * d + 4 + n) (length z) A (due z) (due rest) bs l (due-length z) (subst (λ l. Agrees l bs) q f))
+
 -- header and guard are those due
 undamaged-in : (c i d n : ℕ) (bs : List ℕ) → 16 * d + n + 4 ≤ slotBytes c → Agrees (blockCells c i d n) bs → damageIn c i d n bs ≡ Intact
 unfolding blockCells damageIn headerRight guardRight spare choose
@@ -231,7 +245,15 @@ undamaged-in c i d n bs h f =
     rw (map-append settled (zeros (r - length g)) g, append-nil (due g)) (simp append-assoc) in
     let e₂ : part (slotBytes c - length g) (length g) bs ≡ g =
     due-agrees g _ (agrees-part (slotBytes c - length g) (length g) A (due g) [] bs l (due-length g) (subst (λ l. Agrees l bs) q f)) in
-    rw (e₁, e₂, T-true (same (header c i d n) (header c i d n)) (same-refl (header c i d n)), T-true (same g g) (same-refl g))
+    let z : List ℕ = firstSpare r in
+    rw (
+      e₁,
+      first-due c i d n bs f,
+      e₂,
+      T-true (same (header c i d n) (header c i d n)) (same-refl (header c i d n)),
+      T-true (same z z) (same-refl z),
+      T-true (same g g) (same-refl g),
+    )
 
 -- ---- in its pool
 

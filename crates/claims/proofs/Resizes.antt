@@ -1,8 +1,8 @@
 -- A resize leaves what document 01 says: in place, or as a grant, a copy and a release.
-use Rattle.mem.proofs.Prelude.{_∙_, _≡_, sym, ap, refl, subst, false, ⊎-elim, inl, inr, _⊎_, some, none, Option, List, [], _∷_, _++_, append-assoc, _+_, ℕ, _<_}
-use Rattle.mem.proofs.Prelude.{_≤_, _*_, _-_, suc, arith, lt-leb, T, leb, leb→le, le→leb, length, getD, length-append}
+use Rattle.mem.proofs.Prelude.{_∙_, _≡_, sym, ap, refl, subst, false, ⊎-elim, inl, inr, _⊎_, some, none, Option, List, [], _∷_, _++_, append-assoc, append-nil, _+_, ℕ, _<_}
+use Rattle.mem.proofs.Prelude.{_≤_, _*_, _-_, suc, arith, lt-leb, T, leb, leb→le, le→leb, length, drop, getD, length-append}
 use Rattle.mem.specs.Lists.{choose}
-use Rattle.mem.specs.Bytes.{zeros, put, part}
+use Rattle.mem.specs.Bytes.{zeros, same, put, part}
 use Rattle.mem.proofs.Tests.{T-true, true-T, and-left, and-right, and-both, choose-case, choose-false}
 use Rattle.mem.proofs.Laws.{put-length, put-append, put-before, put-past, part-put, part-written, part-length, part-part, getD-part, zeros-length, zeros-add}
 use Rattle.mem.proofs.Laws.{zeros-put, eq→same}
@@ -10,13 +10,13 @@ use Rattle.classes.specs.Classes.{slotBytes, classOf, tooLarge}
 use Rattle.model.specs.declared.Refusal.the-variants.{NoRoom}
 use Rattle.model.specs.declared.Damage.the-variants.{Intact}
 use Rattle.model.specs.State.{Pool, Place, isLive, disp, size, wellFormed, poolOf, slotNumber, rows, owned, start}
-use Rattle.model.specs.Blocks.{reserved, header, guard, spare, headerRight, guardRight, damageIn, damage, frame}
+use Rattle.model.specs.Blocks.{reserved, header, guard, firstSpare, spare, headerRight, guardRight, damageIn, damage, frame}
 use Rattle.model.specs.Plans.{Plan, Call, grants, releases, resizes, plan, lookup, onBlock, releaseAt, release, inPlace, resizeInPlace, resizeMove, moveTo}
 use Rattle.model.specs.Plans.{resizeAt, resize, reserve, grantAt, grant, enframe}
 use Rattle.model.specs.Tables.{byMasks, encode, view, sound, arenaRight}
 use Rattle.model.specs.Calls.{Result, masked, applied, written, damaged, carried, call}
 use Rattle.model.proofs.Tables.{masks-laws, Sound, sound-facts, view-encode, encode-sound}
-use Rattle.model.proofs.Blocks.{header-length, guard-fits, spare-length, frame-length}
+use Rattle.model.proofs.Blocks.{header-length, guard-fits, spare-length, spare-first, frame-length}
 use Rattle.model.proofs.Lookup.{Fits, fits, disp-inside, owned-inside, Owns, outside-group}
 use Rattle.model.proofs.Reserve.{Granted, reserve-formed, reserve-size, served}
 use Rattle.model.proofs.Formed.{resize-in-place-formed}
@@ -97,37 +97,44 @@ module _ (row : ℕ) (pos : 0 < row) (a : List ℕ) (n : ℕ) (p : Place) (w : T
       ∙ part-put (o - 4) 4 (o + k) tail headed (inl (omega arith))
       ∙ part-written (o - 4) 4 head a (header-length c (slotNumber p) d n) (omega (arith, l, owned-inside row pos p w, inside)))
 
-  -- the guard ends where the slot does
-  guard-place : (length g ≤ slotBytes c) × (owned row p + (slotBytes c - length g) ≡ o + k + (n - k + (r - length g)))
-  guard-place =
-      let j : length g ≤ r = guard-fits r in
-      let b : r ≤ slotBytes c = omega arith in
-      let m : k ≤ n = omega arith in
-      (omega arith, bare (owned row p) (slotBytes c) (length g) o k n r j (omega arith) m whole)
+  -- what stands in these bytes stands there in the slot
+  in-slot : (at : ℕ) (A vs B : List ℕ) → owned row p + at ≡ o + k + length A → tail ≡ A ++ (vs ++ B)
+      → T (same (part at (length vs) (part (owned row p) (slotBytes c) reframed)) vs)
+  in-slot at A vs B q e =
+      let x : ℕ = o + k + length A in
+      let m : length tail ≡ length A + (length vs + length B) = ap length e ∙ length-append A (vs ++ B) ∙ ap (λ j. length A + j) (length-append vs B) in
+      let X : List ℕ = put (o + k) A headed in
+      let y : reframed ≡ put (x + length vs) B (put x vs X) =
+      ap (λ us. put (o + k) us headed) e ∙ put-append (o + k) A (vs ++ B) headed ∙ put-append x vs B X in
+      let y' : length X ≡ row * rows row (poolOf p) = put-length (o + k) A headed ∙ put-length (o - 4) head a ∙ l in
+      let u : at + length vs ≤ slotBytes c = bare (owned row p) at o k n r (length A) (length vs) (length B) (slotBytes c) (length tail) q m tail-length whole in
+      eq→same _ _
+      (part-part (owned row p) (slotBytes c) at (length vs) reframed u ∙ ap (λ j. part j (length vs) reframed) q ∙ ap (part x (length vs)) y
+      ∙ part-put x (length vs) (x + length vs) B (put x vs X) (inl (omega arith))
+      ∙ part-written x (length vs) vs X refl (fits-in (owned row p) at x (length vs) (slotBytes c) _ _ q u (owned-inside row pos p w) y'))
     where
-      bare : (x s h o k n r : ℕ) → h ≤ r → h ≤ s → k ≤ n → o + n + r ≡ x + s → x + (s - h) ≡ o + k + (n - k + (r - h))
-      bare x s h o k n r j b m e = omega arith
+      bare : (x at o k n r i j h s t : ℕ) → x + at ≡ o + k + i → t ≡ i + (j + h) → t + k ≡ n + r → o + n + r ≡ x + s → at + j ≤ s
+      bare x at o k n r i j h s t q m e f = omega arith
 
+      fits-in : (x at y j s v z : ℕ) → x + at ≡ y → at + j ≤ s → x + s ≤ z → v ≡ z → y + j ≤ v
+      fits-in x at y j s v z q u f e = omega arith
+
+  -- the first spare byte follows the zeros, and the guard ends where the slot does
   guard-there : T (guardRight c d n (part (owned row p) (slotBytes c) reframed))
   unfolding guardRight
   guard-there =
+      let f : List ℕ = firstSpare r in
       let m : ℕ = n - k + (r - length g) in
-      let q : owned row p + (slotBytes c - length g) ≡ o + k + length (zeros m) = guard-place .1 ∙ ap (λ j. o + k + j) (sym (zeros-length m)) in
-      let u : slotBytes c - length g + length g ≤ slotBytes c = bare (slotBytes c) (length g) (guard-place .0) in
-      let e : reframed ≡ put (o + k + length (zeros m)) g (put (o + k) (zeros m) headed) =
-      ap (λ vs. put (o + k) vs headed) tail-parts ∙ put-append (o + k) (zeros m) g headed in
-      let b : o + k + length (zeros m) + length g ≤ length (put (o + k) (zeros m) headed) =
-      fits-in (owned row p) (slotBytes c) (length g) _ _ _ (guard-place .0) q (owned-inside row pos p w)
-      (put-length (o + k) (zeros m) headed ∙ put-length (o - 4) head a ∙ l) in
-      eq→same _ _
-      (part-part (owned row p) (slotBytes c) (slotBytes c - length g) (length g) reframed u ∙ ap (λ j. part j (length g) reframed) q
-      ∙ ap (part (o + k + length (zeros m)) (length g)) e ∙ part-written (o + k + length (zeros m)) (length g) g (put (o + k) (zeros m) headed) refl b)
+      let bs : List ℕ = part (owned row p) (slotBytes c) reframed in
+      and-both (same (part (16 * d + 4 + n) (length f) bs) f) (same (part (slotBytes c - length g) (length g) bs) g)
+      (in-slot (16 * d + 4 + n) (zeros (n - k)) f (drop (length f) (spare r)) (omega (arith, zeros-length (n - k)))
+      (ap (λ s. zeros (n - k) ++ s) (spare-first r)))
+      (in-slot (slotBytes c - length g) (zeros m) g []
+      (bare (owned row p) (slotBytes c) (length g) o k n r _ (guard-fits r) (omega arith) (omega arith) whole (zeros-length m))
+      (tail-parts ∙ ap (λ s. zeros m ++ s) (sym (append-nil g))))
     where
-      bare : (s h : ℕ) → h ≤ s → s - h + h ≤ s
-      bare s h b = omega arith
-
-      fits-in : (x s h y z v : ℕ) → h ≤ s → x + (s - h) ≡ y → x + s ≤ z → v ≡ z → y + h ≤ v
-      fits-in x s h y z v b q f e = omega arith
+      bare : (x s h o k n r m : ℕ) → h ≤ r → r ≤ s → k ≤ n → o + n + r ≡ x + s → m ≡ n - k + (r - h) → x + (s - h) ≡ o + k + m
+      bare x s h o k n r m j b i e f = omega arith
 
   in-place-as-said : (z : Result) → n < tooLarge → T (isLive (p .state)) → z ≡ applied (masked row) a (resizeInPlace row p n) → InPlace row a o n p z
   unfolding resizeInPlace

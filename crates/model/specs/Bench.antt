@@ -67,14 +67,28 @@ sheet =
     -- "Size 156 is class 9, 157 class 10. From 160 in class 10, resize to 140 must move (class 8)."
     ∷ class 156 9 ∷ class 157 10 ∷ class 160 10 ∷ class 140 8
     ∷ fresh 8192 (gives (grants 160) 16 ∷ gives (resizes 16 140) 4112 ∷ gives (measures 4112) 140 ∷ refuses (measures 16) 4 ∷ [])
-    -- "A wrong header and a wrong guard: answer 6."
+    -- "A wrong header and a wrong guard: answer 6." The first spare byte too.
     ∷ fresh 4096 (gives (grants 160) 16 ∷ stores 13 1 ∷ stores 203 1 ∷ refuses (releases 16) 6 ∷ refuses (measures 16) 6
-    ∷ refuses (resizes 16 7) 6 ∷ [])
+    ∷ refuses (resizes 16 7) 6 ∷ stores 176 1 ∷ refuses (releases 16) 6 ∷ refuses (measures 16) 6 ∷ refuses (resizes 16 7) 6 ∷ [])
     -- "In W7's first block a store of 1 at byte 199 makes release answer 7; at byte 198 release is done." What release
-    -- leaves of the block is zero, the guard too.
-    ∷ fresh 4096 (gives (grants 160) 16 ∷ gives (grants 160) 208 ∷ stores 199 1 ∷ refuses (releases 16) 7
+    -- leaves of the block is zero, the guard too. 02 §1: "a 1 at byte 176 now gives 7."
+    ∷ fresh 4096 (gives (grants 160) 16 ∷ gives (grants 160) 208 ∷ stores 176 1 ∷ refuses (measures 16) 7 ∷ refuses (releases 16) 7
+    ∷ refuses (resizes 16 188) 7 ∷ stores 176 0 ∷ stores 199 1 ∷ refuses (measures 16) 7 ∷ refuses (releases 16) 7
     ∷ stores 199 0 ∷ stores 198 1 ∷ gives (releases 16) 0 ∷ shows 196 (bytes4 0 0 0 0) ∷ shows 200 (bytes4 0 0 0 0)
     ∷ asks reports 0 (1 ∷ 160 ∷ 8 ∷ 0 ∷ 19 ∷ 1 ∷ []) ∷ [])
+    -- 02 §1: "one byte too many into a block with three spare bytes"; the other two are not compared
+    ∷ fresh 4096 (gives (grants 185) 16 ∷ stores 201 1 ∷ refuses (measures 16) 7 ∷ refuses (releases 16) 7
+    ∷ stores 201 0 ∷ stores 202 1 ∷ stores 203 1 ∷ gives (measures 16) 185 ∷ gives (releases 16) 0 ∷ [])
+    -- five spare bytes, whose first is the guard's; one; and none, where the byte past the end is the next header's first
+    ∷ fresh 4096 (gives (grants 183) 16 ∷ stores 199 1 ∷ refuses (releases 16) 7 ∷ [])
+    ∷ fresh 4096 (gives (grants 187) 16 ∷ stores 203 1 ∷ refuses (measures 16) 7 ∷ refuses (releases 16) 7 ∷ [])
+    ∷ fresh 4096 (gives (grants 188) 16 ∷ gives (grants 188) 208 ∷ stores 204 1 ∷ gives (measures 16) 188 ∷ refuses (measures 208) 6
+    ∷ gives (releases 16) 0 ∷ [])
+    -- no requested bytes: the start is the byte right after them
+    ∷ fresh 512 (gives (grants 0) 16 ∷ stores 16 1 ∷ refuses (measures 16) 7 ∷ refuses (releases 16) 7 ∷ refuses (resizes 16 1) 7 ∷ [])
+    -- the byte moves with the size
+    ∷ fresh 4096 (gives (grants 160) 16 ∷ gives (resizes 16 141) 16 ∷ stores 157 1 ∷ refuses (measures 16) 7 ∷ stores 157 0 ∷ stores 176 1
+    ∷ gives (measures 16) 141 ∷ [])
     -- "Offset 0 is never a start."
     ∷ fresh 512 (gives (grants 0) 16 ∷ refuses (releases 0) 4 ∷ refuses (measures 0) 4 ∷ refuses (resizes 0 0) 4 ∷ [])
     -- "the first bytes, as many as the lesser of old and new n, stay, all from there to the end become zero": a block that grows, then

@@ -1,6 +1,6 @@
--- A block in its slot: header, requested bytes, guard.
+-- A block in its slot: header, requested bytes, first spare byte, guard.
 use Prim.Native.Nat.{ℕ, _+_, _*_, _-_, min}
-use mathlib.Core.Bool.{Bool}
+use mathlib.Core.Bool.{Bool, _&&_}
 use mathlib.Core.List.{List, [], _∷_, _++_}
 use lib.Dec.{leb}
 use lib.ListN.{length}
@@ -26,6 +26,10 @@ header c i d n = 0 ∷ (i + 32 * min 5 (reserved c d n)) ∷ low 2 (i * unitsOf 
 unfoldable pub guard : ℕ → List ℕ
 guard r = choose (leb 5 r) (0 ∷ low 4 r) []
 
+-- 02 §1: "a zero in the first spare byte whenever reserved is 1 or more." The first of r reserved bytes, if there is one:
+unfoldable pub firstSpare : ℕ → List ℕ
+firstSpare r = choose (leb 1 r) (0 ∷ []) []
+
 -- r reserved bytes, which end in the guard
 unfoldable pub spare : ℕ → List ℕ
 spare r = zeros (r - length (guard r)) ++ guard r
@@ -38,11 +42,13 @@ frame c i d n = zeros (16 * d) ++ (header c i d n ++ (zeros n ++ spare (reserved
 unfoldable pub headerRight : ℕ → ℕ → ℕ → ℕ → List ℕ → Bool
 headerRight c i d n bytes = same (part (16 * d) 4 bytes) (header c i d n)
 
--- "header right, guard not that due". "The block's end is the slot's beginning plus s − 4", where the owned bytes end.
+-- "header right, guard not that due". "The block's end is the slot's beginning plus s − 4", where the owned bytes end. 02 §1: "the byte
+-- right after the requested bytes is 0 and is compared, besides what 01 has."
 unfoldable pub guardRight : ℕ → ℕ → ℕ → List ℕ → Bool
 guardRight c d n bytes =
+    let z = firstSpare (reserved c d n) in
     let g = guard (reserved c d n) in
-    same (part (slotBytes c - length g) (length g) bytes) g
+    same (part (16 * d + 4 + n) (length z) bytes) z && same (part (slotBytes c - length g) (length g) bytes) g
 
 -- what is wrong with a block
 unfoldable pub damageIn : ℕ → ℕ → ℕ → ℕ → List ℕ → Damage

@@ -304,9 +304,11 @@ impl Reference {
         if self.arena[offset - 4..offset] != self.header(at) {
             return Err(Refusal::HeaderDamaged);
         }
-        let guard = self.guard(at);
         let end = self.end(at);
-        if self.arena[end - guard.len()..end] != guard[..] {
+        // the byte right after the requested ones, where the block has a spare one
+        let past = end - self.reserved(at);
+        let guard = self.guard(at);
+        if past < end && self.arena[past] != 0 || self.arena[end - guard.len()..end] != guard[..] {
             return Err(Refusal::Overrun);
         }
         Ok(at)

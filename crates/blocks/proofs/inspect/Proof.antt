@@ -1,17 +1,11 @@
--- `inspect` meets its contract: its two comparisons are the tests of the definition.
-use Rattle.mem.proofs.Prelude.{_∙_, _≡_, true, List, _+_, ℕ, _<_, _*_, _-_, arith, now, needs, not-false, not-true, length}
+-- `inspect` meets its contract: its two tests are those of the definition.
+use Rattle.mem.proofs.Prelude.{_∙_, _≡_, _+_, _*_, _-_, arith, now, needs, not-false, not-true}
 use Rattle.mem.specs.Lists.{choose}
 use Rattle.model.specs.declared.Refusal.the-variants.{Overrun}
 use Rattle.model.specs.declared.Damage.the-variants.{Intact, Damaged}
-use Rattle.model.specs.Blocks.{reserved, headerRight, guardRight, damageIn}
-use Rattle.model.proofs.Blocks.{guard-none, guard-length}
+use Rattle.model.specs.Blocks.{headerRight, damageIn}
 use Rattle.blocks.proofs.inspect.Statement.{statement}
 use Rattle.blocks.proofs.inspect.Tie as tie
-
--- no guard is always right
-no-guard : (c d n : ℕ) (s : List ℕ) → reserved c d n < 5 → guardRight c d n s ≡ true
-unfolding guardRight
-no-guard c d n s h = rw (guard-none (reserved c d n) h)
 
 header-test : (c : tie.After-same-bytes) → (let a = c .before .before .before .before .before .args in
     c .same-bytes .result ≡ headerRight (a .c) (a .i) (a .d) (a .n) (now (a .slot)))
@@ -22,22 +16,11 @@ header-test c =
     c .same-bytes .ensures ∙ rw (e, c .before .before .before .header .ensures)
 
 -- with the header right, the guard decides
-passed : (c : tie.Else1) → (let a = c .before .before .before .before .before .before .args in
-    damageIn (a .c) (a .i) (a .d) (a .n) (now (a .slot)) ≡ choose (guardRight (a .c) (a .d) (a .n) (now (a .slot))) Intact (Damaged Overrun))
+passed : (c : tie.After-guard-right) → (let a = c .before .before .before .before .before .before .before .args in
+    damageIn (a .c) (a .i) (a .d) (a .n) (now (a .slot)) ≡ choose (c .guard-right .result) Intact (Damaged Overrun))
 unfolding damageIn choose
-passed c = rw (← header-test (c .before), not-false (c .before .same-bytes .result) (c .if1 .left))
-
-guard-test : (c : tie.After-same-bytes2) → (let a = c .before .before .before .before .before .before .before .before .before .before .before .before .args in
-    c .same-bytes2 .result ≡ guardRight (a .c) (a .d) (a .n) (now (a .slot)))
-unfolding guardRight
-guard-test c =
-    let start = c .before .before .before .before .before .before .before .before .before .before .before .before in
-    let a = start .args in
-    let l = length (now (a .slot)) in
-    let r = c .before .before .before .before .before .reserved .ensures .0 in
-    let e : l - (l - 5) ≡ 5 = omega arith in
-    c .same-bytes2 .ensures
-    ∙ rw (e, c .before .before .before .guard .ensures, r, guard-length (reserved (a .c) (a .d) (a .n)) (omega arith), start .pre .1 .1)
+passed c =
+    rw (← header-test (c .before .before), not-false (c .before .before .same-bytes .result) (c .before .if1 .left), c .guard-right .ensures)
 
 returns : tie.Need-returns
 unfolding damageIn choose
@@ -45,30 +28,13 @@ returns c = rw (← header-test (c .before), not-true (c .before .same-bytes .re
 
 returns-2 : tie.Need-returns-2
 unfolding choose
-returns-2 c =
-    let a = c .before .before .before .before .before .before .before .before .args in
-    rw (passed (c .before .before), no-guard (a .c) (a .d) (a .n) (now (a .slot)) (omega arith))
+returns-2 c = rw (passed (c .before), not-true (c .before .guard-right .result) (c .if2 .taken))
 
 returns-3 : tie.Need-returns-3
 unfolding choose
-returns-3 c =
-    rw (
-      passed (c .before .before .before .before .before .before .before),
-      ← guard-test (c .before),
-      not-true (c .before .same-bytes2 .result) (c .if3 .taken),
-    )
-
-returns-4 : tie.Need-returns-4
-unfolding choose
-returns-4 c =
-    rw (
-      passed (c .before .before .before .before .before .before .before),
-      ← guard-test (c .before),
-      not-false (c .before .same-bytes2 .result) (c .if3 .left),
-    )
+returns-3 c = rw (passed (c .before), not-false (c .before .guard-right .result) (c .if2 .left))
 
 pub inspect-spec : {M : Type 1} → statement M
 inspect-spec =
     tie.close (tie.spec (λ c. search needs) (λ c κs. search needs) (λ c. search needs) (λ c. search needs) (λ c. search needs) (λ c. search needs)
-    (λ c. search needs) (λ c κs. search needs) returns (λ c κs. search needs) returns-2 (λ c κs. search needs) (λ c. search needs) (λ c. search needs)
-    (λ c. search needs) (λ c. search needs) (λ c. search needs) (λ c κs. search needs) returns-3 returns-4)
+    (λ c. search needs) (λ c κs. search needs) returns (λ c κs. search needs) returns-2 returns-3)
