@@ -9,6 +9,7 @@ use Rattle.claims.proofs.Bench.{too-large-anywhere}
 use Rattle.claims.proofs.Demand1.{demand1}
 use Rattle.claims.proofs.Demand2.{releases-exactly, measures-exactly, grants-exactly, grants-as-said, never-shared, leaves-sound}
 use Rattle.claims.proofs.AsSaid.{never-at-zero, sets-up-as-said, reads-only, reports-as-said, releases-as-said}
+use Rattle.claims.proofs.Guards.{guards-as-said}
 use Rattle.claims.proofs.Resizes.{resizes-as-said}
 use Rattle.claims.proofs.Demand3.{steers-nothing, stores-admitted, room-follows}
 use Rattle.claims.proofs.History.{history}
@@ -30,6 +31,7 @@ demands = record {
   reports-as-said = reports-as-said rowBytes;
   reads-only = reads-only rowBytes some-bytes;
   never-at-zero = never-at-zero rowBytes;
+  guards-as-said = guards-as-said rowBytes some-bytes;
   never-shared = never-shared rowBytes some-bytes;
   steers-nothing = steers-nothing rowBytes some-bytes;
   stores-admitted = stores-admitted rowBytes;

@@ -4,6 +4,7 @@ pub mod Cases
 pub mod Demand1
 pub mod Demand2
 pub mod AsSaid
+pub mod Guards
 pub mod Resizes
 pub mod Cells
 pub mod Steps

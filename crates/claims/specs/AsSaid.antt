@@ -1,22 +1,23 @@
 -- Demand 2, the calls but grant: "Every call does what document 01 says". What an accepted set up, release and resize leave, byte by byte
--- and slot by slot, and that measure and report leave everything, without a word of the plans.
+-- and slot by slot, and that measure and report leave everything, without a word of the plans; which bytes of the arena answer 7 goes by.
 use Prim.Native.Nat.{ℕ, suc, _+_, _*_, _-_, _/_, _≤_, _<_, min}
 use mathlib.Core.Path.{_≡_}
 use mathlib.Core.Bool.{false, not}
-use mathlib.Core.Logic.{_⊎_}
+use mathlib.Core.Logic.{_⊎_, _↔_}
 use mathlib.Core.List.{List, [], _∷_, _++_}
 use lib.Dec.{T}
 use lib.ListN.{length, getD}
 use Rattle.mem.specs.Lists.{any, every}
+use Rattle.mem.specs.Bytes.{low, part}
 use Rattle.classes.specs.Classes.{slotBytes, classOf, rowsOf}
 use Rattle.model.specs.declared.Slot.the-variants.{Idle, Live}
-use Rattle.model.specs.State.{Pool, Place, isLive, count, disp, size, poolOf, become, base, owned}
+use Rattle.model.specs.State.{Pool, Place, isLive, count, disp, size, poolOf, become, base, beginning, owned, start}
 use Rattle.model.specs.Blocks.{reserved, guard}
 use Rattle.model.specs.Answers.{done, listed}
 use Rattle.model.specs.Plans.{copies, Call, setsUp, grants, releases, resizes, measures, reports, freshPool, totals}
 use Rattle.model.specs.Tables.{view, sound}
 use Rattle.model.specs.Calls.{Result, write, call}
-use Rattle.claims.specs.Demand1.{StartsAt}
+use Rattle.claims.specs.Demand1.{StartsAt, guardDue}
 use Rattle.claims.specs.Demand2.{Intact}
 
 -- an arena and what is left of it: the k bytes from a place on are zero, and no other byte changed
@@ -42,6 +43,26 @@ module _ (row : ℕ) where
   -- "Offset 0 is never a start."
   abbrev pub NeverAtZero : Type 0
   NeverAtZero = (P : Pool) (p : Place) → StartsAt row P 0 p → ⊥
+
+  -- THE GUARD
+
+  -- "The block's end is the slot's beginning plus s − 4."
+  abbrev pub end : Place → ℕ
+  end p = beginning row p + slotBytes (p .cls) - 4
+
+  -- "Reserved is s − 4 − 16d − n."
+  abbrev pub reservedOf : Place → ℕ
+  reservedOf p = reserved (p .cls) (disp (p .state)) (size (p .state))
+
+  -- 02 §1: "whenever reserved is 1 or more .. the byte right after the requested bytes is 0 and is compared, besides what 01 has": "If reserved is
+  -- 5 or more, the byte 5 before the end is 0 and the last four hold reserved, low byte first."
+  pub record GuardBytes (a : List ℕ) (p : Place) : Type 0 where
+    pub past : 1 ≤ reservedOf p → getD a (start row p + size (p .state)) 0 ≡ 0
+    pub last : 5 ≤ reservedOf p → part (end p - 5) 5 a ≡ 0 ∷ low 4 (reservedOf p)
+
+  -- of any bytes: the guard of a slot's block is that due exactly if these bytes of the arena are
+  abbrev pub GuardsAsSaid : Type 0
+  GuardsAsSaid = (a t : List ℕ) (p : Place) → T (sound row (length a) t) → poolOf p ≡ view row t → T (guardDue row a p) ↔ GuardBytes a p
 
   -- SET UP
 

@@ -9,7 +9,7 @@ use Rattle.claims.specs.Tables.{TableForm}
 use Rattle.claims.specs.Bench.{TooLargeAnywhere}
 use Rattle.claims.specs.Demand1.{Demand1}
 use Rattle.claims.specs.Demand2.{ReleasesExactly, MeasuresExactly, GrantsExactly, GrantsAsSaid, NeverShared, LeavesSound}
-use Rattle.claims.specs.AsSaid.{NeverAtZero, SetsUpAsSaid, ReadsOnly, ReportsAsSaid, ReleasesAsSaid, ResizesAsSaid}
+use Rattle.claims.specs.AsSaid.{NeverAtZero, GuardsAsSaid, SetsUpAsSaid, ReadsOnly, ReportsAsSaid, ReleasesAsSaid, ResizesAsSaid}
 use Rattle.claims.specs.Demand3.{RoomFollows, SteersNothing, StoresAdmitted}
 use Rattle.claims.specs.History.{History}
 
@@ -27,6 +27,7 @@ pub record Demands (row : ℕ) : Type 0 where
   pub reports-as-said : ReportsAsSaid row
   pub reads-only : ReadsOnly row
   pub never-at-zero : NeverAtZero row
+  pub guards-as-said : GuardsAsSaid row
   pub never-shared : NeverShared row
   -- 3: packet contents steer nothing
   pub steers-nothing : SteersNothing row

@@ -1,5 +1,5 @@
 -- `guard_right` meets its contract: it compares what the definition does, where there is something to compare.
-use Rattle.mem.proofs.Prelude.{_∙_, _≡_, sym, true, false, _&&_, List, _+_, ℕ, _<_, _≤_, _*_, _-_, arith, now, needs, eq-eqb, ne-eqb, eqb, length, getD}
+use Rattle.mem.proofs.Prelude.{_∙_, _≡_, sym, true, _&&_, List, _+_, ℕ, _≤_, _*_, _-_, arith, now, needs, eq-eqb, ne-eqb, eqb, length, getD}
 use Rattle.mem.specs.Bytes.{part, same}
 use Rattle.mem.proofs.Laws.{part-cons}
 use Rattle.classes.specs.Classes.{slotBytes}
