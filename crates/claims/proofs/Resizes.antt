@@ -1,6 +1,6 @@
 -- A resize leaves what document 01 says: in place, or as a grant, a copy and a release.
-use Rattle.mem.proofs.Prelude.{_∙_, _≡_, sym, ap, refl, subst, false, ⊎-elim, inl, inr, _⊎_, some, none, Option, List, [], _∷_, _++_, append-assoc, append-nil, _+_, ℕ, _<_}
-use Rattle.mem.proofs.Prelude.{_≤_, _*_, _-_, suc, arith, lt-leb, T, leb, leb→le, le→leb, length, drop, getD, length-append}
+use Rattle.mem.proofs.Prelude.{_∙_, _≡_, sym, ap, refl, subst, false, ⊎-elim, inl, inr, _⊎_, some, none, Option, List, [], _∷_, _++_, append-assoc, append-nil}
+use Rattle.mem.proofs.Prelude.{_+_, ℕ, _<_, _≤_, _*_, _-_, suc, arith, lt-leb, T, leb, leb→le, le→leb, length, drop, getD, length-append}
 use Rattle.mem.specs.Lists.{choose}
 use Rattle.mem.specs.Bytes.{zeros, same, put, part}
 use Rattle.mem.proofs.Tests.{T-true, true-T, and-left, and-right, and-both, choose-case, choose-false}
@@ -97,7 +97,7 @@ module _ (row : ℕ) (pos : 0 < row) (a : List ℕ) (n : ℕ) (p : Place) (w : T
       ∙ part-put (o - 4) 4 (o + k) tail headed (inl (omega arith))
       ∙ part-written (o - 4) 4 head a (header-length c (slotNumber p) d n) (omega (arith, l, owned-inside row pos p w, inside)))
 
-  -- what stands in these bytes stands there in the slot
+  -- bytes of the tail stand in the slot, as far in as they are
   in-slot : (at : ℕ) (A vs B : List ℕ) → owned row p + at ≡ o + k + length A → tail ≡ A ++ (vs ++ B)
       → T (same (part at (length vs) (part (owned row p) (slotBytes c) reframed)) vs)
   in-slot at A vs B q e =
@@ -106,12 +106,13 @@ module _ (row : ℕ) (pos : 0 < row) (a : List ℕ) (n : ℕ) (p : Place) (w : T
       let X : List ℕ = put (o + k) A headed in
       let y : reframed ≡ put (x + length vs) B (put x vs X) =
       ap (λ us. put (o + k) us headed) e ∙ put-append (o + k) A (vs ++ B) headed ∙ put-append x vs B X in
-      let y' : length X ≡ row * rows row (poolOf p) = put-length (o + k) A headed ∙ put-length (o - 4) head a ∙ l in
-      let u : at + length vs ≤ slotBytes c = bare (owned row p) at o k n r (length A) (length vs) (length B) (slotBytes c) (length tail) q m tail-length whole in
+      let f : length X ≡ row * rows row (poolOf p) = put-length (o + k) A headed ∙ put-length (o - 4) head a ∙ l in
+      let u : at + length vs ≤ slotBytes c =
+      bare (owned row p) at o k n r (length A) (length vs) (length B) (slotBytes c) (length tail) q m tail-length whole in
       eq→same _ _
       (part-part (owned row p) (slotBytes c) at (length vs) reframed u ∙ ap (λ j. part j (length vs) reframed) q ∙ ap (part x (length vs)) y
       ∙ part-put x (length vs) (x + length vs) B (put x vs X) (inl (omega arith))
-      ∙ part-written x (length vs) vs X refl (fits-in (owned row p) at x (length vs) (slotBytes c) _ _ q u (owned-inside row pos p w) y'))
+      ∙ part-written x (length vs) vs X refl (fits-in (owned row p) at x (length vs) (slotBytes c) _ _ q u (owned-inside row pos p w) f))
     where
       bare : (x at o k n r i j h s t : ℕ) → x + at ≡ o + k + i → t ≡ i + (j + h) → t + k ≡ n + r → o + n + r ≡ x + s → at + j ≤ s
       bare x at o k n r i j h s t q m e f = omega arith

@@ -1,5 +1,6 @@
 -- The lengths of headers, guards and frames, and the first spare byte.
-use Rattle.mem.proofs.Prelude.{_≡_, ap, refl, List, [], _∷_, _++_, _+_, ℕ, _<_, _≤_, _*_, _-_, suc, zero, sub-zero, arith, le-leb, leb-true, lt-leb, leb, length, drop, length-append}
+use Rattle.mem.proofs.Prelude.{_≡_, ap, refl, List, [], _∷_, _++_, _+_, ℕ, _<_, _≤_, _*_, _-_, suc, zero, sub-zero, arith}
+use Rattle.mem.proofs.Prelude.{le-leb, leb-true, lt-leb, leb, length, drop, length-append}
 use Rattle.mem.specs.Bytes.{zeros, low}
 use Rattle.mem.proofs.Laws.{zeros-length, zeros-cons}
 use Rattle.mem.proofs.Tests.{choose-case, choose-true, choose-false}
