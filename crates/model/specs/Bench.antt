@@ -1,5 +1,5 @@
--- The bench sheet of document 01, W4 and W5 apart, with the facts under it: one list, and how a line of it is read over arena and table
--- room.
+-- The bench sheet of document 01, W4 and W5 apart, with the facts under it and what document 02 adds: one list, and how a line of it is read
+-- over arena and table room.
 use Prim.Native.Nat.{ℕ, zero, suc, _+_, _/_}
 use mathlib.Core.Bool.{Bool, true, false, _&&_}
 use mathlib.Core.List.{List, [], _∷_, _++_}
