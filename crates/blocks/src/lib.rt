@@ -1,7 +1,7 @@
 // Header and guard of a block, on the part of the arena that its slot owns.
 //
-// The owned bytes of a slot of class c: 16d bytes before the header, 4 of header, n requested, and the reserved ones, which end in
-// the guard.
+// The owned bytes of a slot of class c: 16d bytes before the header, 4 of header, n requested, and the reserved ones, which begin with
+// a zero and end in the guard.
 ghost use mathlib.Core.Path.{_≡_};
 ghost use mathlib.Core.List.{_++_};
 ghost use Prim.Native.Nat.{_+_, _*_, _-_, _≤_, _<_};

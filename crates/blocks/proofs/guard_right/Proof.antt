@@ -22,6 +22,7 @@ some-reserved c d n r s f l e h =
     let q : length s - r ≡ 16 * d + 4 + n = omega arith in
     rw (q, first-spare (reserved c d n) (omega arith), part-cons (16 * d + 4 + n) 0 s 0 (omega arith))
 
+-- the byte that the code reads is that one
 first-byte : (c : tie.After-shared-slice-known2) → (let a = c .before .before .before .before .args in let s = now (a .slot) in
     let g = guard (reserved (a .c) (a .d) (a .n)) in
     guardRight (a .c) (a .d) (a .n) s
