@@ -12,7 +12,7 @@ use Rattle.model.specs.Calls.{callBy, setUpRight, Result, masked, applied, writ
 use Rattle.model.proofs.Tables.{masks-laws, sound-facts, view-encode}
 use Rattle.model.proofs.Formed.{release-formed}
 use Rattle.model.proofs.Fresh.{fresh-formed, set-up-done}
-use Rattle.model.proofs.Calls.{call-sound, carried-whole, Asks, on-live}
+use Rattle.model.proofs.Calls.{call-sound, carried-whole, on-live, measure-keeps, report-keeps}
 use Rattle.claims.specs.Demand2 as demand2
 use Rattle.claims.specs.AsSaid.{MadeFresh, SetsUpAsSaid, ReportsAsSaid, ZeroedOnly, NeverAtZero, Unchanged, ReadsOnly, Waits, Goes, ReleasesAsSaid}
 use Rattle.claims.proofs.Cases.{release-parts, on-named}
@@ -44,36 +44,10 @@ sets-up-as-said row pos a t z =
 
 -- ---- measure and report
 
-module _ (row : ℕ) (pos : 0 < row) (a t : List ℕ) where
-  -- a call whose plan changes nothing, refused or not
-  unchanged : (c : Call) → Asks c → (plan row (view row t) c .changes ≡ []) × (plan row (view row t) c .pool ≡ view row t) → Unchanged row a t c
-  unchanged c k (e, f) = go (eqb (call row a t c .answer .number) 0) refl
-    where
-      go : (b : Bool) → eqb (call row a t c .answer .number) 0 ≡ b → Unchanged row a t c
-      go true z =
-          let y : Accepted row pos a t c = accepted row pos a t c k (eqb-true (call row a t c .answer .number) 0 z) in
-          record {
-            arena = ap (λ (r : Result). r .arena) (y .left) ∙ ap (written a) e;
-            room = ap (λ (r : Result). r .room) (y .left) ∙ ap (encode row) f ∙ sym (sound-facts byMasks row (length a) t (y .sound-tables) .form);
-          }
-      go false z =
-          let r = demand1 row pos a t c .refused (eqb-false (call row a t c .answer .number) 0 z) in
-          record { arena = r .0; room = r .1 }
-
-  measures-nothing : (o : ℕ) → (plan row (view row t) (measures o) .changes ≡ []) × (plan row (view row t) (measures o) .pool ≡ view row t)
-  unfolding plan measure
-  measures-nothing o =
-      on-named row pos (view row t) (λ (l : Plan). (l .changes ≡ []) × (l .pool ≡ view row t)) (λ r. (refl, refl)) o (measureAt row (view row t))
-      (λ p b. (refl, refl))
-
-  reports-nothing : (plan row (view row t) reports .changes ≡ []) × (plan row (view row t) reports .pool ≡ view row t)
-  unfolding plan report
-  reports-nothing = (refl, refl)
-
 pub reads-only : (row : ℕ) → 0 < row → ReadsOnly row
 reads-only row pos = record {
-  measured = λ a t o. unchanged row pos a t (measures o) tt (measures-nothing row pos a t o);
-  reported = λ a t. unchanged row pos a t reports tt (reports-nothing row pos a t);
+  measured = λ a t o. let k = measure-keeps row a t o in record { arena = k .arena; room = k .room };
+  reported = λ a t. let k = report-keeps row a t in record { arena = k .arena; room = k .room };
 }
 
 pub reports-as-said : (row : ℕ) → ReportsAsSaid row

@@ -6,4 +6,5 @@ pub mod AsSaid
 pub mod Demand3
 pub mod History
 pub mod Alike
+pub mod Traces
 pub mod Demands

@@ -1,7 +1,7 @@
 -- Bytes: numbers in them, parts of them, tests and writes.
 use Prim.Native.Nat.{ℕ, zero, suc, _+_, _*_, _/_, _%_}
 use mathlib.Core.Bool.{Bool, true, false, _&&_}
-use mathlib.Core.List.{List, [], _∷_}
+use mathlib.Core.List.{List, [], _∷_, _++_}
 use lib.Dec.{eqb}
 use lib.ListN.{take, drop, replicate}
 
@@ -18,6 +18,19 @@ low (suc k) x = x % 256 ∷ low k (x / 256)
 abbrev pub number : List ℕ → ℕ
 number [] = 0
 number (b ∷ bs) = b + 256 * number bs
+
+-- a number in k bytes, high byte first
+abbrev pub high : ℕ → ℕ → List ℕ
+high zero x = []
+high (suc k) x = high k (x / 256) ++ (x % 256 ∷ [])
+
+-- the number that bytes hold, high byte first, behind those that were read as a
+abbrev pub bigFrom : ℕ → List ℕ → ℕ
+bigFrom a [] = a
+bigFrom a (b ∷ bs) = bigFrom (256 * a + b) bs
+
+abbrev pub big : List ℕ → ℕ
+big bs = bigFrom 0 bs
 
 -- whether two lists of bytes are the same
 abbrev pub same : List ℕ → List ℕ → Bool

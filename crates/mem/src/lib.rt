@@ -1,9 +1,9 @@
-// Leaves on byte slices: clear, test, compare, copy, and numbers low byte first.
+// Leaves on byte slices: clear, test, compare, copy, and numbers, low byte first or high byte first.
 ghost use mathlib.Core.Path.{_≡_};
 ghost use mathlib.Core.Logic.{_⊎_};
 ghost use Prim.Native.Nat.{_+_, _-_, _≤_, _<_};
 ghost use lib.ListN.{length};
-ghost use Rattle.mem.specs.Bytes.{zeros, number, same, part, put};
+ghost use Rattle.mem.specs.Bytes.{zeros, number, big, same, part, put};
 
 // A byte as a number that can be an index.
 pub fn wide(x: u8) -> usize
@@ -119,4 +119,21 @@ pub fn quad(s: &[u8], at: usize) -> u32
         + 256 * wide32(s[at + 1])
         + 65536 * wide32(s[at + 2])
         + 16777216 * wide32(s[at + 3])
+}
+
+// The number in two or four bytes, high byte first.
+pub fn big2(s: &[u8], at: usize) -> usize
+    requires { ⌜ at + 2 ≤ length (now s) ⌝ }
+    ensures { λ r. ⌜ r ≡ big (part at 2 (now (s .entry))) ⌝ }
+    ensures small { λ r. ⌜ r < 65536 ⌝ }
+{
+    256 * wide(s[at]) + wide(s[at + 1])
+}
+
+pub fn big4(s: &[u8], at: usize) -> usize
+    requires { ⌜ at + 4 ≤ length (now s) ⌝ }
+    ensures { λ r. ⌜ r ≡ big (part at 4 (now (s .entry))) ⌝ }
+    ensures small { λ r. ⌜ r < 4294967296 ⌝ }
+{
+    65536 * big2(s, at) + big2(s, at + 2)
 }

@@ -1,13 +1,14 @@
 -- What a call is, case by case: unsound tables, a refusal, a grant, a block that is named.
-use Rattle.mem.proofs.Prelude.{_∙_, _≡_, sym, ap, refl, true, false, some, List, ℕ, T, length}
-use Rattle.mem.proofs.Tests.{choose-true, choose-false, true-T, T-true}
+use Rattle.mem.proofs.Prelude.{_∙_, _≡_, sym, ap, refl, Bool, true, false, Option, some, none, List, [], ℕ, T, length}
+use Rattle.mem.proofs.Tests.{choose-true, choose-false, choose-case, true-T, T-true}
 use Rattle.model.specs.declared.Refusal.{Refusal}
+use Rattle.model.specs.declared.Damage.{Damage}
 use Rattle.model.specs.declared.Damage.the-variants.{Intact, Damaged}
 use Rattle.model.specs.State.{Pool, Place, isLive}
 use Rattle.model.specs.Answers.{refusal}
-use Rattle.model.specs.Plans.{Plan, Call, setsUp, grants, releases, resizes, measures, reports, plan, onBlock}
+use Rattle.model.specs.Plans.{Plan, Call, setsUp, grants, releases, resizes, measures, reports, plan, onBlock, lookup, measureAt, measure, report}
 use Rattle.model.specs.Tables.{byMasks, encode, view, sound}
-use Rattle.model.specs.Calls.{masked, call, checked, carried, applied, damaged, keeps, unsound, callBy, carriedBy, checkedBy, unless}
+use Rattle.model.specs.Calls.{Result, masked, call, checked, carried, applied, damaged, keeps, unsound, callBy, carriedBy, checkedBy, unless, written}
 use Rattle.model.proofs.Tables.{sound-facts}
 
 -- the calls but set up
@@ -55,3 +56,43 @@ module _ (row : ℕ) (a t : List ℕ) (p : Plan) where
 -- a call on the block at an offset, by what is looked up
 pub on-live : (P : Pool) (f : Place → Plan) (p : Place) → T (isLive (p .state)) → onBlock P f (some p) ≡ f p
 on-live P f p l = choose-true (isLive (p .state)) _ _ (T-true (isLive (p .state)) l)
+
+-- ---- calls that change nothing
+
+-- what a call leaves is what it was given
+pub record LeftAsIs (a t : List ℕ) (r : Result) : Type 0 where
+  pub arena : r .arena ≡ a
+  pub room : r .room ≡ t
+
+module _ (row : ℕ) (a t : List ℕ) where
+  -- a call whose plan has no writes and keeps the state, refused or not
+  left-as-is : (c : Call) → Asks c → (plan row (view row t) c .changes ≡ []) × (plan row (view row t) c .pool ≡ view row t) → LeftAsIs a t (call row a t c)
+  left-as-is c k (e, f) = sounds (sound row (length a) t) refl
+    where
+      kept : (r : Result) → ((r .arena ≡ a) × (r .room ≡ t)) → call row a t c ≡ r → LeftAsIs a t (call row a t c)
+      kept r (x, y) z = record { arena = ap (λ (q : Result). q .arena) z ∙ x; room = ap (λ (q : Result). q .room) z ∙ y }
+
+      p : Plan
+      p = plan row (view row t) c
+
+      carries : sound row (length a) t ≡ true → (d : Damage) → damaged row a (p .checks) ≡ d → LeftAsIs a t (call row a t c)
+      carries s Intact h =
+          kept (applied (masked row) a p) (ap (written a) e, ap (encode row) f ∙ same-room row a t s) (call-sound row a t s c k ∙ carried-whole row a t p h)
+      carries s (Damaged r) h = kept (keeps (refusal r) a t) (refl, refl) (call-sound row a t s c k ∙ carried-damaged row a t p r h)
+
+      sounds : (b : Bool) → sound row (length a) t ≡ b → LeftAsIs a t (call row a t c)
+      sounds true s = carries s (damaged row a (p .checks)) refl
+      sounds false s = kept (keeps (unsound c) a t) (refl, refl) (call-unsound row a t c k s)
+
+  pub measure-keeps : (o : ℕ) → LeftAsIs a t (call row a t (measures o))
+  unfolding plan measure
+  measure-keeps o = left-as-is (measures o) tt (nothing (view row t) (lookup row (view row t) o))
+    where
+      nothing : (P : Pool) (x : Option Place) → (onBlock P (measureAt row P) x .changes ≡ []) × (onBlock P (measureAt row P) x .pool ≡ P)
+      nothing P none = (refl, refl)
+      nothing P (some p) =
+          choose-case (λ (l : Plan). (l .changes ≡ []) × (l .pool ≡ P)) (isLive (p .state)) _ _ (λ _. (refl, refl)) (λ _. (refl, refl))
+
+  pub report-keeps : LeftAsIs a t (call row a t reports)
+  unfolding plan report
+  report-keeps = left-as-is reports tt (refl, refl)

@@ -2,65 +2,9 @@
 ghost use mathlib.Core.Path.{_≡_};
 ghost use lib.ListN.{getD};
 ghost use Rattle.classes.specs.Classes.{rowBytes};
-ghost use Rattle.model.specs.Answers.{numberOf, replyAnswer, reportAnswer};
 ghost use Rattle.model.specs.Plans.{setsUp, grants, releases, resizes, measures, reports};
 ghost use Rattle.model.specs.Tables.{roomFor};
 ghost use Rattle.model.specs.Calls.{call};
-use model::Refusal;
-use model::Reply;
-use model::Report;
-
-// Document 01's number of a refusal, and number and values of each answer.
-fn refusal_number(r: Refusal) -> u32
-    ensures { λ k. ⌜ k ≡ numberOf r ⌝ }
-{
-    match r {
-        Refusal::BadArena => 1,
-        Refusal::Unsound => 2,
-        Refusal::TooLarge => 3,
-        Refusal::NoSuchBlock => 4,
-        Refusal::AlreadyFree => 5,
-        Refusal::HeaderDamaged => 6,
-        Refusal::Overrun => 7,
-        Refusal::NoRoom => 8,
-    }
-}
-
-fn number_of(r: Reply) -> u32
-    ensures { λ k. ⌜ k ≡ replyAnswer r .number ⌝ }
-{
-    match r {
-        Reply::Done(_) => 0,
-        Reply::Refused(x) => refusal_number(x),
-    }
-}
-
-fn value_of(r: Reply) -> usize
-    ensures { λ v. ⌜ v ≡ getD (replyAnswer r .values) 0 0 ⌝ }
-{
-    match r {
-        Reply::Done(v) => v,
-        Reply::Refused(_) => 0,
-    }
-}
-
-fn report_number(r: Report) -> u32
-    ensures { λ k. ⌜ k ≡ reportAnswer r .number ⌝ }
-{
-    match r {
-        Report::Counted(_) => 0,
-        Report::Refused(x) => refusal_number(x),
-    }
-}
-
-fn report_values(r: Report) -> [usize; 6]
-    ensures { λ vs. ⌜ vs ≡ reportAnswer r .values ⌝ }
-{
-    match r {
-        Report::Counted(t) => [t.blocks, t.bytes, t.held, t.free, t.ready, t.waiting],
-        Report::Refused(_) => [0, 0, 0, 0, 0, 0],
-    }
-}
 
 #[no_mangle]
 pub extern "C" fn slotpool_room_len(arena_len: usize) -> usize
@@ -75,7 +19,7 @@ pub extern "C" fn slotpool_set_up(arena: &mut [u8], room: &mut [u8]) -> u32
     ensures { λ r. ⌜ now (arena .exit) ≡ call rowBytes (now (arena .entry)) (now (room .entry)) setsUp .arena ⌝ }
     ensures { λ r. ⌜ now (room .exit) ≡ call rowBytes (now (arena .entry)) (now (room .entry)) setsUp .room ⌝ }
 {
-    number_of(pool::set_up(arena, room))
+    answers::number_of(pool::set_up(arena, room))
 }
 
 #[no_mangle]
@@ -91,8 +35,8 @@ pub extern "C" fn slotpool_grant(
     ensures { λ r. ⌜ now (room .exit) ≡ call rowBytes (now (arena .entry)) (now (room .entry)) (grants n) .room ⌝ }
 {
     let r = pool::grant(arena, room, n);
-    *value = value_of(r);
-    number_of(r)
+    *value = answers::value_of(r);
+    answers::number_of(r)
 }
 
 #[no_mangle]
@@ -101,7 +45,7 @@ pub extern "C" fn slotpool_release(arena: &mut [u8], room: &mut [u8], offset: us
     ensures { λ r. ⌜ now (arena .exit) ≡ call rowBytes (now (arena .entry)) (now (room .entry)) (releases offset) .arena ⌝ }
     ensures { λ r. ⌜ now (room .exit) ≡ call rowBytes (now (arena .entry)) (now (room .entry)) (releases offset) .room ⌝ }
 {
-    number_of(pool::release(arena, room, offset))
+    answers::number_of(pool::release(arena, room, offset))
 }
 
 #[no_mangle]
@@ -118,8 +62,8 @@ pub extern "C" fn slotpool_resize(
     ensures { λ r. ⌜ now (room .exit) ≡ call rowBytes (now (arena .entry)) (now (room .entry)) (resizes offset n) .room ⌝ }
 {
     let r = pool::resize(arena, room, offset, n);
-    *value = value_of(r);
-    number_of(r)
+    *value = answers::value_of(r);
+    answers::number_of(r)
 }
 
 #[no_mangle]
@@ -133,8 +77,8 @@ pub extern "C" fn slotpool_measure(
     ensures { λ r. ⌜ now (value .exit) ≡ getD (call rowBytes (now (arena .entry)) (now (room .entry)) (measures offset) .answer .values) 0 0 ⌝ }
 {
     let r = pool::measure(arena, room, offset);
-    *value = value_of(r);
-    number_of(r)
+    *value = answers::value_of(r);
+    answers::number_of(r)
 }
 
 #[no_mangle]
@@ -143,6 +87,6 @@ pub extern "C" fn slotpool_report(arena: &[u8], room: &[u8], totals: &mut [usize
     ensures { λ r. ⌜ now (totals .exit) ≡ call rowBytes (now (arena .entry)) (now (room .entry)) reports .answer .values ⌝ }
 {
     let r = pool::report(arena, room);
-    *totals = report_values(r);
-    report_number(r)
+    *totals = answers::report_values(r);
+    answers::report_number(r)
 }

@@ -1,8 +1,8 @@
 use Rattle.mem.proofs.Prelude.{sym, ap, needs}
 use Rattle.model.specs.declared.Report.{Report}
 use Rattle.model.specs.Answers.{reportAnswer}
-use Rattle.slotpool.proofs.report_values.Statement.{statement}
-use Rattle.slotpool.proofs.report_values.Tie as tie
+use Rattle.answers.proofs.report_values.Statement.{statement}
+use Rattle.answers.proofs.report_values.Tie as tie
 
 returns : tie.Need-returns
 returns c = ap (λ (r : Report). reportAnswer r .values) (sym (c .before .r .given .1))

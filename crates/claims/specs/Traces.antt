@@ -1,0 +1,83 @@
+-- Replay (02 §2): "Stores may lie anywhere, so demand 3 covers only traces whose stores keep its premise." The lines of such a trace are the
+-- model's, and do not depend on the bytes that it stores.
+use Prim.Native.Nat.{ℕ, suc, _+_, _≤_, _<_}
+use mathlib.Core.Path.{_≡_}
+use mathlib.Core.Option.{Option, none, some}
+use mathlib.Core.List.{List, [], _∷_, map}
+use lib.Dec.{T, leb}
+use lib.ListN.{length}
+use Rattle.mem.specs.Lists.{choose}
+use Rattle.mem.specs.Bytes.{zeros}
+use Rattle.model.specs.State.{Pool}
+use Rattle.model.specs.Answers.{Answer, done}
+use Rattle.model.specs.Plans.{Plan, grants, releases, resizes, measures, reports, plan}
+use Rattle.model.specs.Calls.{setUpRight}
+use Rattle.trace.specs.Trace.{Act, grant, release, resize, measure, store, report, Item, does, items}
+use Rattle.trace.specs.Replay.{Line, lineThen, traceRight, replayedOver, replayed}
+use Rattle.claims.specs.Demand3.{fed, requested}
+
+-- a record without the bytes that it stores: as many zeros stand for them
+abbrev pub blank : Item → Item
+blank (does (grant n)) = does (grant n)
+blank (does (release o)) = does (release o)
+blank (does (resize o n)) = does (resize o n)
+blank (does (measure o)) = does (measure o)
+blank (does (store o bs)) = does (store o (zeros (length bs)))
+blank (does report) = does report
+blank Item.bad = Item.bad
+
+-- two traces with the same records, but for the bytes that they store
+pub record AlikeButStores (r s : List ℕ) : Type 0 where
+  pub read : traceRight r ≡ traceRight s
+  pub records : map blank (items r) ≡ map blank (items s)
+
+-- what the model does with a record: the answer that its line tells, none if the record is bad, and its state
+pub record Stepped : Type 0 where
+  pub tells : Option Answer
+  pub pool : Pool
+
+abbrev pub stepped : Plan → Stepped
+stepped p = record { tells = some (p .answer); pool = p .pool }
+
+module _ (row : ℕ) where
+  -- in an arena of n bytes; of the bytes that are stored it is told how many they are
+  unfoldable pub steps : ℕ → Pool → Act → Stepped
+  steps n P (grant k) = stepped (plan row P (grants k))
+  steps n P (release o) = stepped (plan row P (releases o))
+  steps n P (resize o k) = stepped (plan row P (resizes o k))
+  steps n P (measure o) = stepped (plan row P (measures o))
+  steps n P (store o bs) =
+      choose (leb (o + length bs) n) (record { tells = some (done (0 ∷ [])); pool = P }) (record { tells = none; pool = P })
+  steps n P report = stepped (plan row P reports)
+
+  -- the model's lines, the first for record i
+  unfoldable pub modelLines : ℕ → Pool → ℕ → List Item → List Line
+  modelLines n P i [] = []
+  modelLines n P i (Item.bad ∷ xs) = Line.bad i ∷ []
+  modelLines n P i (does x ∷ xs) = let d = steps n P x in lineThen i (d .tells) (modelLines n (d .pool) (suc i) xs)
+
+  -- the bytes of a store are requested bytes of live blocks
+  abbrev pub Lies : Pool → Act → Type 0
+  Lies P (grant k) = Unit {0}
+  Lies P (release o) = Unit {0}
+  Lies P (resize o k) = Unit {0}
+  Lies P (measure o) = Unit {0}
+  Lies P (store o bs) = (i : ℕ) → o ≤ i → i < o + length bs → T (requested row P i)
+  Lies P report = Unit {0}
+
+  -- so do those of every store of a trace
+  unfoldable pub StoresInside : ℕ → Pool → List Item → Type 0
+  StoresInside n P [] = Unit {0}
+  StoresInside n P (Item.bad ∷ xs) = StoresInside n P xs
+  StoresInside n P (does x ∷ xs) = Lies P x × StoresInside n (steps n P x .pool) xs
+
+  -- over any arena and room bytes of the right lengths, the lines are the model's
+  abbrev pub LinesModelled : Type 0
+  LinesModelled = (a t s : List ℕ) → T (setUpRight row a t) → StoresInside (length a) (fed row (length a)) (items s)
+      → replayedOver row a t s ≡ choose (traceRight s) (modelLines (length a) (fed row (length a)) 1 (items s)) (Line.bad 0 ∷ [])
+
+  -- THE CLAIM: two traces alike but for the bytes that they store give the same lines
+  abbrev pub StoresSteerNothing : Type 0
+  StoresSteerNothing = (a₁ t₁ a₂ t₂ s₁ s₂ : List ℕ) → T (setUpRight row a₁ t₁) → T (setUpRight row a₂ t₂) → length a₁ ≡ length a₂
+      → AlikeButStores s₁ s₂ → StoresInside (length a₁) (fed row (length a₁)) (items s₁)
+      → replayedOver row a₁ t₁ s₁ ≡ replayedOver row a₂ t₂ s₂

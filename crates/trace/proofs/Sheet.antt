@@ -1,0 +1,22 @@
+-- The lines of the sheet are those due: computed over arena and table room.
+use Rattle.mem.proofs.Prelude.{T}
+use Rattle.mem.specs.Lists.{choose, every}
+use Rattle.mem.specs.Bytes.{zeros}
+use Rattle.classes.specs.Classes.{rowBytes, tooLarge, unitsOf, slotBytes, slotsOf, rowsOf, classOf}
+use Rattle.model.specs.State.{slotSound, spanSound, places}
+use Rattle.model.specs.Blocks.{header, guard, firstSpare, spare, frame, headerRight, guardRight, damageIn}
+use Rattle.model.specs.Plans.{plan, opens, refill, grantSlot, inPlace}
+use Rattle.model.specs.Tables.{slotRecord, rowRecord, laterRecords, roomBytes, viewSlot, viewSlots, viewGroup, viewHolder, spanRecordsBy, encodeBy}
+use Rattle.model.specs.Tables.{viewRowsBy, viewBy, arenaRight, soundBy}
+use Rattle.model.specs.Calls.{callBy, carriedBy, checkedBy, setUpBy, setUpRightBy, unless}
+use Rattle.trace.specs.Trace.{body, encodeRecord, encodeTrace, fits, opAt, recordAt, stepAt, actOf, itemsFrom, items}
+use Rattle.trace.specs.Replay.{traceRight, did, linesFrom, replayedOver, replayed}
+use Rattle.trace.specs.Sheet.{sheet, right}
+
+pub lines-due : T (every right sheet)
+unfolding right sheet body encodeRecord encodeTrace fits opAt recordAt stepAt actOf itemsFrom items traceRight did linesFrom replayedOver replayed
+    choose zeros rowBytes tooLarge unitsOf slotBytes slotsOf rowsOf classOf slotSound spanSound places header guard firstSpare spare
+    frame headerRight guardRight damageIn
+    opens refill grantSlot inPlace plan slotRecord rowRecord laterRecords spanRecordsBy roomBytes viewSlot viewSlots viewGroup viewHolder viewRowsBy
+    encodeBy viewBy arenaRight soundBy callBy setUpBy setUpRightBy checkedBy carriedBy unless
+lines-due = tt

@@ -1,0 +1,86 @@
+-- What a trace does, over the definitions of the calls: a line for each record (02 §2).
+use Prim.Native.Nat.{ℕ, suc, _+_, _/_}
+use mathlib.Core.Bool.{Bool, _&&_}
+use mathlib.Core.Option.{Option, none, some}
+use mathlib.Core.List.{List, [], _∷_}
+use lib.Dec.{eqb, leb}
+use lib.ListN.{length, getD}
+use Rattle.mem.specs.Lists.{choose}
+use Rattle.mem.specs.Bytes.{zeros, put}
+use Rattle.classes.specs.Classes.{rowBytes}
+use Rattle.model.specs.Answers.{Answer, done}
+use Rattle.model.specs.Plans.{setsUp, grants, releases, resizes, measures, reports}
+use Rattle.model.specs.Tables.{roomBytes}
+use Rattle.model.specs.Calls.{Result, call}
+use Rattle.trace.specs.Trace.{Act, grant, release, resize, measure, store, report, Item, does, items}
+
+-- "The replay program sets up a pool of 16,384 bytes"
+abbrev pub arenaBytes : ℕ
+arenaBytes = 16384
+
+-- the longest trace, and the version that is read
+abbrev pub mostBytes : ℕ
+mostBytes = 65535
+
+abbrev pub version : ℕ
+version = 1
+
+-- a line: what an answer gives, or that a record is bad, with its number
+pub data Line : Type 0 where
+  told : Answer → Line
+  bad : (number : ℕ) → Line
+
+-- what a record does: the answer that its line tells, none if the record is bad, and what it leaves of arena and tables
+pub record Deed : Type 0 where
+  pub tells : Option Answer
+  pub arena : List ℕ
+  pub room : List ℕ
+
+abbrev pub deed : Result → Deed
+deed r = record { tells = some (r .answer); arena = r .arena; room = r .room }
+
+-- the line of record i, by what it tells
+abbrev pub lineOf : ℕ → Option Answer → Line
+lineOf i none = bad i
+lineOf i (some r) = told r
+
+-- the lines behind it: a bad record ends the trace
+abbrev pub goOn : Option Answer → List Line → List Line
+goOn none ls = []
+goOn (some r) ls = ls
+
+abbrev pub lineThen : ℕ → Option Answer → List Line → List Line
+lineThen i x ls = lineOf i x ∷ goOn x ls
+
+-- "starts with a version byte, 1"; "An empty trace, or one over 65,535 bytes" is bad
+unfoldable pub traceRight : List ℕ → Bool
+traceRight s = leb 1 (length s) && leb (length s) mostBytes && eqb (getD s 0 0) version
+
+module _ (row : ℕ) where
+  -- "a store prints `0 0`"; "a store ending past the arena" is bad, and stores nothing
+  unfoldable pub did : List ℕ → List ℕ → Act → Deed
+  did a t (grant n) = deed (call row a t (grants n))
+  did a t (release o) = deed (call row a t (releases o))
+  did a t (resize o n) = deed (call row a t (resizes o n))
+  did a t (measure o) = deed (call row a t (measures o))
+  did a t (store o bs) =
+      choose (leb (o + length bs) (length a)) (record { tells = some (done (0 ∷ [])); arena = put o bs a; room = t })
+      (record { tells = none; arena = a; room = t })
+  did a t report = deed (call row a t reports)
+
+  -- the lines of records, the first of which is record i: "prints `bad` and the record's number from 1 .. and ends"
+  unfoldable pub linesFrom : List ℕ → List ℕ → ℕ → List Item → List Line
+  linesFrom a t i [] = []
+  linesFrom a t i (Item.bad ∷ xs) = Line.bad i ∷ []
+  linesFrom a t i (does x ∷ xs) = let d = did a t x in lineThen i (d .tells) (linesFrom (d .arena) (d .room) (suc i) xs)
+
+  -- a trace replayed over an arena and a table room, which are set up first: "0 for the version"
+  unfoldable pub replayedOver : List ℕ → List ℕ → List ℕ → List Line
+  replayedOver a t s =
+      let r = call row a t setsUp in
+      let ls = linesFrom (r .arena) (r .room) 1 (items s) in
+      choose (traceRight s) ls (Line.bad 0 ∷ [])
+
+-- THE REPLAY
+unfoldable pub replayed : List ℕ → List Line
+replayed s = replayedOver rowBytes (zeros arenaBytes) (zeros (roomBytes (arenaBytes / rowBytes))) s

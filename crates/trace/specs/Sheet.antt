@@ -1,0 +1,81 @@
+-- Traces with the lines due: one list, and how an entry of it is read.
+use Prim.Native.Nat.{ℕ}
+use mathlib.Core.Bool.{Bool, true, false, _&&_}
+use mathlib.Core.List.{List, [], _∷_, _++_}
+use lib.Dec.{eqb}
+use Rattle.mem.specs.Bytes.{zeros, same}
+use Rattle.model.specs.Answers.{Answer, done}
+use Rattle.trace.specs.Trace.{Act, grant, release, resize, measure, store, report, encodeRecord, encodeTrace}
+use Rattle.trace.specs.Replay.{Line, told, bad, replayed}
+
+-- a trace, and its lines
+pub record Entry : Type 0 where
+  pub trace : List ℕ
+  pub due : List Line
+
+-- bytes, or operations as the writer puts them, with the lines due
+abbrev pub bytes : List ℕ → List Line → Entry
+bytes s ls = record { trace = s; due = ls }
+
+abbrev pub acts : List Act → List Line → Entry
+acts xs ls = bytes (encodeTrace xs) ls
+
+-- a value, or a refusal
+abbrev pub gives : ℕ → Line
+gives v = told (done (v ∷ []))
+
+abbrev pub refuses : ℕ → Line
+refuses k = told (record { number = k; values = 0 ∷ [] })
+
+unfoldable pub sheet : List Entry
+sheet =
+    -- "The trace 1 0 5 1 0 0 0 0 prints `0 16`."
+    bytes (1 ∷ 0 ∷ 5 ∷ 1 ∷ 0 ∷ 0 ∷ 0 ∷ 0 ∷ []) (gives 16 ∷ [])
+    -- no record; "An empty trace, or one over 65,535 bytes"; another version
+    ∷ bytes (1 ∷ []) []
+    ∷ bytes [] (bad 0 ∷ [])
+    ∷ bytes (1 ∷ zeros 65535) (bad 0 ∷ [])
+    ∷ bytes (2 ∷ 0 ∷ 1 ∷ 6 ∷ []) (bad 0 ∷ [])
+    ∷ bytes (0 ∷ 0 ∷ 1 ∷ 6 ∷ []) (bad 0 ∷ [])
+    -- every operation: W7's block with a report, a store, a resize in place, a measure, two releases
+    ∷ acts (grant 160 ∷ report ∷ store 16 (7 ∷ 9 ∷ []) ∷ resize 16 188 ∷ measure 16 ∷ grant 160 ∷ release 16 ∷ release 16 ∷ report ∷ [])
+    (gives 16 ∷ told (done (1 ∷ 160 ∷ 8 ∷ 24 ∷ 20 ∷ 0 ∷ [])) ∷ gives 0 ∷ gives 16 ∷ gives 188 ∷ gives 208 ∷ gives 0 ∷ refuses 5
+    ∷ told (done (1 ∷ 160 ∷ 8 ∷ 24 ∷ 19 ∷ 1 ∷ [])) ∷ [])
+    -- stores may lie anywhere: a wrong header, a wrong guard
+    ∷ acts (grant 160 ∷ store 13 (1 ∷ []) ∷ release 16 ∷ store 13 (160 ∷ []) ∷ store 199 (1 ∷ []) ∷ measure 16 ∷ [])
+    (gives 16 ∷ gives 0 ∷ refuses 6 ∷ gives 0 ∷ gives 0 ∷ refuses 7 ∷ [])
+    -- the other refusals
+    ∷ acts (grant 131052 ∷ grant 131051 ∷ grant 4294967295 ∷ release 4294967295 ∷ []) (refuses 3 ∷ refuses 8 ∷ refuses 3 ∷ refuses 4 ∷ [])
+    -- "a store ending past the arena": up to its end, one byte past it, and where the sum is past 2^32; of no bytes at the end and past it
+    ∷ acts (store 16383 (7 ∷ []) ∷ store 16383 (7 ∷ 8 ∷ []) ∷ report ∷ []) (gives 0 ∷ bad 2 ∷ [])
+    ∷ acts (store 4294967295 (1 ∷ []) ∷ []) (bad 1 ∷ [])
+    ∷ acts (store 16384 [] ∷ store 16385 [] ∷ []) (gives 0 ∷ bad 2 ∷ [])
+    -- 65,535 bytes are read: one record, whose store is too long for the arena
+    ∷ acts (store 0 (zeros 65527) ∷ []) (bad 1 ∷ [])
+    -- "Any other .. length or operation": no bytes, one too few, one too many, operations 0 and 7; earlier lines stay
+    ∷ bytes (1 ∷ 0 ∷ 0 ∷ []) (bad 1 ∷ [])
+    ∷ bytes (1 ∷ 0 ∷ 4 ∷ 2 ∷ 0 ∷ 0 ∷ 0 ∷ []) (bad 1 ∷ [])
+    ∷ bytes (1 ∷ 0 ∷ 6 ∷ 1 ∷ 0 ∷ 0 ∷ 0 ∷ 0 ∷ 0 ∷ []) (bad 1 ∷ [])
+    ∷ bytes (1 ∷ 0 ∷ 5 ∷ 0 ∷ 0 ∷ 0 ∷ 0 ∷ 0 ∷ []) (bad 1 ∷ [])
+    ∷ bytes (encodeTrace (grant 0 ∷ []) ++ (0 ∷ 9 ∷ 7 ∷ 0 ∷ 0 ∷ 0 ∷ 0 ∷ 0 ∷ 0 ∷ 0 ∷ 0 ∷ encodeRecord report)) (gives 16 ∷ bad 2 ∷ [])
+    -- "a record cut short": in its length, and behind it
+    ∷ bytes (1 ∷ 0 ∷ []) (bad 1 ∷ [])
+    ∷ bytes (encodeTrace (grant 0 ∷ report ∷ []) ++ (0 ∷ 5 ∷ 1 ∷ 0 ∷ 0 ∷ 0 ∷ []))
+    (gives 16 ∷ told (done (1 ∷ 0 ∷ 1 ∷ 31 ∷ 30 ∷ 0 ∷ [])) ∷ bad 3 ∷ [])
+    ∷ []
+
+-- whether two lines, and two lists of lines, are the same
+abbrev pub sameLine : Line → Line → Bool
+sameLine (told r) (told q) = eqb (r .number) (q .number) && same (r .values) (q .values)
+sameLine (told r) (bad j) = false
+sameLine (bad i) (told q) = false
+sameLine (bad i) (bad j) = eqb i j
+
+abbrev pub sameLines : List Line → List Line → Bool
+sameLines [] [] = true
+sameLines [] (m ∷ ms) = false
+sameLines (l ∷ ls) [] = false
+sameLines (l ∷ ls) (m ∷ ms) = sameLine l m && sameLines ls ms
+
+unfoldable pub right : Entry → Bool
+right e = sameLines (replayed (e .trace)) (e .due)

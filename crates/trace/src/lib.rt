@@ -1,0 +1,133 @@
+// The records of a trace.
+ghost use mathlib.Core.Path.{_≡_};
+ghost use mathlib.Core.Bool.{true};
+ghost use Prim.Native.Nat.{_+_, _≤_};
+ghost use lib.ListN.{length, getD};
+ghost use Rattle.trace.specs.Trace.{opAt, recordAt, stepAt};
+ghost use Rattle.trace.specs.Trace.{fits as Trace·fits};
+
+pub enum Op {
+    Grant(usize),
+    Release(usize),
+    Resize(usize, usize),
+    Measure(usize),
+    Store {
+        offset: usize,
+        from: usize,
+        to: usize,
+    },
+    Report,
+}
+
+pub enum Step {
+    Record(Op, usize),
+    Bad,
+    End,
+}
+
+// Whether n bytes are right for an operation.
+fn fits(op: u8, n: usize) -> bool
+    ensures { λ r. ⌜ r ≡ Trace·fits op n ⌝ }
+{
+    match op {
+        1 => n == 5,
+        2 => n == 5,
+        3 => n == 9,
+        4 => n == 5,
+        5 => 5 <= n,
+        6 => n == 1,
+        _ => false,
+    }
+}
+
+// The operation whose n bytes stand at a place, and are right for it.
+fn op_at(s: &[u8], at: usize, n: usize) -> Op
+    requires { ⌜ (1 ≤ n) × (at + n ≤ length (now s)) ⌝ }
+    requires { ⌜ Trace·fits (getD (now s) at 0) n ≡ true ⌝ }
+    ensures { λ r. ⌜ r ≡ opAt (getD (now (s .entry)) at 0) (now (s .entry)) at n ⌝ }
+{
+    let op = s[at];
+    match op {
+        1 => Op::Grant(mem::big4(s, at + 1)),
+        2 => Op::Release(mem::big4(s, at + 1)),
+        3 => Op::Resize(mem::big4(s, at + 1), mem::big4(s, at + 5)),
+        4 => Op::Measure(mem::big4(s, at + 1)),
+        5 => Op::Store {
+            offset: mem::big4(s, at + 1),
+            from: at + 5,
+            to: at + n,
+        },
+        _ => Op::Report,
+    }
+}
+
+// The record whose n bytes stand at a place.
+fn record_of(s: &[u8], at: usize, n: usize) -> Step
+    requires { ⌜ at + n ≤ length (now s) ⌝ }
+    ensures { λ r. ⌜ r ≡ recordAt (now (s .entry)) at n ⌝ }
+{
+    if n == 0 {
+        return Step::Bad;
+    }
+    if !fits(s[at], n) {
+        return Step::Bad;
+    }
+    let op = op_at(s, at, n);
+    Step::Record(op, at + n)
+}
+
+// What stands at a place of a trace. This is the work of the reader.
+pub fn step_at(s: &[u8], at: usize) -> Step
+    ensures { λ r. ⌜ r ≡ stepAt (now (s .entry)) at ⌝ }
+{
+    let len = s.len();
+    if len <= at {
+        return Step::End;
+    }
+    if len - at < 2 {
+        return Step::Bad;
+    }
+    let n = mem::big2(s, at);
+    let body = at + 2;
+    if len - body < n {
+        return Step::Bad;
+    }
+    record_of(s, body, n)
+}
+
+// A reader: the caller's trace, and a place in it.
+pub struct Reader<'a> {
+    pub trace: &'a [u8],
+    pub place: usize,
+}
+
+// A reader at a place of a trace.
+pub fn reader_at<'a>(trace: &'a [u8], place: usize) -> Reader<'a>
+    ensures { λ r. ⌜ (r .trace ≡ trace .entry) × (r .place ≡ place) ⌝ }
+{
+    Reader { trace, place }
+}
+
+// What stands at the reader's place.
+pub fn next<'a>(r: Reader<'a>) -> Step
+    ensures { λ s. ⌜ s ≡ stepAt (now (r .entry .trace)) (r .entry .place) ⌝ }
+{
+    step_at(r.trace, r.place)
+}
+
+// The reader at another place of its trace.
+pub fn moved<'a>(r: Reader<'a>, place: usize) -> Reader<'a>
+    ensures { λ q. ⌜ (q .trace ≡ r .entry .trace) × (q .place ≡ place) ⌝ }
+{
+    Reader {
+        trace: r.trace,
+        place,
+    }
+}
+
+// What a reader finds at a place. Its parameters are plain, so whoever calls it needs no walk.
+pub fn read(trace: &[u8], place: usize) -> Step
+    ensures { λ r. ⌜ r ≡ stepAt (now (trace .entry)) place ⌝ }
+{
+    next(reader_at(trace, place))
+}
