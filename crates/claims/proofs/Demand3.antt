@@ -38,7 +38,7 @@ module _ (row : ℕ) (pos : 0 < row) where
         call-step row (masked row) (layout-lawful byMasks masks-laws row pos) a P s setsUp ∙ cc
 
     -- a call on an arena that agrees with the tables does what the model does
-    call-follows : (c : Call) → call row a (encode row P) c ≡ applied (masked row) a (plan row P c)
+    pub call-follows : (c : Call) → call row a (encode row P) c ≡ applied (masked row) a (plan row P c)
     call-follows =
         by-call (λ c. call row a (encode row P) c ≡ applied (masked row) a (plan row P c)) set-up-follows
         (λ c k. call-sound row a (encode row P) (T-true (sound row (length a) (encode row P)) (encode-sound masks-laws row pos P (length a) w h l)) c k

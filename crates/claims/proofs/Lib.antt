@@ -12,4 +12,5 @@ pub mod Requested
 pub mod Demand3
 pub mod History
 pub mod Alike
+pub mod Traces
 pub mod Demands

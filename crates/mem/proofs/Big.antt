@@ -1,7 +1,9 @@
 -- Laws of numbers high byte first.
-use Rattle.mem.proofs.Prelude.{_∙_, _≡_, sym, ap, refl, List, [], _∷_, _++_, ℕ, zero, suc, _+_, _*_, _/_, _%_, _^_, _≤_, _<_, pow-suc, arith}
-use Rattle.mem.proofs.Prelude.{length, getD, length-append}
+use Rattle.mem.proofs.Prelude.{_∙_, _≡_, ap, refl, List, [], _∷_, _++_, ℕ, zero, suc, _+_, _*_, _/_, _%_, _^_, _≤_, _<_, pow-suc, arith}
+use Rattle.mem.proofs.Prelude.{append-assoc, append-nil, T, ltb, ltb→lt, length, getD, length-append}
+use Rattle.mem.specs.Lists.{every}
 use Rattle.mem.specs.Bytes.{high, bigFrom, big, part}
+use Rattle.mem.proofs.Tests.{and-left, and-right}
 use Rattle.mem.proofs.Laws.{part-cons}
 
 -- ---- read
@@ -38,3 +40,18 @@ big-last a b (x ∷ xs) = big-last (256 * a + x) b xs
 pub big-high : (k x : ℕ) → x < 256 ^ k → big (high k x) ≡ x
 big-high zero x h = omega arith
 big-high (suc k) x h = big-last 0 (x % 256) (high k (x / 256)) ∙ omega (arith, big-high k (x / 256) (omega (arith, pow-suc 256 k)))
+
+-- ---- read and written
+
+-- the bytes of the number that bytes hold behind those that were read as a
+high-from : (k n a : ℕ) (bs : List ℕ) → n ≡ k + length bs → T (every (λ b. ltb b 256) bs) → high n (bigFrom a bs) ≡ high k a ++ bs
+high-from k n a [] e t = let f : n ≡ k = omega arith in rw (f, append-nil (high k a))
+high-from k n a (b ∷ bs) e t =
+    let h = ltb→lt b 256 (and-left (ltb b 256) (every (λ b. ltb b 256) bs) t) in
+    let q : (256 * a + b) / 256 ≡ a = omega arith in
+    let r : (256 * a + b) % 256 ≡ b = omega arith in
+    high-from (suc k) n (256 * a + b) bs (omega arith) (and-right (ltb b 256) (every (λ b. ltb b 256) bs) t)
+    ∙ rw (q, r) (append-assoc (high k a) (b ∷ []) bs)
+
+pub high-big : (k : ℕ) (bs : List ℕ) → length bs ≡ k → T (every (λ b. ltb b 256) bs) → high k (big bs) ≡ bs
+high-big k bs e t = high-from 0 k 0 bs (omega arith) t

@@ -1,0 +1,208 @@
+// What the records of a trace do over a lent pool, and the text of their lines (02 §2).
+ghost use mathlib.Core.Path.{_≡_};
+ghost use Prim.Native.Nat.{_+_, _*_, _≤_};
+ghost use lib.Dec.{leb};
+ghost use lib.ListN.{length};
+ghost use Rattle.io.specs.Counts.{Counts};
+ghost use Rattle.mem.specs.Lists.{choose, join};
+ghost use Rattle.mem.specs.Bytes.{put};
+ghost use Rattle.classes.specs.Classes.{rowBytes};
+ghost use Rattle.trace.specs.Trace.{Within, actOf};
+ghost use Rattle.trace.specs.Replay.{Line, did, lineOf, traceRight};
+ghost use Rattle.player.specs.Printed.{field, lineText, printed, playedText, answerOf, isBad};
+use model::Reply;
+use model::Report;
+use trace::Op;
+use trace::Step;
+
+// The longest trace, and the version that is read.
+const MOST: usize = 65535;
+
+const VERSION: u8 = 1;
+
+// Room for all lines of a trace: a record has three bytes or more, and a line at most 150.
+pub const TEXT: usize = 3276800;
+
+// What a record tells: an answer with one value, a report, or that the record is bad.
+pub enum Told {
+    One(Reply),
+    Six(Report),
+    Bad,
+}
+
+// Stores bytes in the arena, where they end inside it. The sum of offset and count is not made: it could wrap.
+fn store(arena: &mut [u8], offset: usize, bytes: &[u8]) -> bool
+    ensures { λ r. ⌜ r ≡ leb (offset + length (now (bytes .entry))) (length (now (arena .entry))) ⌝ }
+    ensures { λ r. ⌜ now (arena .exit) ≡ choose r (put offset (now (bytes .entry)) (now (arena .entry))) (now (arena .entry)) ⌝ }
+{
+    let len = arena.len();
+    let n = bytes.len();
+    if len < n {
+        return false;
+    }
+    if len - n < offset {
+        return false;
+    }
+    mem::copy_in(arena, offset, bytes);
+    true
+}
+
+// What a record does. The bytes of a store are lent from the trace.
+pub fn perform(arena: &mut [u8], room: &mut [u8], trace: &[u8], op: Op) -> Told
+    requires { ⌜ Within op (length (now trace)) ⌝ }
+    ensures { λ r. ⌜ answerOf r ≡ did rowBytes (now (arena .entry)) (now (room .entry)) (actOf (now (trace .entry)) op) .tells ⌝ }
+    ensures { λ r. ⌜ now (arena .exit) ≡ did rowBytes (now (arena .entry)) (now (room .entry)) (actOf (now (trace .entry)) op) .arena ⌝ }
+    ensures { λ r. ⌜ now (room .exit) ≡ did rowBytes (now (arena .entry)) (now (room .entry)) (actOf (now (trace .entry)) op) .room ⌝ }
+{
+    match op {
+        Op::Grant(n) => Told::One(pool::grant(arena, room, n)),
+        Op::Release(offset) => Told::One(pool::release(arena, room, offset)),
+        Op::Resize(offset, n) => Told::One(pool::resize(arena, room, offset, n)),
+        Op::Measure(offset) => Told::One(pool::measure(arena, room, offset)),
+        Op::Store { offset, from, to } => {
+            if store(arena, offset, &trace[from..to]) {
+                Told::One(Reply::Done(0))
+            } else {
+                Told::Bad
+            }
+        }
+        Op::Report => Told::Six(pool::report(arena, room)),
+    }
+}
+
+// Writes a space and a number at a place, and gives the place after them.
+fn put_field(out: &mut [u8], at: usize, n: usize) -> usize
+    requires { ⌜ at + 21 ≤ length (now out) ⌝ }
+    ensures { λ r. ⌜ r ≡ at + length (field n) ⌝ }
+    ensures { λ r. ⌜ now (out .exit) ≡ put at (field n) (now (out .entry)) ⌝ }
+    ensures small { λ r. ⌜ r ≤ at + 21 ⌝ }
+{
+    out[at] = b' ';
+    text::put_decimal(out, at + 1, n as u64)
+}
+
+fn put_fields(out: &mut [u8], at: usize, values: &[usize]) -> usize
+    requires { ⌜ at + 21 * length (now values) ≤ length (now out) ⌝ }
+    ensures { λ r. ⌜ r ≡ at + length (join field (now (values .entry))) ⌝ }
+    ensures { λ r. ⌜ now (out .exit) ≡ put at (join field (now (values .entry))) (now (out .entry)) ⌝ }
+    ensures small { λ r. ⌜ r ≤ at + 21 * length (now (values .entry)) ⌝ }
+{
+    let mut end = at;
+    let mut i = 0;
+    while i < values.len() {
+        end = put_field(out, end, values[i]);
+        i += 1;
+    }
+    end
+}
+
+// Writes the line of an answer's number and values.
+fn put_answer(out: &mut [u8], at: usize, number: u32, values: &[usize]) -> usize
+    requires { ⌜ at + (21 + 21 * length (now values)) ≤ length (now out) ⌝ }
+    ensures { λ r. ⌜ r ≡ at + length (lineText (Line.told (record { number = number; values = now (values .entry) }))) ⌝ }
+    ensures { λ r. ⌜ now (out .exit) ≡ put at (lineText (Line.told (record { number = number; values = now (values .entry) }))) (now (out .entry)) ⌝ }
+    ensures small { λ r. ⌜ r ≤ at + (21 + 21 * length (now (values .entry))) ⌝ }
+{
+    let told = text::put_decimal(out, at, number as u64);
+    let end = put_fields(out, told, values);
+    out[end] = b'\n';
+    end + 1
+}
+
+// Writes the line of a bad record.
+fn put_bad(out: &mut [u8], at: usize, count: usize) -> usize
+    requires { ⌜ at + 25 ≤ length (now out) ⌝ }
+    ensures { λ r. ⌜ r ≡ at + length (lineText (Line.bad count)) ⌝ }
+    ensures { λ r. ⌜ now (out .exit) ≡ put at (lineText (Line.bad count)) (now (out .entry)) ⌝ }
+    ensures small { λ r. ⌜ r ≤ at + 25 ⌝ }
+{
+    mem::copy_in(out, at, b"bad");
+    let end = put_field(out, at + 3, count);
+    out[end] = b'\n';
+    end + 1
+}
+
+// Writes the line of a record at a place, and gives the place after it.
+pub fn put_line(out: &mut [u8], at: usize, count: usize, told: Told) -> usize
+    requires { ⌜ at + 150 ≤ length (now out) ⌝ }
+    ensures { λ r. ⌜ r ≡ at + length (lineText (lineOf count (answerOf told))) ⌝ }
+    ensures { λ r. ⌜ now (out .exit) ≡ put at (lineText (lineOf count (answerOf told))) (now (out .entry)) ⌝ }
+    ensures small { λ r. ⌜ r ≤ at + 150 ⌝ }
+{
+    match told {
+        Told::One(r) => {
+            let values = [answers::value_of(r)];
+            put_answer(out, at, answers::number_of(r), &values)
+        }
+        Told::Six(r) => {
+            let values = answers::report_values(r);
+            put_answer(out, at, answers::report_number(r), &values)
+        }
+        Told::Bad => put_bad(out, at, count),
+    }
+}
+
+// Whether a record is bad, and so the last.
+fn is_bad(told: Told) -> bool
+    ensures { λ r. ⌜ r ≡ isBad (answerOf told) ⌝ }
+{
+    match told {
+        Told::One(_) => false,
+        Told::Six(_) => false,
+        Told::Bad => true,
+    }
+}
+
+// Performs the records behind the version byte, one after the other, and writes their lines.
+fn play(arena: &mut [u8], room: &mut [u8], trace: &[u8], out: &mut [u8]) -> usize
+    requires { ⌜ (1 ≤ length (now trace)) × (length (now trace) ≤ 65535) × (3276800 ≤ length (now out)) ⌝ }
+    ensures { λ r. ⌜ r ≡ length (playedText (now (arena .entry)) (now (room .entry)) (now (trace .entry))) ⌝ }
+    ensures { λ r. ⌜ now (out .exit) ≡ put 0 (playedText (now (arena .entry)) (now (room .entry)) (now (trace .entry))) (now (out .entry)) ⌝ }
+    ensures small { λ r. ⌜ r ≤ 3276800 ⌝ }
+{
+    let mut at = 1;
+    let mut count = 1;
+    let mut end = 0;
+    loop {
+        match trace::read(trace, at) {
+            Step::Record(op, next) => {
+                let told = perform(arena, room, trace, op);
+                end = put_line(out, end, count, told);
+                if is_bad(told) {
+                    return end;
+                }
+                at = next;
+                count += 1;
+            }
+            Step::Bad => return put_bad(out, end, count),
+            Step::End => return end,
+        }
+    }
+}
+
+// Whether a trace has a length and a version that are read.
+fn readable(trace: &[u8]) -> bool
+    ensures { λ r. ⌜ r ≡ traceRight (now (trace .entry)) ⌝ }
+{
+    let len = trace.len();
+    if len == 0 {
+        return false;
+    }
+    if MOST < len {
+        return false;
+    }
+    trace[0] == VERSION
+}
+
+// Replays a trace over a pool that is set up first: writes all that is to be printed, and gives its length.
+pub fn replay(arena: &mut [u8], room: &mut [u8], trace: &[u8], out: &mut [u8; TEXT]) -> usize
+    ensures { λ r. ⌜ r ≡ length (printed (now (arena .entry)) (now (room .entry)) (now (trace .entry))) ⌝ }
+    ensures { λ r. ⌜ now (out .exit) ≡ put 0 (printed (now (arena .entry)) (now (room .entry)) (now (trace .entry))) (now (out .entry)) ⌝ }
+    ensures { λ r. ⌜ Counts r (now (out .exit)) ⌝ }
+{
+    if !readable(trace) {
+        return put_bad(out, 0, 0);
+    }
+    pool::set_up(arena, room);
+    play(arena, room, trace, out)
+}
