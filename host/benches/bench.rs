@@ -1,9 +1,16 @@
 //! Nanoseconds per call, of the library and of the second implementation with its own full check of the tables, over arenas of four
-//! sizes, empty, half full and nearly full. Each figure is the median of several runs, with the least and the most.
+//! sizes, empty, half full and nearly full; and records per second, of the replay program and of the second implementation's replay.
+//! Each figure is the median of several runs, with the least and the most.
 
+#[path = "../tests/program/mod.rs"]
+mod program;
+
+use slotpool::trace::{self, Op};
 use slotpool::{room_len, Pool};
-use slotpool_reference::{Reference, Tables};
+use slotpool_reference::{replay, Reference, Tables};
 use std::hint::black_box;
+use std::path::Path;
+use std::process::Command;
 use std::time::Instant;
 
 const RUNS: usize = 15;
@@ -66,6 +73,63 @@ fn fill(pool: &mut Pool, second: &mut Reference, share: f64) -> Vec<usize> {
             Err(_) => return blocks,
         }
     }
+}
+
+const PROGRAM: &str = concat!(env!("CARGO_MANIFEST_DIR"), "/../target/bin/replay");
+
+/// What the replay program prints of a trace.
+fn program(trace: &[u8]) -> Vec<u8> {
+    program::run(&mut Command::new(PROGRAM), &[trace]).stdout
+}
+
+/// A full trace: grants of 160 bytes, then as many rounds as there is room for. A round is told where a grant of 160 bytes would start.
+fn full(grants: usize, round: fn(u32) -> Vec<Op>) -> Vec<Op> {
+    let mut pool = Reference::set_up(16_384);
+    let mut ops = vec![Op::Grant(160); grants];
+    for _ in &ops {
+        pool.grant(160).unwrap();
+    }
+    let mut len = trace::write(&ops).len();
+    loop {
+        let start = pool.grant(160).unwrap();
+        pool.release(start).unwrap();
+        let more = round(start as u32);
+        len += trace::write(&more).len() - 1;
+        if len > trace::MOST {
+            return ops;
+        }
+        ops.extend(more);
+    }
+}
+
+/// Times the replay program, started anew for each trace, beside the second implementation's replay in this process.
+fn replays() {
+    if !Path::new(PROGRAM).exists() {
+        println!("\nreplay: {PROGRAM} is missing, run make replay first");
+        return;
+    }
+    println!("\nreplay of full traces, records per second: median of {RUNS} runs (least to most)");
+    println!("{:<34} {:>8} {:>34} {:>34}", "trace", "records", "program, from its start to its end", "second, in this process");
+    for (name, ops) in [
+        ("grants and releases of 160 bytes", full(1, |at| vec![Op::Grant(160), Op::Release(at)])),
+        ("reports over a half full pool", full(42, |_| vec![Op::Report])),
+        (
+            "stores of 160 bytes among calls",
+            full(1, |at| vec![Op::Grant(160), Op::Store(at, vec![7; 160]), Op::Measure(at), Op::Resize(at, 150), Op::Release(at)]),
+        ),
+    ] {
+        let trace = trace::write(&ops);
+        let due = replay(&trace);
+        assert!(program(&trace) == due, "{name}: the program prints something else");
+        assert!(due.split(|b| *b == b'\n').all(|line| line.is_empty() || line[0] == b'0'), "{name}: a refusal");
+        let (one, other, _) = time_beside(3, || drop(black_box(program(&trace))), || drop(black_box(replay(&trace))));
+        let per_second = |t: Time| {
+            let rate = |nanoseconds: f64| 1e9 * ops.len() as f64 / nanoseconds;
+            show(&Time { median: rate(t.median), least: rate(t.most), most: rate(t.least) })
+        };
+        println!("{name:<34} {:>8} {:>34} {:>34}", ops.len(), per_second(one), per_second(other));
+    }
+    println!("nanoseconds of a run with no record, the program's start: {}", show(&time(10, || drop(black_box(program(&[1]))))));
 }
 
 fn main() {
@@ -164,4 +228,6 @@ fn main() {
             );
         }
     }
+
+    replays();
 }

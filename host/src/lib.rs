@@ -12,6 +12,8 @@
 //! assert_eq!(pool.release(block), Err(slotpool::Refusal::NoSuchBlock));
 //! ```
 
+pub mod trace;
+
 use std::fmt;
 
 /// Why a call was refused. A refused call changes no byte.

@@ -63,9 +63,9 @@ fn anywhere(numbers: &mut Numbers, both: &Both) -> Option<Call> {
 
 /// Each engine, and what is seen with it beside the answers due without damage.
 const ENGINES: [(&str, Engine, &[&str]); 3] = [
-    ("no store", no_store, &[]),
-    ("stores into requested bytes", into_requested, &["store"]),
-    ("stores anywhere", anywhere, &["store", "release 6", "release 7", "resize 6", "resize 7", "measure 6", "measure 7"]),
+    ("no store", no_store, &["set up 0"]),
+    ("stores into requested bytes", into_requested, &["set up 0", "store"]),
+    ("stores anywhere", anywhere, &["set up 0", "store", "release 6", "release 7", "resize 6", "resize 7", "measure 6", "measure 7"]),
 ];
 
 /// Runs a pool and gives how many calls, stores not counted, were made.

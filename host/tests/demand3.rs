@@ -111,5 +111,5 @@ fn stores_into_requested_bytes_change_nothing_else() {
     }
     println!("{made} calls in {seed} pools, each in two runs; after {different} of them the requested bytes were different: {seen:?}");
     assert!(different > made / 2, "the runs were mostly the same in all bytes");
-    all_seen(&seen, &[]);
+    all_seen(&seen, &["set up 0"]);
 }

@@ -1,6 +1,9 @@
 //! A second implementation of the pool, written from the papers alone, with a plain state of its own: a list of groups, each a list
 //! of slots. It is for comparison; it is not what the library runs.
 
+mod replay;
+
+pub use replay::replay;
 use slotpool::{Refusal, Totals};
 
 const UNITS: [usize; 48] = [

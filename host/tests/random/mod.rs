@@ -123,9 +123,8 @@ pub fn kind(call: Call, answer: &Answer) -> String {
     }
 }
 
-/// Every answer of every call while no block is damaged.
-const UNDAMAGED: [&str; 17] = [
-    "set up 0",
+/// Every answer of every call but set up while no block is damaged.
+const UNDAMAGED: [&str; 16] = [
     "grant 0",
     "grant 3",
     "grant 8",
