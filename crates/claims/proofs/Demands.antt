@@ -3,6 +3,8 @@ use Rattle.mem.proofs.Prelude.{_<_, lit≤}
 use Rattle.classes.specs.Classes.{rowBytes}
 use Rattle.classes.proofs.Laws.{all-classes}
 use Rattle.model.proofs.Bench.{bench}
+use Rattle.trace.proofs.Sheet.{lines-due}
+use Rattle.trace.proofs.Written.{reads-back, writes-back}
 use Rattle.claims.specs.Demands.{Demands}
 use Rattle.claims.proofs.Tables.{tables}
 use Rattle.claims.proofs.Bench.{too-large-anywhere}
@@ -13,6 +15,7 @@ use Rattle.claims.proofs.Guards.{guards-as-said}
 use Rattle.claims.proofs.Resizes.{resizes-as-said}
 use Rattle.claims.proofs.Demand3.{steers-nothing, stores-admitted, room-follows}
 use Rattle.claims.proofs.History.{history}
+use Rattle.claims.proofs.Traces.{lines-modelled, stores-steer-nothing}
 
 some-bytes : 0 < rowBytes
 unfolding rowBytes
@@ -42,4 +45,9 @@ demands = record {
   all-classes = all-classes;
   bench = bench;
   too-large-anywhere = too-large-anywhere rowBytes some-bytes;
+  reads-back = reads-back;
+  writes-back = writes-back;
+  lines-due = lines-due;
+  lines-modelled = lines-modelled rowBytes some-bytes;
+  stores-steer-nothing = stores-steer-nothing rowBytes some-bytes;
 }

@@ -11,8 +11,8 @@ use Rattle.model.specs.Tables.{encode, arenaRight}
 use Rattle.model.specs.Calls.{Result, masked, applied, call, callBy, written}
 use Rattle.model.proofs.Fresh.{fresh-formed, whole-rows, set-up-lawful, set-up-done}
 use Rattle.model.proofs.Formed.{Formed, plan-formed}
-use Rattle.trace.specs.Trace.{Act, grant, release, resize, measure, store, report, Item, does, items}
-use Rattle.trace.specs.Replay.{Line, Deed, deed, lineThen, traceRight, did, linesFrom, replayedOver}
+use Rattle.trace.specs.Trace.{Operation, grant, release, resize, measure, store, report, Item, does, items}
+use Rattle.trace.specs.Replay.{Line, Effect, effect, lineThen, traceRight, performed, linesFrom, replayedOver}
 use Rattle.claims.specs.Demand3.{fed, requested, SameOutside}
 use Rattle.claims.specs.Traces.{blank, Stepped, stepped, steps, modelLines, Lies, StoresInside, LinesModelled, StoresSteerNothing}
 use Rattle.claims.proofs.Cells.{cells, Agrees}
@@ -30,7 +30,7 @@ record Holds (row n : ℕ) (P : Pool) (a t : List ℕ) : Type 0 where
   room : t ≡ encode row P
 
 -- what a record does is what the model does with it
-record Follows (row n : ℕ) (d : Deed) (s : Stepped) : Type 0 where
+record Follows (row n : ℕ) (d : Effect) (s : Stepped) : Type 0 where
   tells : d .tells ≡ s .tells
   holds : Holds row n (s .pool) (d .arena) (d .room)
 
@@ -52,7 +52,7 @@ stored-outside row P a o bs s = record { long = put-length o bs a; bytes = λ i 
 module _ (row : ℕ) (pos : 0 < row) (n : ℕ) (h : T (arenaRight row n)) where
   module _ (P : Pool) (a t : List ℕ) (r : Holds row n P a t) where
     -- the five calls: the model's plan is carried out
-    call-follows-plan : (c : Call) → Follows row n (deed (call row a t c)) (stepped (plan row P c))
+    call-follows-plan : (c : Call) → Follows row n (effect (call row a t c)) (stepped (plan row P c))
     call-follows-plan c =
         let p : Plan = plan row P c in
         let m : Formed row P (p .pool) = plan-formed row pos P c (r .formed) in
@@ -62,12 +62,12 @@ module _ (row : ℕ) (pos : 0 < row) (n : ℕ) (h : T (arenaRight row n)) where
         arena-length row pos (p .pool) (m .formed) x g ∙ ap (λ k. row * k) (m .long) ∙ sym (arena-length row pos P (r .formed) a (r .agrees)) ∙ r .long in
         let e : call row a t c ≡ applied (masked row) a p =
         ap (λ t. call row a t c) (r .room) ∙ call-follows row pos P (r .formed) a (subst (λ m. T (arenaRight row m)) (sym (r .long)) h) (r .agrees) c in
-        subst (λ z. Follows row n (deed z) (stepped p)) (sym e)
+        subst (λ z. Follows row n (effect z) (stepped p)) (sym e)
         (record { tells = refl; holds = record { formed = m .formed; long = l; agrees = g; room = refl } })
 
     -- every record; a store changes no byte that the tables fix
-    acted : (x : Act) → Lies row P x → Follows row n (did row a t x) (steps row n P x)
-    unfolding did steps
+    acted : (x : Operation) → Lies row P x → Follows row n (performed row a t x) (steps row n P x)
+    unfolding performed steps
     acted (grant k) s = call-follows-plan (grants k)
     acted (release o) s = call-follows-plan (releases o)
     acted (resize o k) s = call-follows-plan (resizes o k)
@@ -92,18 +92,18 @@ module _ (row : ℕ) (pos : 0 < row) (n : ℕ) (h : T (arenaRight row n)) where
   lines P a t i [] r s = refl
   lines P a t i (Item.bad ∷ xs) r s = refl
   lines P a t i (does x ∷ xs) r s =
-      let f : Follows row n (did row a t x) (steps row n P x) = acted P a t r x (s .0) in
+      let f : Follows row n (performed row a t x) (steps row n P x) = acted P a t r x (s .0) in
       ap₂ (lineThen i) (f .tells) (lines _ _ _ (suc i) xs (f .holds) (s .1))
 
 -- ---- records without the bytes that they store
 
 module _ (row n : ℕ) where
   -- two records that are the same to the model, which is told only how many bytes are stored
-  record Like (x y : Act) : Type 1 where
+  record Like (x y : Operation) : Type 1 where
     steps-same : (P : Pool) → steps row n P x ≡ steps row n P y
     lies-same : (P : Pool) → Lies row P x ≡ Lies row P y
 
-  itself : (x : Act) → Like x x
+  itself : (x : Operation) → Like x x
   itself x = record { steps-same = λ P. refl; lies-same = λ P. refl }
 
   store-like : (o : ℕ) (bs cs : List ℕ) → length bs ≡ length cs → Like (store o bs) (store o cs)
@@ -114,7 +114,7 @@ module _ (row n : ℕ) where
   }
 
   -- what is so of records that are the same to the model is so of a record without its bytes beside the record
-  on-blank {ℓ} : (M : Item → Item → Type ℓ) → ((x y : Act) → Like x y → M (does x) (does y)) → M Item.bad Item.bad → (x : Item) → M (blank x) x
+  on-blank {ℓ} : (M : Item → Item → Type ℓ) → ((x y : Operation) → Like x y → M (does x) (does y)) → M Item.bad Item.bad → (x : Item) → M (blank x) x
   on-blank M f b (does (grant k)) = f _ _ (itself (grant k))
   on-blank M f b (does (release o)) = f _ _ (itself (release o))
   on-blank M f b (does (resize o k)) = f _ _ (itself (resize o k))

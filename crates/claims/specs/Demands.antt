@@ -5,6 +5,8 @@ use lib.Dec.{T}
 use Rattle.mem.specs.Lists.{every}
 use Rattle.classes.specs.Facts.{AllClasses}
 use Rattle.model.specs.Bench.{sheet, right}
+use Rattle.trace.specs.Sheet as traces
+use Rattle.trace.specs.Written.{ReadsBack, WritesBack}
 use Rattle.claims.specs.Tables.{TableForm}
 use Rattle.claims.specs.Bench.{TooLargeAnywhere}
 use Rattle.claims.specs.Demand1.{Demand1}
@@ -12,6 +14,7 @@ use Rattle.claims.specs.Demand2.{ReleasesExactly, MeasuresExactly, Grant
 use Rattle.claims.specs.AsSaid.{NeverAtZero, GuardsAsSaid, SetsUpAsSaid, ReadsOnly, ReportsAsSaid, ReleasesAsSaid, ResizesAsSaid}
 use Rattle.claims.specs.Demand3.{RoomFollows, SteersNothing, StoresAdmitted}
 use Rattle.claims.specs.History.{History}
+use Rattle.claims.specs.Traces.{LinesModelled, StoresSteerNothing}
 
 pub record Demands (row : ℕ) : Type 0 where
   -- 1: every call ends with the first answer due, and a refusal changes nothing
@@ -40,3 +43,9 @@ pub record Demands (row : ℕ) : Type 0 where
   pub all-classes : AllClasses
   pub bench : T (every right sheet)
   pub too-large-anywhere : TooLargeAnywhere row
+  -- replay: traces are read as they are written, their lines are those due, and stored packet bytes steer no line
+  pub reads-back : ReadsBack
+  pub writes-back : WritesBack
+  pub lines-due : T (every traces.right traces.sheet)
+  pub lines-modelled : LinesModelled row
+  pub stores-steer-nothing : StoresSteerNothing row

@@ -12,7 +12,7 @@ use Rattle.model.specs.State.{Pool}
 use Rattle.model.specs.Answers.{Answer, done}
 use Rattle.model.specs.Plans.{Plan, grants, releases, resizes, measures, reports, plan}
 use Rattle.model.specs.Calls.{setUpRight}
-use Rattle.trace.specs.Trace.{Act, grant, release, resize, measure, store, report, Item, does, items}
+use Rattle.trace.specs.Trace.{Operation, grant, release, resize, measure, store, report, Item, does, items}
 use Rattle.trace.specs.Replay.{Line, lineThen, traceRight, replayedOver, replayed}
 use Rattle.claims.specs.Demand3.{fed, requested}
 
@@ -41,7 +41,7 @@ stepped p = record { tells = some (p .answer); pool = p .pool }
 
 module _ (row : ℕ) where
   -- in an arena of n bytes; of the bytes that are stored it is told how many they are
-  unfoldable pub steps : ℕ → Pool → Act → Stepped
+  unfoldable pub steps : ℕ → Pool → Operation → Stepped
   steps n P (grant k) = stepped (plan row P (grants k))
   steps n P (release o) = stepped (plan row P (releases o))
   steps n P (resize o k) = stepped (plan row P (resizes o k))
@@ -57,7 +57,7 @@ module _ (row : ℕ) where
   modelLines n P i (does x ∷ xs) = let d = steps n P x in lineThen i (d .tells) (modelLines n (d .pool) (suc i) xs)
 
   -- the bytes of a store are requested bytes of live blocks
-  abbrev pub Lies : Pool → Act → Type 0
+  abbrev pub Lies : Pool → Operation → Type 0
   Lies P (grant k) = Unit {0}
   Lies P (release o) = Unit {0}
   Lies P (resize o k) = Unit {0}

@@ -8,31 +8,31 @@ use Rattle.mem.proofs.Laws.{put-nil, put-cons, put-append, put-length}
 use Rattle.model.specs.Answers.{Answer, done}
 use Rattle.model.specs.Calls.{Result}
 use Rattle.trace.specs.Trace.{store}
-use Rattle.trace.specs.Replay.{Deed, deed, did}
+use Rattle.trace.specs.Replay.{Effect, effect, performed}
 
 -- what a record leaves, part by part
-abbrev pub Parts : Deed → Deed → Type 0
+abbrev pub Parts : Effect → Effect → Type 0
 Parts e d = (e .tells ≡ d .tells) × ((e .arena ≡ d .arena) × (e .room ≡ d .room))
 
-pub parts : (e d : Deed) → d ≡ e → Parts e d
-parts e d h = (ap (λ (x : Deed). x .tells) (sym h), (ap (λ (x : Deed). x .arena) (sym h), ap (λ (x : Deed). x .room) (sym h)))
+pub parts : (e d : Effect) → d ≡ e → Parts e d
+parts e d h = (ap (λ (x : Effect). x .tells) (sym h), (ap (λ (x : Effect). x .arena) (sym h), ap (λ (x : Effect). x .room) (sym h)))
 
 -- a record that makes a call, by what the call promises
-pub of-call : (d : Deed) (r : Result) (x : Answer) (b u : List ℕ) → d ≡ deed r → x ≡ r .answer → b ≡ r .arena → u ≡ r .room
+pub of-call : (d : Effect) (r : Result) (x : Answer) (b u : List ℕ) → d ≡ effect r → x ≡ r .answer → b ≡ r .arena → u ≡ r .room
     → Parts (record { tells = some x; arena = b; room = u }) d
 of-call d r x b u e f g h =
-    (ap some f ∙ parts (deed r) d e .0, (g ∙ parts (deed r) d e .1 .0, h ∙ parts (deed r) d e .1 .1))
+    (ap some f ∙ parts (effect r) d e .0, (g ∙ parts (effect r) d e .1 .0, h ∙ parts (effect r) d e .1 .1))
 
 -- a store that ends inside the arena, and one that does not
 module _ (row : ℕ) (a t bs b : List ℕ) (o : ℕ) (r : Bool) (e : r ≡ leb (o + length bs) (length a)) (f : b ≡ choose r (put o bs a) a) where
-  pub stored : r ≡ true → did row a t (store o bs) ≡ record { tells = some (done (0 ∷ [])); arena = b; room = t }
-  unfolding did
+  pub stored : r ≡ true → performed row a t (store o bs) ≡ record { tells = some (done (0 ∷ [])); arena = b; room = t }
+  unfolding performed
   stored h =
       choose-true _ _ _ (sym e ∙ h)
       ∙ ap (λ (c : List ℕ). record { tells = some (done (0 ∷ [])); arena = c; room = t }) (sym (f ∙ choose-true r _ _ h))
 
-  pub not-stored : r ≡ false → did row a t (store o bs) ≡ record { tells = none; arena = b; room = t }
-  unfolding did
+  pub not-stored : r ≡ false → performed row a t (store o bs) ≡ record { tells = none; arena = b; room = t }
+  unfolding performed
   not-stored h =
       choose-false _ _ _ (sym e ∙ h)
       ∙ ap (λ (c : List ℕ). record { tells = none; arena = c; room = t }) (sym (f ∙ choose-false r _ _ h))

@@ -8,8 +8,8 @@ use Rattle.model.specs.Plans.{setsUp}
 use Rattle.model.specs.Calls.{call}
 use Rattle.trace.specs.declared.Op.{Op}
 use Rattle.trace.specs.declared.Step.{Step}
-use Rattle.trace.specs.Trace.{Item, stepAt, actOf, itemsBy, itemsFrom, items}
-use Rattle.trace.specs.Replay.{Line, did, lineOf, goOn, linesFrom, traceRight, replayedOver}
+use Rattle.trace.specs.Trace.{Item, stepAt, operationOf, itemsBy, itemsFrom, items}
+use Rattle.trace.specs.Replay.{Line, performed, lineOf, goOn, linesFrom, traceRight, replayedOver}
 use Rattle.player.specs.Printed.{lineText, linesText, printed, playedText, isBad}
 
 -- the text of the records from a place on, the first of which is record i
@@ -57,7 +57,7 @@ module _ (a t s : List ℕ) (i at : ℕ) (h : i ≤ length s) where
 
   -- the line of a record, and what is behind it
   module _ (op : Op) (q : ℕ) (e : Step.Record op q ≡ stepAt s at) (x : Option Answer) (b u : List ℕ)
-      (d : x ≡ did rowBytes a t (actOf s op) .tells) (f : b ≡ did rowBytes a t (actOf s op) .arena) (g : u ≡ did rowBytes a t (actOf s op) .room) where
+      (d : x ≡ performed rowBytes a t (operationOf s op) .tells) (f : b ≡ performed rowBytes a t (operationOf s op) .arena) (g : u ≡ performed rowBytes a t (operationOf s op) .room) where
     pub turn : Rest a t s i at ≡ lineText (lineOf i x) ++ Behind x b u s (i + 1) q
     unfolding linesText linesFrom
     turn =

@@ -7,8 +7,8 @@ ghost use Rattle.io.specs.Counts.{Counts};
 ghost use Rattle.mem.specs.Lists.{choose, join};
 ghost use Rattle.mem.specs.Bytes.{put};
 ghost use Rattle.classes.specs.Classes.{rowBytes};
-ghost use Rattle.trace.specs.Trace.{Within, actOf};
-ghost use Rattle.trace.specs.Replay.{Line, did, lineOf, traceRight};
+ghost use Rattle.trace.specs.Trace.{Within, operationOf};
+ghost use Rattle.trace.specs.Replay.{Line, performed, lineOf, traceRight};
 ghost use Rattle.player.specs.Printed.{field, lineText, printed, playedText, answerOf, isBad};
 use model::Reply;
 use model::Report;
@@ -50,9 +50,9 @@ fn store(arena: &mut [u8], offset: usize, bytes: &[u8]) -> bool
 // What a record does. The bytes of a store are lent from the trace.
 pub fn perform(arena: &mut [u8], room: &mut [u8], trace: &[u8], op: Op) -> Told
     requires { ⌜ Within op (length (now trace)) ⌝ }
-    ensures { λ r. ⌜ answerOf r ≡ did rowBytes (now (arena .entry)) (now (room .entry)) (actOf (now (trace .entry)) op) .tells ⌝ }
-    ensures { λ r. ⌜ now (arena .exit) ≡ did rowBytes (now (arena .entry)) (now (room .entry)) (actOf (now (trace .entry)) op) .arena ⌝ }
-    ensures { λ r. ⌜ now (room .exit) ≡ did rowBytes (now (arena .entry)) (now (room .entry)) (actOf (now (trace .entry)) op) .room ⌝ }
+    ensures { λ r. ⌜ answerOf r ≡ performed rowBytes (now (arena .entry)) (now (room .entry)) (operationOf (now (trace .entry)) op) .tells ⌝ }
+    ensures { λ r. ⌜ now (arena .exit) ≡ performed rowBytes (now (arena .entry)) (now (room .entry)) (operationOf (now (trace .entry)) op) .arena ⌝ }
+    ensures { λ r. ⌜ now (room .exit) ≡ performed rowBytes (now (arena .entry)) (now (room .entry)) (operationOf (now (trace .entry)) op) .room ⌝ }
 {
     match op {
         Op::Grant(n) => Told::One(pool::grant(arena, room, n)),

@@ -9,12 +9,12 @@ use Rattle.model.specs.Plans.{plan, opens, refill, grantSlot, inPlace}
 use Rattle.model.specs.Tables.{slotRecord, rowRecord, laterRecords, roomBytes, viewSlot, viewSlots, viewGroup, viewHolder, spanRecordsBy, encodeBy}
 use Rattle.model.specs.Tables.{viewRowsBy, viewBy, arenaRight, soundBy}
 use Rattle.model.specs.Calls.{callBy, carriedBy, checkedBy, setUpBy, setUpRightBy, unless}
-use Rattle.trace.specs.Trace.{body, encodeRecord, encodeTrace, fits, opAt, recordAt, stepAt, actOf, itemsFrom, items}
-use Rattle.trace.specs.Replay.{traceRight, did, linesFrom, replayedOver, replayed}
+use Rattle.trace.specs.Trace.{body, encodeRecord, encodeTrace, fits, opAt, recordAt, stepAt, operationOf, itemsFrom, items}
+use Rattle.trace.specs.Replay.{traceRight, performed, linesFrom, replayedOver, replayed}
 use Rattle.trace.specs.Sheet.{sheet, right}
 
 pub lines-due : T (every right sheet)
-unfolding right sheet body encodeRecord encodeTrace fits opAt recordAt stepAt actOf itemsFrom items traceRight did linesFrom replayedOver replayed
+unfolding right sheet body encodeRecord encodeTrace fits opAt recordAt stepAt operationOf itemsFrom items traceRight performed linesFrom replayedOver replayed
     choose zeros rowBytes tooLarge unitsOf slotBytes slotsOf rowsOf classOf slotSound spanSound places header guard firstSpare spare
     frame headerRight guardRight damageIn
     opens refill grantSlot inPlace plan slotRecord rowRecord laterRecords spanRecordsBy roomBytes viewSlot viewSlots viewGroup viewHolder viewRowsBy

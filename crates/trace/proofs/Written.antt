@@ -14,15 +14,15 @@ use Rattle.mem.proofs.Big.{high-length, big-high, high-big}
 use Rattle.trace.specs.declared.Op.{Op}
 use Rattle.trace.specs.declared.Step.{Step}
 use Rattle.trace.specs.declared.Step.the-variants.{Record, Bad, End}
-use Rattle.trace.specs.Trace.{Act, grant, release, resize, measure, store, report, body, encodeRecord, encodeTrace, writable, four, fits, opAt, recordAt}
-use Rattle.trace.specs.Trace.{stepAt, actOf, Item, does, itemsBy, itemsFrom, items}
+use Rattle.trace.specs.Trace.{Operation, grant, release, resize, measure, store, report, body, encodeRecord, encodeTrace, writable, four, fits, opAt, recordAt}
+use Rattle.trace.specs.Trace.{stepAt, operationOf, Item, does, itemsBy, itemsFrom, items}
 use Rattle.trace.specs.Written.{ReadsBack, WritesBack}
 use Rattle.trace.proofs.Laws.{fits-none, fits-at, five, nine, record-good, at-end, whole, step-within}
 
 -- ---- one record, read
 
 -- the length of a record can count its bytes
-body-small : (x : Act) → T (writable x) → length (body x) < 65536
+body-small : (x : Operation) → T (writable x) → length (body x) < 65536
 unfolding body writable
 body-small (grant n) t = omega arith
 body-small (release o) t = omega arith
@@ -45,9 +45,9 @@ first-read s p n k Y e =
     ap (λ i. getD s i 0) z ∙ sym (getD-part p (suc n) s 0 0 (omega arith)) ∙ ap (λ l. getD l 0 0) e
 
 -- where the bytes of a record stand, it is read
-read-body : (x : Act) (s : List ℕ) (p : ℕ) → T (writable x) → part p (length (body x)) s ≡ body x
-    → (fits (getD s p 0) (length (body x)) ≡ true) × (actOf s (opAt (getD s p 0) s p (length (body x))) ≡ x)
-unfolding body writable fits opAt actOf choose
+read-body : (x : Operation) (s : List ℕ) (p : ℕ) → T (writable x) → part p (length (body x)) s ≡ body x
+    → (fits (getD s p 0) (length (body x)) ≡ true) × (operationOf s (opAt (getD s p 0) s p (length (body x))) ≡ x)
+unfolding body writable fits opAt operationOf choose
 read-body (grant n) s p t e = rw (first-read s p 4 1 (high 4 n) e) (refl, ap grant (four-read s p 5 1 n (1 ∷ []) [] e refl (omega arith) t))
 read-body (release o) s p t e = rw (first-read s p 4 2 (high 4 o) e) (refl, ap release (four-read s p 5 1 o (2 ∷ []) [] e refl (omega arith) t))
 read-body (resize o n) s p t e =
@@ -69,14 +69,14 @@ read-body report s p t e = rw (first-read s p 0 6 [] e) (refl, refl)
 -- ---- all records, read
 
 -- the step at a place where a written record stands, and behind it R
-record Read (s : List ℕ) (p : ℕ) (x : Act) (R : List ℕ) : Type 0 where
+record Read (s : List ℕ) (p : ℕ) (x : Operation) (R : List ℕ) : Type 0 where
   op : Op
   next : ℕ
   step : Record op next ≡ stepAt s p
-  act : actOf s op ≡ x
+  act : operationOf s op ≡ x
   rest : drop next s ≡ R
 
-step-read : (s : List ℕ) (p : ℕ) (x : Act) (R : List ℕ) → T (writable x) → drop p s ≡ encodeRecord x ++ R → Read s p x R
+step-read : (s : List ℕ) (p : ℕ) (x : Operation) (R : List ℕ) → T (writable x) → drop p s ≡ encodeRecord x ++ R → Read s p x R
 unfolding encodeRecord
 step-read s p x R t e =
     let n : ℕ = length (body x) in
@@ -94,7 +94,7 @@ step-read s p x R t e =
     }
 
 -- from a place on
-reads-from : (s : List ℕ) (k p : ℕ) (xs : List Act) → T (every writable xs) → length xs ≤ k → drop p s ≡ join encodeRecord xs
+reads-from : (s : List ℕ) (k p : ℕ) (xs : List Operation) → T (every writable xs) → length xs ≤ k → drop p s ≡ join encodeRecord xs
     → itemsFrom k s p ≡ map does xs
 unfolding itemsFrom
 reads-from s zero p [] t h e = refl
@@ -106,7 +106,7 @@ reads-from s (suc k) p (x ∷ xs) t h e =
     ∙ ap₂ (λ y l. does y ∷ l) (r .act) (reads-from s k (r .next) xs (and-right (writable x) (every writable xs) t) (omega arith) (r .rest))
 
 -- there are fewer records than bytes
-join-long : (xs : List Act) → length xs ≤ length (join encodeRecord xs)
+join-long : (xs : List Operation) → length xs ≤ length (join encodeRecord xs)
 unfolding encodeRecord
 join-long [] = omega arith
 join-long (x ∷ xs) = omega (arith, length-append (body x) (join encodeRecord xs), join-long xs)
@@ -141,8 +141,8 @@ module _ (s : List ℕ) (t : T (every (λ b. ltb b 256) s)) where
       ∙ ap₂ (λ x r. x ++ r) (sym (high-part (p + 1) 4 (omega arith))) (ap (take m) (drop-drop 4 (p + 1) s ∙ ap (λ j. drop j s) c))))
 
   -- a record that fits is written as it stands
-  written : (k p n : ℕ) → fits k n ≡ true → getD s p 0 ≡ k → p + n ≤ length s → body (actOf s (opAt k s p n)) ≡ part p n s
-  unfolding opAt actOf body fits choose
+  written : (k p n : ℕ) → fits k n ≡ true → getD s p 0 ≡ k → p + n ≤ length s → body (operationOf s (opAt k s p n)) ≡ part p n s
+  unfolding opAt operationOf body fits choose
   written k p n f e h =
       choose-case W (eqb k 1) _ _ (λ a. one (eqb-true k 1 a) (eqb-true n 5))
       (λ a. choose-case W (eqb k 2) _ _ (λ b. one (eqb-true k 2 b) (eqb-true n 5))
@@ -152,7 +152,7 @@ module _ (s : List ℕ) (t : T (every (λ b. ltb b 256) s)) where
       (λ g. last (six k n f (eqb-false k 1 a) (eqb-false k 2 b) (eqb-false k 3 c) (eqb-false k 4 d) (eqb-false k 5 g)))))))
     where
       W : Op → Type 0
-      W o = body (actOf s o) ≡ part p n s
+      W o = body (operationOf s o) ≡ part p n s
 
       one : {j : ℕ} → k ≡ j → (fits j n ≡ true → n ≡ 5) → j ∷ high 4 (four s (p + 1)) ≡ part p n s
       one {j} a l = number-written p j 0 n (e ∙ a) (l (fits-at k j n a f)) h
@@ -174,16 +174,16 @@ module _ (s : List ℕ) (t : T (every (λ b. ltb b 256) s)) where
 
   -- what a step takes of the trace is what is written for it
   abbrev Wrote : ℕ → Step → Type 0
-  Wrote p (Record op q) = encodeRecord (actOf s op) ++ drop q s ≡ drop p s
+  Wrote p (Record op q) = encodeRecord (operationOf s op) ++ drop q s ≡ drop p s
   Wrote p Bad = Unit {0}
   Wrote p End = length s ≤ p
 
   -- its length too
   record-wrote : (p n : ℕ) → big (part p 2 s) ≡ n → fits (getD s (p + 2) 0) n ≡ true → p + 2 + n ≤ length s
-      → encodeRecord (actOf s (opAt (getD s (p + 2) 0) s (p + 2) n)) ++ drop (p + 2 + n) s ≡ drop p s
+      → encodeRecord (operationOf s (opAt (getD s (p + 2) 0) s (p + 2) n)) ++ drop (p + 2 + n) s ≡ drop p s
   unfolding encodeRecord
   record-wrote p n e f h =
-      let x : Act = actOf s (opAt (getD s (p + 2) 0) s (p + 2) n) in
+      let x : Operation = operationOf s (opAt (getD s (p + 2) 0) s (p + 2) n) in
       let b : body x ≡ part (p + 2) n s = written (getD s (p + 2) 0) (p + 2) n f refl h in
       let l : length (body x) ≡ big (part p 2 s) = ap length b ∙ part-length (p + 2) n s h ∙ sym e in
       let a : high 2 (length (body x)) ≡ part p 2 s = ap (high 2) l ∙ high-part p 2 (omega arith) in
@@ -202,12 +202,12 @@ module _ (s : List ℕ) (t : T (every (λ b. ltb b 256) s)) where
       (λ f. record-wrote p (big (part p 2 s)) refl f (ltb-false (length s) (p + 2 + big (part p 2 s)) e)) (λ _. tt))))
 
   -- what is read of a step and of what stands behind it
-  step-back : (p : ℕ) (d : Step) (rest : ℕ → List Item) (xs : List Act) → Wrote p d
-      → ((op : Op) (q : ℕ) → d ≡ Record op q → (ys : List Act) → rest q ≡ map does ys → join encodeRecord ys ≡ drop q s)
+  step-back : (p : ℕ) (d : Step) (rest : ℕ → List Item) (xs : List Operation) → Wrote p d
+      → ((op : Op) (q : ℕ) → d ≡ Record op q → (ys : List Operation) → rest q ≡ map does ys → join encodeRecord ys ≡ drop q s)
       → itemsBy s rest d ≡ map does xs → join encodeRecord xs ≡ drop p s
   step-back p (Record op q) rest [] w r e = cc
   step-back p (Record op q) rest (x ∷ xs) w r e =
-      let a : actOf s op ≡ x = cc in
+      let a : operationOf s op ≡ x = cc in
       let b : rest q ≡ map does xs = cc in
       ap₂ (λ y l. encodeRecord y ++ l) (sym a) (r op q refl xs b) ∙ w
   step-back p Bad rest [] w r e = cc
@@ -216,7 +216,7 @@ module _ (s : List ℕ) (t : T (every (λ b. ltb b 256) s)) where
   step-back p End rest (x ∷ xs) w r e = cc
 
   -- from a place on, with fuel for every byte that is left
-  writes-from : (k p : ℕ) (xs : List Act) → length s ≤ p + k → itemsFrom k s p ≡ map does xs → join encodeRecord xs ≡ drop p s
+  writes-from : (k p : ℕ) (xs : List Operation) → length s ≤ p + k → itemsFrom k s p ≡ map does xs → join encodeRecord xs ≡ drop p s
   unfolding itemsFrom
   writes-from zero p [] h e = sym (drop-of-length-le s {i = p} (omega arith))
   writes-from zero p (x ∷ xs) h e = cc

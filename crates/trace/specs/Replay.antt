@@ -12,7 +12,7 @@ use Rattle.model.specs.Answers.{Answer, done}
 use Rattle.model.specs.Plans.{setsUp, grants, releases, resizes, measures, reports}
 use Rattle.model.specs.Tables.{roomBytes}
 use Rattle.model.specs.Calls.{Result, call}
-use Rattle.trace.specs.Trace.{Act, grant, release, resize, measure, store, report, Item, does, items}
+use Rattle.trace.specs.Trace.{Operation, grant, release, resize, measure, store, report, Item, does, items}
 
 -- "The replay program sets up a pool of 16,384 bytes"
 abbrev pub arenaBytes : ℕ
@@ -31,13 +31,13 @@ pub data Line : Type 0 where
   bad : (number : ℕ) → Line
 
 -- what a record does: the answer that its line tells, none if the record is bad, and what it leaves of arena and tables
-pub record Deed : Type 0 where
+pub record Effect : Type 0 where
   pub tells : Option Answer
   pub arena : List ℕ
   pub room : List ℕ
 
-abbrev pub deed : Result → Deed
-deed r = record { tells = some (r .answer); arena = r .arena; room = r .room }
+abbrev pub effect : Result → Effect
+effect r = record { tells = some (r .answer); arena = r .arena; room = r .room }
 
 -- the line of record i, by what it tells
 abbrev pub lineOf : ℕ → Option Answer → Line
@@ -58,21 +58,21 @@ traceRight s = leb 1 (length s) && leb (length s) mostBytes && eqb (getD s 0 0) 
 
 module _ (row : ℕ) where
   -- "a store prints `0 0`"; "a store ending past the arena" is bad, and stores nothing
-  unfoldable pub did : List ℕ → List ℕ → Act → Deed
-  did a t (grant n) = deed (call row a t (grants n))
-  did a t (release o) = deed (call row a t (releases o))
-  did a t (resize o n) = deed (call row a t (resizes o n))
-  did a t (measure o) = deed (call row a t (measures o))
-  did a t (store o bs) =
+  unfoldable pub performed : List ℕ → List ℕ → Operation → Effect
+  performed a t (grant n) = effect (call row a t (grants n))
+  performed a t (release o) = effect (call row a t (releases o))
+  performed a t (resize o n) = effect (call row a t (resizes o n))
+  performed a t (measure o) = effect (call row a t (measures o))
+  performed a t (store o bs) =
       choose (leb (o + length bs) (length a)) (record { tells = some (done (0 ∷ [])); arena = put o bs a; room = t })
       (record { tells = none; arena = a; room = t })
-  did a t report = deed (call row a t reports)
+  performed a t report = effect (call row a t reports)
 
   -- the lines of records, the first of which is record i: "prints `bad` and the record's number from 1 .. and ends"
   unfoldable pub linesFrom : List ℕ → List ℕ → ℕ → List Item → List Line
   linesFrom a t i [] = []
   linesFrom a t i (Item.bad ∷ xs) = Line.bad i ∷ []
-  linesFrom a t i (does x ∷ xs) = let d = did a t x in lineThen i (d .tells) (linesFrom (d .arena) (d .room) (suc i) xs)
+  linesFrom a t i (does x ∷ xs) = let d = performed a t x in lineThen i (d .tells) (linesFrom (d .arena) (d .room) (suc i) xs)
 
   -- a trace replayed over an arena and a table room, which are set up first: "0 for the version"
   unfoldable pub replayedOver : List ℕ → List ℕ → List ℕ → List Line

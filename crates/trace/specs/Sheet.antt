@@ -5,7 +5,7 @@ use mathlib.Core.List.{List, [], _∷_, _++_}
 use lib.Dec.{eqb}
 use Rattle.mem.specs.Bytes.{zeros, same}
 use Rattle.model.specs.Answers.{Answer, done}
-use Rattle.trace.specs.Trace.{Act, grant, release, resize, measure, store, report, encodeRecord, encodeTrace}
+use Rattle.trace.specs.Trace.{Operation, grant, release, resize, measure, store, report, encodeRecord, encodeTrace}
 use Rattle.trace.specs.Replay.{Line, told, bad, replayed}
 
 -- a trace, and its lines
@@ -17,8 +17,8 @@ pub record Entry : Type 0 where
 abbrev pub bytes : List ℕ → List Line → Entry
 bytes s ls = record { trace = s; due = ls }
 
-abbrev pub acts : List Act → List Line → Entry
-acts xs ls = bytes (encodeTrace xs) ls
+abbrev pub written : List Operation → List Line → Entry
+written xs ls = bytes (encodeTrace xs) ls
 
 -- a value, or a refusal
 abbrev pub gives : ℕ → Line
@@ -38,20 +38,20 @@ sheet =
     ∷ bytes (2 ∷ 0 ∷ 1 ∷ 6 ∷ []) (bad 0 ∷ [])
     ∷ bytes (0 ∷ 0 ∷ 1 ∷ 6 ∷ []) (bad 0 ∷ [])
     -- every operation: W7's block with a report, a store, a resize in place, a measure, two releases
-    ∷ acts (grant 160 ∷ report ∷ store 16 (7 ∷ 9 ∷ []) ∷ resize 16 188 ∷ measure 16 ∷ grant 160 ∷ release 16 ∷ release 16 ∷ report ∷ [])
+    ∷ written (grant 160 ∷ report ∷ store 16 (7 ∷ 9 ∷ []) ∷ resize 16 188 ∷ measure 16 ∷ grant 160 ∷ release 16 ∷ release 16 ∷ report ∷ [])
     (gives 16 ∷ told (done (1 ∷ 160 ∷ 8 ∷ 24 ∷ 20 ∷ 0 ∷ [])) ∷ gives 0 ∷ gives 16 ∷ gives 188 ∷ gives 208 ∷ gives 0 ∷ refuses 5
     ∷ told (done (1 ∷ 160 ∷ 8 ∷ 24 ∷ 19 ∷ 1 ∷ [])) ∷ [])
     -- stores may lie anywhere: a wrong header, a wrong guard
-    ∷ acts (grant 160 ∷ store 13 (1 ∷ []) ∷ release 16 ∷ store 13 (160 ∷ []) ∷ store 199 (1 ∷ []) ∷ measure 16 ∷ [])
+    ∷ written (grant 160 ∷ store 13 (1 ∷ []) ∷ release 16 ∷ store 13 (160 ∷ []) ∷ store 199 (1 ∷ []) ∷ measure 16 ∷ [])
     (gives 16 ∷ gives 0 ∷ refuses 6 ∷ gives 0 ∷ gives 0 ∷ refuses 7 ∷ [])
     -- the other refusals
-    ∷ acts (grant 131052 ∷ grant 131051 ∷ grant 4294967295 ∷ release 4294967295 ∷ []) (refuses 3 ∷ refuses 8 ∷ refuses 3 ∷ refuses 4 ∷ [])
+    ∷ written (grant 131052 ∷ grant 131051 ∷ grant 4294967295 ∷ release 4294967295 ∷ []) (refuses 3 ∷ refuses 8 ∷ refuses 3 ∷ refuses 4 ∷ [])
     -- "a store ending past the arena": up to its end, one byte past it, and where the sum is past 2^32; of no bytes at the end and past it
-    ∷ acts (store 16383 (7 ∷ []) ∷ store 16383 (7 ∷ 8 ∷ []) ∷ report ∷ []) (gives 0 ∷ bad 2 ∷ [])
-    ∷ acts (store 4294967295 (1 ∷ []) ∷ []) (bad 1 ∷ [])
-    ∷ acts (store 16384 [] ∷ store 16385 [] ∷ []) (gives 0 ∷ bad 2 ∷ [])
+    ∷ written (store 16383 (7 ∷ []) ∷ store 16383 (7 ∷ 8 ∷ []) ∷ report ∷ []) (gives 0 ∷ bad 2 ∷ [])
+    ∷ written (store 4294967295 (1 ∷ []) ∷ []) (bad 1 ∷ [])
+    ∷ written (store 16384 [] ∷ store 16385 [] ∷ []) (gives 0 ∷ bad 2 ∷ [])
     -- 65,535 bytes are read: one record, whose store is too long for the arena
-    ∷ acts (store 0 (zeros 65527) ∷ []) (bad 1 ∷ [])
+    ∷ written (store 0 (zeros 65527) ∷ []) (bad 1 ∷ [])
     -- "Any other .. length or operation": no bytes, one too few, one too many, operations 0 and 7; earlier lines stay
     ∷ bytes (1 ∷ 0 ∷ 0 ∷ []) (bad 1 ∷ [])
     ∷ bytes (1 ∷ 0 ∷ 4 ∷ 2 ∷ 0 ∷ 0 ∷ 0 ∷ []) (bad 1 ∷ [])

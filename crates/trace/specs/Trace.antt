@@ -12,18 +12,18 @@ use Rattle.trace.specs.declared.Step.{Step}
 use Rattle.trace.specs.declared.Step.the-variants.{Record, Bad, End}
 
 -- "Operations: 1 grant n, 2 release offset, 3 resize offset n, 4 measure offset, 5 store offset and the bytes that follow, 6 report."
-pub data Act : Type 0 where
-  grant : (n : ℕ) → Act
-  release : (offset : ℕ) → Act
-  resize : (offset n : ℕ) → Act
-  measure : (offset : ℕ) → Act
-  store : (offset : ℕ) (bytes : List ℕ) → Act
-  report : Act
+pub data Operation : Type 0 where
+  grant : (n : ℕ) → Operation
+  release : (offset : ℕ) → Operation
+  resize : (offset n : ℕ) → Operation
+  measure : (offset : ℕ) → Operation
+  store : (offset : ℕ) (bytes : List ℕ) → Operation
+  report : Operation
 
 -- THE WRITER
 
 -- "an operation byte and four-byte big-endian numbers"
-unfoldable pub body : Act → List ℕ
+unfoldable pub body : Operation → List ℕ
 body (grant n) = 1 ∷ high 4 n
 body (release o) = 2 ∷ high 4 o
 body (resize o n) = 3 ∷ (high 4 o ++ high 4 n)
@@ -32,15 +32,15 @@ body (store o bs) = 5 ∷ (high 4 o ++ bs)
 body report = 6 ∷ []
 
 -- "each record then has its length first, two bytes big-endian, counting what follows"
-unfoldable pub encodeRecord : Act → List ℕ
+unfoldable pub encodeRecord : Operation → List ℕ
 encodeRecord x = high 2 (length (body x)) ++ body x
 
 -- "A trace .. starts with a version byte, 1"
-unfoldable pub encodeTrace : List Act → List ℕ
+unfoldable pub encodeTrace : List Operation → List ℕ
 encodeTrace xs = 1 ∷ join encodeRecord xs
 
 -- what a record can hold: numbers of four bytes, and as many stored bytes as its length can count
-unfoldable pub writable : Act → Bool
+unfoldable pub writable : Operation → Bool
 writable (grant n) = ltb n 4294967296
 writable (release o) = ltb o 4294967296
 writable (resize o n) = ltb o 4294967296 && ltb n 4294967296
@@ -96,21 +96,21 @@ Within (Measure o) m = Unit {0}
 Within Report m = Unit {0}
 
 -- an operation with the bytes that it stores, which stand in the trace s
-unfoldable pub actOf : List ℕ → Op → Act
-actOf s (Grant n) = grant n
-actOf s (Release o) = release o
-actOf s (Resize o n) = resize o n
-actOf s (Measure o) = measure o
-actOf s (Store o from to) = store o (part from (to - from) s)
-actOf s Report = report
+unfoldable pub operationOf : List ℕ → Op → Operation
+operationOf s (Grant n) = grant n
+operationOf s (Release o) = release o
+operationOf s (Resize o n) = resize o n
+operationOf s (Measure o) = measure o
+operationOf s (Store o from to) = store o (part from (to - from) s)
+operationOf s Report = report
 
 -- what a trace holds: an operation, or what is no record
 pub data Item : Type 0 where
-  does : Act → Item
+  does : Operation → Item
   bad : Item
 
 abbrev pub itemsBy : List ℕ → (ℕ → List Item) → Step → List Item
-itemsBy s rest (Record op q) = does (actOf s op) ∷ rest q
+itemsBy s rest (Record op q) = does (operationOf s op) ∷ rest q
 itemsBy s rest Bad = bad ∷ []
 itemsBy s rest End = []
 

@@ -115,16 +115,6 @@ pub fn next<'a>(r: Reader<'a>) -> Step
     step_at(r.trace, r.place)
 }
 
-// The reader at another place of its trace.
-pub fn moved<'a>(r: Reader<'a>, place: usize) -> Reader<'a>
-    ensures { λ q. ⌜ (q .trace ≡ r .entry .trace) × (q .place ≡ place) ⌝ }
-{
-    Reader {
-        trace: r.trace,
-        place,
-    }
-}
-
 // What a reader finds at a place. Its parameters are plain, so whoever calls it needs no walk.
 pub fn read(trace: &[u8], place: usize) -> Step
     ensures { λ r. ⌜ r ≡ stepAt (now (trace .entry)) place ⌝ }

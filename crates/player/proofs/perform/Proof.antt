@@ -7,15 +7,15 @@ use Rattle.model.specs.Plans.{grants, releases, resizes, measures, reports}
 use Rattle.model.specs.Calls.{call}
 use Rattle.model.proofs.Calls.{measure-keeps, report-keeps}
 use Rattle.trace.specs.declared.Op.{Op}
-use Rattle.trace.specs.Trace.{Within, actOf}
-use Rattle.trace.specs.Replay.{Deed, did}
+use Rattle.trace.specs.Trace.{Within, operationOf}
+use Rattle.trace.specs.Replay.{Effect, performed}
 use Rattle.player.proofs.Laws.{parts, of-call, stored, not-stored}
 use Rattle.player.proofs.perform.Statement.{statement}
 use Rattle.player.proofs.perform.Tie as tie
 
 -- what an operation does, at the function's entry
-abbrev does : (s : tie.Start) → Op → Deed
-does s o = did rowBytes (now (s .args .arena)) (now (s .args .room)) (actOf (now (s .args .trace)) o)
+abbrev does : (s : tie.Start) → Op → Effect
+does s o = performed rowBytes (now (s .args .arena)) (now (s .args .room)) (operationOf (now (s .args .trace)) o)
 
 -- the bytes of a store lie in the trace
 inside : (c : tie.After-op5) → (let s = c .before .before .before .before .before in Within (Op.Store (c .op5 .given .0 .0) (c .op5 .given .0 .1 .0) (c .op5 .given .0 .1 .1 .0)) (length (now (s .args .trace))))
@@ -31,7 +31,7 @@ part-store-end : tie.Need-part-store-end
 part-store-end c = inside (c .before .before) .1
 
 returns : tie.Need-returns
-unfolding did actOf
+unfolding performed operationOf
 returns c =
     let g = c .before .before .before .before in
     let s = g .before .before .before .before .before .before .before .before .before in
@@ -41,7 +41,7 @@ returns c =
     (ap (does s) (o .1)) (r .0) (r .1 .0) (r .1 .1)
 
 returns-2 : tie.Need-returns-2
-unfolding did actOf
+unfolding performed operationOf
 returns-2 c =
     let g = c .before .before .before .before in
     let s = g .before .before .before .before .before .before .before .before .before in
@@ -51,7 +51,7 @@ returns-2 c =
     (ap (does s) (o .1)) (r .0) (r .1 .0) (r .1 .1)
 
 returns-3 : tie.Need-returns-3
-unfolding did actOf
+unfolding performed operationOf
 returns-3 c =
     let g = c .before .before .before .before in
     let s = g .before .before .before .before .before .before .before .before .before in
@@ -61,7 +61,7 @@ returns-3 c =
     (replyAnswer (g .resize .result)) _ _ (ap (does s) (o .1)) (r .0) (r .1 .0) (r .1 .1)
 
 returns-4 : tie.Need-returns-4
-unfolding did actOf
+unfolding performed operationOf
 returns-4 c =
     let s = c .before .before .before .before .before .before .before .before .before in
     let a = s .args in
@@ -71,7 +71,7 @@ returns-4 c =
     (ap (does s) (o .1)) (c .measure .ensures) (sym (k .arena)) (sym (k .room))
 
 returns-5 : tie.Need-returns-5
-unfolding did actOf
+unfolding performed operationOf
 returns-5 c =
     let g = c .before .before .before in
     let s = g .before .before .before .before .before .before .before .before .before in
@@ -83,7 +83,7 @@ returns-5 c =
     (e .0) (e .1) (c .if1 .taken))
 
 returns-6 : tie.Need-returns-6
-unfolding did actOf
+unfolding performed operationOf
 returns-6 c =
     let g = c .before .before .before in
     let s = g .before .before .before .before .before .before .before .before .before in
@@ -95,7 +95,7 @@ returns-6 c =
     (e .0) (e .1) (c .if1 .left))
 
 returns-7 : tie.Need-returns-7
-unfolding did actOf
+unfolding performed operationOf
 returns-7 c =
     let s = c .before .before .before .before .before .before .before .before in
     let a = s .args in
