@@ -11,8 +11,8 @@ use Rattle.model.specs.Tables.{encode, arenaRight}
 use Rattle.model.specs.Calls.{Result, masked, applied, call, callBy, written}
 use Rattle.model.proofs.Fresh.{fresh-formed, whole-rows, set-up-lawful, set-up-done}
 use Rattle.model.proofs.Formed.{Formed, plan-formed}
-use Rattle.trace.specs.Trace.{Operation, grant, release, resize, measure, store, report, Item, does, items}
-use Rattle.trace.specs.Replay.{Line, Effect, effect, lineThen, traceRight, performed, linesFrom, replayedOver}
+use Rattle.trace.specs.Trace.{Operation, grant, release, resize, measure, store, report, Item, does, items, traceRight}
+use Rattle.trace.specs.Replay.{Line, Effect, effect, lineThen, performed, linesFrom, replayedOver}
 use Rattle.claims.specs.Demand3.{fed, requested, SameOutside}
 use Rattle.claims.specs.Traces.{blank, Stepped, stepped, steps, modelLines, Lies, StoresInside, LinesModelled, StoresSteerNothing}
 use Rattle.claims.proofs.Cells.{cells, Agrees}

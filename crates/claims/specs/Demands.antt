@@ -5,7 +5,7 @@ use lib.Dec.{T}
 use Rattle.mem.specs.Lists.{every}
 use Rattle.classes.specs.Facts.{AllClasses}
 use Rattle.model.specs.Bench.{sheet, right}
-use Rattle.trace.specs.Sheet as traces
+use Rattle.trace.specs.Sheet.{LinesDue}
 use Rattle.trace.specs.Written.{ReadsBack, WritesBack}
 use Rattle.claims.specs.Tables.{TableForm}
 use Rattle.claims.specs.Bench.{TooLargeAnywhere}
@@ -46,6 +46,6 @@ pub record Demands (row : ℕ) : Type 0 where
   -- replay: traces are read as they are written, their lines are those due, and stored packet bytes steer no line
   pub reads-back : ReadsBack
   pub writes-back : WritesBack
-  pub lines-due : T (every traces.right traces.sheet)
+  pub lines-due : LinesDue
   pub lines-modelled : LinesModelled row
   pub stores-steer-nothing : StoresSteerNothing row

@@ -10,32 +10,29 @@ use Rattle.model.specs.Calls.{Result}
 use Rattle.trace.specs.Trace.{store}
 use Rattle.trace.specs.Replay.{Effect, effect, performed}
 
--- what a record leaves, part by part
+-- what a record does, part by part
 abbrev pub Parts : Effect → Effect → Type 0
 Parts e d = (e .tells ≡ d .tells) × ((e .arena ≡ d .arena) × (e .room ≡ d .room))
 
-pub parts : (e d : Effect) → d ≡ e → Parts e d
+parts : (e d : Effect) → d ≡ e → Parts e d
 parts e d h = (ap (λ (x : Effect). x .tells) (sym h), (ap (λ (x : Effect). x .arena) (sym h), ap (λ (x : Effect). x .room) (sym h)))
 
 -- a record that makes a call, by what the call promises
-pub of-call : (d : Effect) (r : Result) (x : Answer) (b u : List ℕ) → d ≡ effect r → x ≡ r .answer → b ≡ r .arena → u ≡ r .room
+pub of-call : (d : Effect) (r : Result) (x : Answer) (b u : List ℕ) → d ≡ effect r → (x ≡ r .answer) × ((b ≡ r .arena) × (u ≡ r .room))
     → Parts (record { tells = some x; arena = b; room = u }) d
-of-call d r x b u e f g h =
-    (ap some f ∙ parts (effect r) d e .0, (g ∙ parts (effect r) d e .1 .0, h ∙ parts (effect r) d e .1 .1))
+of-call d r x b u e f =
+    let p = parts (effect r) d e in
+    (ap some (f .0) ∙ p .0, (f .1 .0 ∙ p .1 .0, f .1 .1 ∙ p .1 .1))
 
--- a store that ends inside the arena, and one that does not
-module _ (row : ℕ) (a t bs b : List ℕ) (o : ℕ) (r : Bool) (e : r ≡ leb (o + length bs) (length a)) (f : b ≡ choose r (put o bs a) a) where
-  pub stored : r ≡ true → performed row a t (store o bs) ≡ record { tells = some (done (0 ∷ [])); arena = b; room = t }
-  unfolding performed
-  stored h =
-      choose-true _ _ _ (sym e ∙ h)
-      ∙ ap (λ (c : List ℕ). record { tells = some (done (0 ∷ [])); arena = c; room = t }) (sym (f ∙ choose-true r _ _ h))
-
-  pub not-stored : r ≡ false → performed row a t (store o bs) ≡ record { tells = none; arena = b; room = t }
-  unfolding performed
-  not-stored h =
-      choose-false _ _ _ (sym e ∙ h)
-      ∙ ap (λ (c : List ℕ). record { tells = none; arena = c; room = t }) (sym (f ∙ choose-false r _ _ h))
+-- a record that stores, by what the store promises
+pub of-store : (row : ℕ) (d : Effect) (a t bs b : List ℕ) (o : ℕ) (r : Bool) → d ≡ performed row a t (store o bs)
+    → (r ≡ leb (o + length bs) (length a)) × (b ≡ choose r (put o bs a) a)
+    → Parts (record { tells = choose r (some (done (0 ∷ []))) none; arena = b; room = t }) d
+unfolding performed choose
+of-store row d a t bs b o true e f =
+    parts _ d (e ∙ choose-true _ _ _ (sym (f .0)) ∙ ap (λ (c : List ℕ). record { tells = some (done (0 ∷ [])); arena = c; room = t }) (sym (f .1)))
+of-store row d a t bs b o false e f =
+    parts _ d (e ∙ choose-false _ _ _ (sym (f .0)) ∙ ap (λ (c : List ℕ). record { tells = none; arena = c; room = t }) (sym (f .1)))
 
 -- ---- text written piece by piece
 

@@ -1,6 +1,6 @@
 -- A record of a trace after the other: the text of those that are left, by what stands at a place.
-use Rattle.mem.proofs.Prelude.{_∙_, _≡_, sym, ap, refl, subst, Option, some, none, true, false, true≢false, List, [], _∷_, _++_, append-nil, ℕ, suc, _+_, _-_, _≤_}
-use Rattle.mem.proofs.Prelude.{arith, leb→le, length}
+use Rattle.mem.proofs.Prelude.{_∙_, _≡_, sym, ap, refl, subst, Option, some, none, true, false, true≢false, List, [], _∷_, _++_, append-nil}
+use Rattle.mem.proofs.Prelude.{ℕ, suc, _+_, _-_, _≤_, arith, leb→le, length}
 use Rattle.mem.proofs.Tests.{true-T, and-left, and-right, choose-true, choose-false}
 use Rattle.classes.specs.Classes.{rowBytes}
 use Rattle.model.specs.Answers.{Answer}
@@ -8,8 +8,8 @@ use Rattle.model.specs.Plans.{setsUp}
 use Rattle.model.specs.Calls.{call}
 use Rattle.trace.specs.declared.Op.{Op}
 use Rattle.trace.specs.declared.Step.{Step}
-use Rattle.trace.specs.Trace.{Item, stepAt, operationOf, itemsBy, itemsFrom, items}
-use Rattle.trace.specs.Replay.{Line, performed, lineOf, goOn, linesFrom, traceRight, replayedOver}
+use Rattle.trace.specs.Trace.{Item, stepAt, operationOf, itemsBy, itemsFrom, items, traceRight}
+use Rattle.trace.specs.Replay.{Line, performed, lineOf, goOn, linesFrom, replayedOver}
 use Rattle.player.specs.Printed.{lineText, linesText, printed, playedText, isBad}
 
 -- the text of the records from a place on, the first of which is record i
@@ -57,7 +57,8 @@ module _ (a t s : List ℕ) (i at : ℕ) (h : i ≤ length s) where
 
   -- the line of a record, and what is behind it
   module _ (op : Op) (q : ℕ) (e : Step.Record op q ≡ stepAt s at) (x : Option Answer) (b u : List ℕ)
-      (d : x ≡ performed rowBytes a t (operationOf s op) .tells) (f : b ≡ performed rowBytes a t (operationOf s op) .arena) (g : u ≡ performed rowBytes a t (operationOf s op) .room) where
+      (d : x ≡ performed rowBytes a t (operationOf s op) .tells) (f : b ≡ performed rowBytes a t (operationOf s op) .arena)
+      (g : u ≡ performed rowBytes a t (operationOf s op) .room) where
     pub turn : Rest a t s i at ≡ lineText (lineOf i x) ++ Behind x b u s (i + 1) q
     unfolding linesText linesFrom
     turn =

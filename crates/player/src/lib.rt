@@ -8,17 +8,12 @@ ghost use Rattle.mem.specs.Lists.{choose, join};
 ghost use Rattle.mem.specs.Bytes.{put};
 ghost use Rattle.classes.specs.Classes.{rowBytes};
 ghost use Rattle.trace.specs.Trace.{Within, operationOf};
-ghost use Rattle.trace.specs.Replay.{Line, performed, lineOf, traceRight};
+ghost use Rattle.trace.specs.Replay.{Line, performed, lineOf};
 ghost use Rattle.player.specs.Printed.{field, lineText, printed, playedText, answerOf, isBad};
 use model::Reply;
 use model::Report;
 use trace::Op;
 use trace::Step;
-
-// The longest trace, and the version that is read.
-const MOST: usize = 65535;
-
-const VERSION: u8 = 1;
 
 // Room for all lines of a trace: a record has three bytes or more, and a line at most 150.
 pub const TEXT: usize = 3276800;
@@ -180,27 +175,13 @@ fn play(arena: &mut [u8], room: &mut [u8], trace: &[u8], out: &mut [u8]) -> usiz
     }
 }
 
-// Whether a trace has a length and a version that are read.
-fn readable(trace: &[u8]) -> bool
-    ensures { λ r. ⌜ r ≡ traceRight (now (trace .entry)) ⌝ }
-{
-    let len = trace.len();
-    if len == 0 {
-        return false;
-    }
-    if MOST < len {
-        return false;
-    }
-    trace[0] == VERSION
-}
-
 // Replays a trace over a pool that is set up first: writes all that is to be printed, and gives its length.
 pub fn replay(arena: &mut [u8], room: &mut [u8], trace: &[u8], out: &mut [u8; TEXT]) -> usize
     ensures { λ r. ⌜ r ≡ length (printed (now (arena .entry)) (now (room .entry)) (now (trace .entry))) ⌝ }
     ensures { λ r. ⌜ now (out .exit) ≡ put 0 (printed (now (arena .entry)) (now (room .entry)) (now (trace .entry))) (now (out .entry)) ⌝ }
     ensures { λ r. ⌜ Counts r (now (out .exit)) ⌝ }
 {
-    if !readable(trace) {
+    if !trace::readable(trace) {
         return put_bad(out, 0, 0);
     }
     pool::set_up(arena, room);

@@ -76,14 +76,16 @@ module _ (s : List ℕ) (p : ℕ) where
   unfolding stepAt
   cut-short h k =
       let a : p < length s = omega arith in
-      sym (choose-false _ _ _ (lt-leb (length s) p a) ∙ choose-false _ _ _ (le-ltb (length s) (p + 2) h) ∙ choose-true _ _ _ (lt-ltb (length s) (p + 2 + big (part p 2 s)) k))
+      sym (choose-false _ _ _ (lt-leb (length s) p a) ∙ choose-false _ _ _ (le-ltb (length s) (p + 2) h)
+      ∙ choose-true _ _ _ (lt-ltb (length s) (p + 2 + big (part p 2 s)) k))
 
   pub whole : p + 2 + big (part p 2 s) ≤ length s → recordAt s (p + 2) (big (part p 2 s)) ≡ stepAt s p
   unfolding stepAt
   whole k =
       let a : p < length s = omega arith in
       let b : p + 2 ≤ length s = omega arith in
-      sym (choose-false _ _ _ (lt-leb (length s) p a) ∙ choose-false _ _ _ (le-ltb (length s) (p + 2) b) ∙ choose-false _ _ _ (le-ltb (length s) (p + 2 + big (part p 2 s)) k))
+      sym (choose-false _ _ _ (lt-leb (length s) p a) ∙ choose-false _ _ _ (le-ltb (length s) (p + 2) b)
+      ∙ choose-false _ _ _ (le-ltb (length s) (p + 2 + big (part p 2 s)) k))
 
 some-bytes : (k n : ℕ) → fits k n ≡ true → 1 ≤ n
 some-bytes k zero f = absurd (false≢true (sym (fits-zero k) ∙ f))

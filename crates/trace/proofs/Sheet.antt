@@ -1,6 +1,6 @@
 -- The lines of the sheet are those due: computed over arena and table room.
-use Rattle.mem.proofs.Prelude.{T}
-use Rattle.mem.specs.Lists.{choose, every}
+use Rattle.mem.proofs.Prelude.{refl}
+use Rattle.mem.specs.Lists.{choose}
 use Rattle.mem.specs.Bytes.{zeros}
 use Rattle.classes.specs.Classes.{rowBytes, tooLarge, unitsOf, slotBytes, slotsOf, rowsOf, classOf}
 use Rattle.model.specs.State.{slotSound, spanSound, places}
@@ -9,14 +9,14 @@ use Rattle.model.specs.Plans.{plan, opens, refill, grantSlot, inPlace}
 use Rattle.model.specs.Tables.{slotRecord, rowRecord, laterRecords, roomBytes, viewSlot, viewSlots, viewGroup, viewHolder, spanRecordsBy, encodeBy}
 use Rattle.model.specs.Tables.{viewRowsBy, viewBy, arenaRight, soundBy}
 use Rattle.model.specs.Calls.{callBy, carriedBy, checkedBy, setUpBy, setUpRightBy, unless}
-use Rattle.trace.specs.Trace.{body, encodeRecord, encodeTrace, fits, opAt, recordAt, stepAt, operationOf, itemsFrom, items}
-use Rattle.trace.specs.Replay.{traceRight, performed, linesFrom, replayedOver, replayed}
-use Rattle.trace.specs.Sheet.{sheet, right}
+use Rattle.trace.specs.Trace.{body, encodeRecord, encodeTrace, fits, opAt, recordAt, stepAt, operationOf, itemsFrom, items, traceRight}
+use Rattle.trace.specs.Replay.{performed, linesFrom, replayedOver, replayed}
+use Rattle.trace.specs.Sheet.{sheet, LinesDue}
 
-pub lines-due : T (every right sheet)
-unfolding right sheet body encodeRecord encodeTrace fits opAt recordAt stepAt operationOf itemsFrom items traceRight performed linesFrom replayedOver replayed
+pub lines-due : LinesDue
+unfolding sheet body encodeRecord encodeTrace fits opAt recordAt stepAt operationOf itemsFrom items traceRight performed linesFrom replayedOver replayed
     choose zeros rowBytes tooLarge unitsOf slotBytes slotsOf rowsOf classOf slotSound spanSound places header guard firstSpare spare
     frame headerRight guardRight damageIn
     opens refill grantSlot inPlace plan slotRecord rowRecord laterRecords spanRecordsBy roomBytes viewSlot viewSlots viewGroup viewHolder viewRowsBy
     encodeBy viewBy arenaRight soundBy callBy setUpBy setUpRightBy checkedBy carriedBy unless
-lines-due = tt
+lines-due = refl

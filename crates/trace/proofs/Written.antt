@@ -14,8 +14,8 @@ use Rattle.mem.proofs.Big.{high-length, big-high, high-big}
 use Rattle.trace.specs.declared.Op.{Op}
 use Rattle.trace.specs.declared.Step.{Step}
 use Rattle.trace.specs.declared.Step.the-variants.{Record, Bad, End}
-use Rattle.trace.specs.Trace.{Operation, grant, release, resize, measure, store, report, body, encodeRecord, encodeTrace, writable, four, fits, opAt, recordAt}
-use Rattle.trace.specs.Trace.{stepAt, operationOf, Item, does, itemsBy, itemsFrom, items}
+use Rattle.trace.specs.Trace.{Operation, grant, release, resize, measure, store, report, body, encodeRecord, encodeTrace, writable, four, fits}
+use Rattle.trace.specs.Trace.{opAt, recordAt, stepAt, operationOf, Item, does, itemsBy, itemsFrom, items}
 use Rattle.trace.specs.Written.{ReadsBack, WritesBack}
 use Rattle.trace.proofs.Laws.{fits-none, fits-at, five, nine, record-good, at-end, whole, step-within}
 

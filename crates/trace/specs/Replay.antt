@@ -1,10 +1,9 @@
 -- What a trace does, over the definitions of the calls: a line for each record (02 §2).
 use Prim.Native.Nat.{ℕ, suc, _+_, _/_}
-use mathlib.Core.Bool.{Bool, _&&_}
 use mathlib.Core.Option.{Option, none, some}
 use mathlib.Core.List.{List, [], _∷_}
-use lib.Dec.{eqb, leb}
-use lib.ListN.{length, getD}
+use lib.Dec.{leb}
+use lib.ListN.{length}
 use Rattle.mem.specs.Lists.{choose}
 use Rattle.mem.specs.Bytes.{zeros, put}
 use Rattle.classes.specs.Classes.{rowBytes}
@@ -12,18 +11,11 @@ use Rattle.model.specs.Answers.{Answer, done}
 use Rattle.model.specs.Plans.{setsUp, grants, releases, resizes, measures, reports}
 use Rattle.model.specs.Tables.{roomBytes}
 use Rattle.model.specs.Calls.{Result, call}
-use Rattle.trace.specs.Trace.{Operation, grant, release, resize, measure, store, report, Item, does, items}
+use Rattle.trace.specs.Trace.{Operation, grant, release, resize, measure, store, report, Item, does, items, traceRight}
 
 -- "The replay program sets up a pool of 16,384 bytes"
 abbrev pub arenaBytes : ℕ
 arenaBytes = 16384
-
--- the longest trace, and the version that is read
-abbrev pub mostBytes : ℕ
-mostBytes = 65535
-
-abbrev pub version : ℕ
-version = 1
 
 -- a line: what an answer gives, or that a record is bad, with its number
 pub data Line : Type 0 where
@@ -52,10 +44,6 @@ goOn (some r) ls = ls
 abbrev pub lineThen : ℕ → Option Answer → List Line → List Line
 lineThen i x ls = lineOf i x ∷ goOn x ls
 
--- "starts with a version byte, 1"; "An empty trace, or one over 65,535 bytes" is bad
-unfoldable pub traceRight : List ℕ → Bool
-traceRight s = leb 1 (length s) && leb (length s) mostBytes && eqb (getD s 0 0) version
-
 module _ (row : ℕ) where
   -- "a store prints `0 0`"; "a store ending past the arena" is bad, and stores nothing
   unfoldable pub performed : List ℕ → List ℕ → Operation → Effect
@@ -74,7 +62,8 @@ module _ (row : ℕ) where
   linesFrom a t i (Item.bad ∷ xs) = Line.bad i ∷ []
   linesFrom a t i (does x ∷ xs) = let d = performed a t x in lineThen i (d .tells) (linesFrom (d .arena) (d .room) (suc i) xs)
 
-  -- a trace replayed over an arena and a table room, which are set up first: "0 for the version"
+  -- a trace replayed over an arena and a table room, which are set up first. "0 for the version"; "An empty trace, or one over 65,535 bytes,
+  -- prints `bad 0` alone."
   unfoldable pub replayedOver : List ℕ → List ℕ → List ℕ → List Line
   replayedOver a t s =
       let r = call row a t setsUp in

@@ -1,9 +1,8 @@
--- Traces with the lines due: one list, and how an entry of it is read.
+-- Traces with the lines due: one list.
 use Prim.Native.Nat.{ℕ}
-use mathlib.Core.Bool.{Bool, true, false, _&&_}
-use mathlib.Core.List.{List, [], _∷_, _++_}
-use lib.Dec.{eqb}
-use Rattle.mem.specs.Bytes.{zeros, same}
+use mathlib.Core.Path.{_≡_}
+use mathlib.Core.List.{List, [], _∷_, _++_, map}
+use Rattle.mem.specs.Bytes.{zeros}
 use Rattle.model.specs.Answers.{Answer, done}
 use Rattle.trace.specs.Trace.{Operation, grant, release, resize, measure, store, report, encodeRecord, encodeTrace}
 use Rattle.trace.specs.Replay.{Line, told, bad, replayed}
@@ -64,18 +63,6 @@ sheet =
     (gives 16 ∷ told (done (1 ∷ 0 ∷ 1 ∷ 31 ∷ 30 ∷ 0 ∷ [])) ∷ bad 3 ∷ [])
     ∷ []
 
--- whether two lines, and two lists of lines, are the same
-abbrev pub sameLine : Line → Line → Bool
-sameLine (told r) (told q) = eqb (r .number) (q .number) && same (r .values) (q .values)
-sameLine (told r) (bad j) = false
-sameLine (bad i) (told q) = false
-sameLine (bad i) (bad j) = eqb i j
-
-abbrev pub sameLines : List Line → List Line → Bool
-sameLines [] [] = true
-sameLines [] (m ∷ ms) = false
-sameLines (l ∷ ls) [] = false
-sameLines (l ∷ ls) (m ∷ ms) = sameLine l m && sameLines ls ms
-
-unfoldable pub right : Entry → Bool
-right e = sameLines (replayed (e .trace)) (e .due)
+-- the lines of every trace are those due
+abbrev pub LinesDue : Type 0
+LinesDue = map (λ e. replayed (e .trace)) sheet ≡ map (λ e. e .due) sheet

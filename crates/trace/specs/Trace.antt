@@ -20,6 +20,14 @@ pub data Operation : Type 0 where
   store : (offset : ℕ) (bytes : List ℕ) → Operation
   report : Operation
 
+-- "starts with a version byte, 1"
+abbrev pub version : ℕ
+version = 1
+
+-- "one over 65,535 bytes" is not read
+abbrev pub mostBytes : ℕ
+mostBytes = 65535
+
 -- THE WRITER
 
 -- "an operation byte and four-byte big-endian numbers"
@@ -35,9 +43,9 @@ body report = 6 ∷ []
 unfoldable pub encodeRecord : Operation → List ℕ
 encodeRecord x = high 2 (length (body x)) ++ body x
 
--- "A trace .. starts with a version byte, 1"
+-- the version byte, and the records behind it
 unfoldable pub encodeTrace : List Operation → List ℕ
-encodeTrace xs = 1 ∷ join encodeRecord xs
+encodeTrace xs = version ∷ join encodeRecord xs
 
 -- what a record can hold: numbers of four bytes, and as many stored bytes as its length can count
 unfoldable pub writable : Operation → Bool
@@ -49,6 +57,10 @@ writable (store o bs) = ltb o 4294967296 && leb (length bs) 65530
 writable report = true
 
 -- THE READER
+
+-- whether a trace has a length and a version that are read
+unfoldable pub traceRight : List ℕ → Bool
+traceRight s = leb 1 (length s) && leb (length s) mostBytes && eqb (getD s 0 0) version
 
 -- the number in four bytes of s from a place on
 abbrev pub four : List ℕ → ℕ → ℕ

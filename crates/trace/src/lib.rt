@@ -1,11 +1,17 @@
-// The records of a trace.
+// The reader of a field trace (02 §2): what stands at a place of the caller's bytes, none of which is copied.
 ghost use mathlib.Core.Path.{_≡_};
 ghost use mathlib.Core.Bool.{true};
 ghost use Prim.Native.Nat.{_+_, _≤_};
 ghost use lib.ListN.{length, getD};
-ghost use Rattle.trace.specs.Trace.{opAt, recordAt, stepAt};
+ghost use Rattle.trace.specs.Trace.{opAt, recordAt, stepAt, traceRight};
 ghost use Rattle.trace.specs.Trace.{fits as Trace·fits};
 
+// The longest trace, and the version that is read.
+const MOST: usize = 65535;
+
+const VERSION: u8 = 1;
+
+// An operation as it is read: its numbers, and of a store the part of the trace that holds its bytes.
 pub enum Op {
     Grant(usize),
     Release(usize),
@@ -19,6 +25,7 @@ pub enum Op {
     Report,
 }
 
+// What stands at a place: a record with the place after it, what is no record, or the end.
 pub enum Step {
     Record(Op, usize),
     Bad,
@@ -95,6 +102,20 @@ pub fn step_at(s: &[u8], at: usize) -> Step
     record_of(s, body, n)
 }
 
+// Whether a trace has a length and a version that are read.
+pub fn readable(trace: &[u8]) -> bool
+    ensures { λ r. ⌜ r ≡ traceRight (now (trace .entry)) ⌝ }
+{
+    let len = trace.len();
+    if len == 0 {
+        return false;
+    }
+    if MOST < len {
+        return false;
+    }
+    trace[0] == VERSION
+}
+
 // A reader: the caller's trace, and a place in it.
 pub struct Reader<'a> {
     pub trace: &'a [u8],
@@ -115,7 +136,7 @@ pub fn next<'a>(r: Reader<'a>) -> Step
     step_at(r.trace, r.place)
 }
 
-// What a reader finds at a place. Its parameters are plain, so whoever calls it needs no walk.
+// What a reader finds at a place. Its parameters are plain, so that a loop can ask it.
 pub fn read(trace: &[u8], place: usize) -> Step
     ensures { λ r. ⌜ r ≡ stepAt (now (trace .entry)) place ⌝ }
 {

@@ -1,15 +1,17 @@
 -- `perform` meets its contract: an operation is a call, or a store of bytes of the trace.
-use Rattle.mem.proofs.Prelude.{_∙_, sym, ap, subst, _-_, now, needs, length}
+use Rattle.mem.proofs.Prelude.{_∙_, _≡_, sym, ap, refl, subst, some, none, List, [], _∷_, ℕ, _-_, now, needs, length}
+use Rattle.mem.specs.Lists.{choose}
 use Rattle.mem.specs.Bytes.{part}
+use Rattle.mem.proofs.Tests.{choose-true, choose-false}
 use Rattle.classes.specs.Classes.{rowBytes}
-use Rattle.model.specs.Answers.{replyAnswer, reportAnswer}
-use Rattle.model.specs.Plans.{grants, releases, resizes, measures, reports}
+use Rattle.model.specs.Answers.{Answer, done}
+use Rattle.model.specs.Plans.{Call, grants, releases, resizes, measures, reports}
 use Rattle.model.specs.Calls.{call}
 use Rattle.model.proofs.Calls.{measure-keeps, report-keeps}
 use Rattle.trace.specs.declared.Op.{Op}
 use Rattle.trace.specs.Trace.{Within, operationOf}
-use Rattle.trace.specs.Replay.{Effect, performed}
-use Rattle.player.proofs.Laws.{parts, of-call, stored, not-stored}
+use Rattle.trace.specs.Replay.{Effect, effect, performed}
+use Rattle.player.proofs.Laws.{Parts, of-call, of-store}
 use Rattle.player.proofs.perform.Statement.{statement}
 use Rattle.player.proofs.perform.Tie as tie
 
@@ -18,7 +20,9 @@ abbrev does : (s : tie.Start) → Op → Effect
 does s o = performed rowBytes (now (s .args .arena)) (now (s .args .room)) (operationOf (now (s .args .trace)) o)
 
 -- the bytes of a store lie in the trace
-inside : (c : tie.After-op5) → (let s = c .before .before .before .before .before in Within (Op.Store (c .op5 .given .0 .0) (c .op5 .given .0 .1 .0) (c .op5 .given .0 .1 .1 .0)) (length (now (s .args .trace))))
+inside : (c : tie.After-op5) → (let s = c .before .before .before .before .before in
+    let g = c .op5 .given .0 in
+    Within (Op.Store (g .0) (g .1 .0) (g .1 .1 .0)) (length (now (s .args .trace))))
 inside c = let s = c .before .before .before .before .before in subst (λ (o : Op). Within o (length (now (s .args .trace)))) (c .op5 .given .1) (s .pre)
 
 sub-store : tie.Need-sub-store
@@ -30,114 +34,77 @@ part-store-start c = inside (c .before .before) .0
 part-store-end : tie.Need-part-store-end
 part-store-end c = inside (c .before .before) .1
 
+-- a call made at the function's entry, for the operation that was read
+asks : (s : tie.Start) (o : Op) (c : Call) (x : Answer) (b u : List ℕ) → s .args .op ≡ o
+    → does s o ≡ effect (call rowBytes (now (s .args .arena)) (now (s .args .room)) c)
+    → (let r = call rowBytes (now (s .args .arena)) (now (s .args .room)) c in (x ≡ r .answer) × ((b ≡ r .arena) × (u ≡ r .room)))
+    → Parts (record { tells = some x; arena = b; room = u }) (does s (s .args .op))
+asks s o c x b u e d r = of-call (does s (s .args .op)) (call rowBytes (now (s .args .arena)) (now (s .args .room)) c) x b u (ap (does s) e ∙ d) r
+
 returns : tie.Need-returns
 unfolding performed operationOf
 returns c =
     let g = c .before .before .before .before in
-    let s = g .before .before .before .before .before .before .before .before .before in
-    let o = g .before .before .before .before .op .given in
-    let r = g .grant .ensures in
-    of-call (does s (s .args .op)) (call rowBytes (now (s .args .arena)) (now (s .args .room)) (grants (o .0 .0))) (replyAnswer (g .grant .result)) _ _
-    (ap (does s) (o .1)) (r .0) (r .1 .0) (r .1 .1)
+    let o = g .before .before .before .before in
+    let x = o .op .given .0 in
+    asks (o .before .before .before .before .before) (Op.Grant (x .0)) (grants (x .0)) _ _ _ (o .op .given .1) refl (g .grant .ensures)
 
 returns-2 : tie.Need-returns-2
 unfolding performed operationOf
 returns-2 c =
     let g = c .before .before .before .before in
-    let s = g .before .before .before .before .before .before .before .before .before in
-    let o = g .before .before .before .before .op2 .given in
-    let r = g .release .ensures in
-    of-call (does s (s .args .op)) (call rowBytes (now (s .args .arena)) (now (s .args .room)) (releases (o .0 .0))) (replyAnswer (g .release .result)) _ _
-    (ap (does s) (o .1)) (r .0) (r .1 .0) (r .1 .1)
+    let o = g .before .before .before .before in
+    let x = o .op2 .given .0 in
+    asks (o .before .before .before .before .before) (Op.Release (x .0)) (releases (x .0)) _ _ _ (o .op2 .given .1) refl (g .release .ensures)
 
 returns-3 : tie.Need-returns-3
 unfolding performed operationOf
 returns-3 c =
     let g = c .before .before .before .before in
-    let s = g .before .before .before .before .before .before .before .before .before in
-    let o = g .before .before .before .before .op3 .given in
-    let r = g .resize .ensures in
-    of-call (does s (s .args .op)) (call rowBytes (now (s .args .arena)) (now (s .args .room)) (resizes (o .0 .0) (o .0 .1 .0)))
-    (replyAnswer (g .resize .result)) _ _ (ap (does s) (o .1)) (r .0) (r .1 .0) (r .1 .1)
+    let o = g .before .before .before .before in
+    let x = o .op3 .given .0 in
+    asks (o .before .before .before .before .before) (Op.Resize (x .0) (x .1 .0)) (resizes (x .0) (x .1 .0)) _ _ _ (o .op3 .given .1) refl (g .resize .ensures)
 
 returns-4 : tie.Need-returns-4
 unfolding performed operationOf
 returns-4 c =
     let s = c .before .before .before .before .before .before .before .before .before in
-    let a = s .args in
     let o = c .before .before .before .before .op4 .given in
-    let k = measure-keeps rowBytes (now (a .arena)) (now (a .room)) (o .0 .0) in
-    of-call (does s (a .op)) (call rowBytes (now (a .arena)) (now (a .room)) (measures (o .0 .0))) (replyAnswer (c .measure .result)) _ _
-    (ap (does s) (o .1)) (c .measure .ensures) (sym (k .arena)) (sym (k .room))
+    let k = measure-keeps rowBytes (now (s .args .arena)) (now (s .args .room)) (o .0 .0) in
+    asks s (Op.Measure (o .0 .0)) (measures (o .0 .0)) _ _ _ (o .1) refl (c .measure .ensures, (sym (k .arena), sym (k .room)))
+
+-- a store made of a part of the trace
+stores : (g : tie.After-store)
+    → (let s = g .before .before .before .before .before .before .before .before .before in
+    Parts (record { tells = choose (g .store .result) (some (done (0 ∷ []))) none; arena = g .store .last .0; room = now (s .args .room) })
+    (does s (s .args .op)))
+unfolding operationOf
+stores g =
+    let s = g .before .before .before .before .before .before .before .before .before in
+    let o = g .before .before .before .before .op5 .given in
+    let bs = part (o .0 .1 .0) (o .0 .1 .1 .0 - o .0 .1 .0) (now (s .args .trace)) in
+    of-store rowBytes (does s (s .args .op)) (now (s .args .arena)) (now (s .args .room)) bs (g .store .last .0) (o .0 .0) (g .store .result)
+    (ap (does s) (o .1)) (g .store .ensures)
 
 returns-5 : tie.Need-returns-5
-unfolding performed operationOf
-returns-5 c =
-    let g = c .before .before .before in
-    let s = g .before .before .before .before .before .before .before .before .before in
-    let a = s .args in
-    let o = g .before .before .before .before .op5 .given in
-    let e = g .store .ensures in
-    parts _ (does s (a .op)) (ap (does s) (o .1)
-    ∙ stored rowBytes (now (a .arena)) (now (a .room)) (part (o .0 .1 .0) (o .0 .1 .1 .0 - o .0 .1 .0) (now (a .trace))) _ (o .0 .0) (g .store .result)
-    (e .0) (e .1) (c .if1 .taken))
+returns-5 c = let w = stores (c .before .before .before) in (sym (choose-true _ _ _ (c .if1 .taken)) ∙ w .0, w .1)
 
 returns-6 : tie.Need-returns-6
-unfolding performed operationOf
-returns-6 c =
-    let g = c .before .before .before in
-    let s = g .before .before .before .before .before .before .before .before .before in
-    let a = s .args in
-    let o = g .before .before .before .before .op5 .given in
-    let e = g .store .ensures in
-    parts _ (does s (a .op)) (ap (does s) (o .1)
-    ∙ not-stored rowBytes (now (a .arena)) (now (a .room)) (part (o .0 .1 .0) (o .0 .1 .1 .0 - o .0 .1 .0) (now (a .trace))) _ (o .0 .0) (g .store .result)
-    (e .0) (e .1) (c .if1 .left))
+returns-6 c = let w = stores (c .before .before .before) in (sym (choose-false _ _ _ (c .if1 .left)) ∙ w .0, w .1)
 
 returns-7 : tie.Need-returns-7
 unfolding performed operationOf
 returns-7 c =
     let s = c .before .before .before .before .before .before .before .before in
-    let a = s .args in
-    let k = report-keeps rowBytes (now (a .arena)) (now (a .room)) in
-    of-call (does s (a .op)) (call rowBytes (now (a .arena)) (now (a .room)) reports) (reportAnswer (c .report .result)) _ _
-    (ap (does s) (c .before .before .before .enum-told .given .1)) (c .report .ensures) (sym (k .arena)) (sym (k .room))
+    let k = report-keeps rowBytes (now (s .args .arena)) (now (s .args .room)) in
+    asks s Op.Report reports _ _ _ (c .before .before .before .enum-told .given .1) refl (c .report .ensures, (sym (k .arena), sym (k .room)))
 
 pub perform-spec : {M : Type 1} → statement M
 perform-spec =
     tie.close
     (tie.spec
-    (λ c. search needs)
-    (λ c κs. search needs)
-    (λ c. search needs)
-    (λ c κs. search needs)
-    (λ c. search needs)
-    (λ c κs. search needs)
-    (λ c. search needs)
-    (λ c κs. search needs)
-    (λ c. search needs)
-    sub-store
-    part-store-start
-    part-store-end
-    (λ c κs. search needs)
-    (λ c. search needs)
-    (λ c κs. search needs)
-    (λ c. search needs)
-    (λ c. search needs)
-    returns
-    (λ c. search needs)
-    (λ c. search needs)
-    returns-2
-    (λ c. search needs)
-    (λ c. search needs)
-    returns-3
-    (λ c. search needs)
-    (λ c. search needs)
-    returns-4
-    (λ c. search needs)
-    returns-5
-    (λ c. search needs)
-    returns-6
-    (λ c. search needs)
-    (λ c. search needs)
+    (λ c. search needs) (λ c κs. search needs) (λ c. search needs) (λ c κs. search needs) (λ c. search needs) (λ c κs. search needs) (λ c. search needs)
+    (λ c κs. search needs) (λ c. search needs) sub-store part-store-start part-store-end (λ c κs. search needs) (λ c. search needs) (λ c κs. search needs)
+    (λ c. search needs) (λ c. search needs) returns (λ c. search needs) (λ c. search needs) returns-2 (λ c. search needs) (λ c. search needs) returns-3
+    (λ c. search needs) (λ c. search needs) returns-4 (λ c. search needs) returns-5 (λ c. search needs) returns-6 (λ c. search needs) (λ c. search needs)
     returns-7)

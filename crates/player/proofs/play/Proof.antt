@@ -88,10 +88,16 @@ returns c =
     (omega (arith, w .0), (w .1, omega (arith, l .put-line .ensures .1 .1, n .0, n .1 .0, k .loop .inv .2, k .before .before .before .before .before .pre .1)))
 
 add-count : tie.Need-add-count Inv-loop μ-loop
-add-count c = let w = promised (c .before .before .before .before .before .before .before .before .before .before .before .before .before .before) in omega (arith, w .0, w .1 .0)
+add-count c =
+    let o = c .before .before .before .before .before .before .before .before .before .before .before .before .before .before in
+    let w = promised o in
+    omega (arith, w .0, w .1 .0)
 
 loop-less : tie.Need-loop-less Inv-loop μ-loop
-loop-less c = let w = promised (c .before .before .before .before .before .before .before .before .before .before .before .before .before .before) in omega (arith, w .0, w .1 .0)
+loop-less c =
+    let o = c .before .before .before .before .before .before .before .before .before .before .before .before .before .before in
+    let w = promised o in
+    omega (arith, w .0, w .1 .0)
 
 loop-again : tie.Need-loop-again Inv-loop μ-loop
 loop-again c =
@@ -101,6 +107,7 @@ loop-again c =
     let o = d .before .before .before .before in
     let a = o .before .before .before .before .before .before .before .before .args in
     let n = promised o in
+    let W = playedText (now (a .arena)) (now (a .room)) (now (a .trace)) in
     let z = goes-on (d .perform .last .0) (d .perform .last .1 .0) (now (a .trace)) _ (o .op .given .0 .1 .0) (answerOf (d .perform .result))
     (sym (p .is-bad .ensures) ∙ c .if1 .left) in (
       omega (arith, n .0),
@@ -109,7 +116,7 @@ loop-again c =
       search needs,
       search needs,
       search needs,
-      subst (λ t. Left 0 (playedText (now (a .arena)) (now (a .room)) (now (a .trace))) (now (a .out)) (l .put-line .result) t (l .put-line .last .0)) z (written p),
+      subst (λ t. Left 0 W (now (a .out)) (l .put-line .result) t (l .put-line .last .0)) z (written p),
     )
 
 -- what is no record ends the trace with a line

@@ -38,8 +38,8 @@ loop-again c =
       omega arith,
       ap length (e .1 .0) ∙ put-length (l .end) F (l .out) ∙ v .1,
       omega (arith, e .1 .1),
-      left-step (a .at) (join field (now (a .values))) (now (a .out)) (l .end) (f .put-field .result) (join field (drop (l .i) (now (a .values)))) F R (l .out) _
-          (rest (l .i) (now (a .values)) (omega arith)) (e .0) (e .1 .0) (v .3),
+      left-step (a .at) (join field (now (a .values))) (now (a .out)) (l .end) (f .put-field .result) (join field (drop (l .i) (now (a .values)))) F R
+          (l .out) _ (rest (l .i) (now (a .values)) (omega arith)) (e .0) (e .1 .0) (v .3),
     )
 
 same-length : tie.Need-same-length Inv-loop μ-loop

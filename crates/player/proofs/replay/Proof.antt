@@ -14,8 +14,11 @@ returns c =
     let r = c .before .before .before in
     let a = r .before .before .before .before .args in
     let e = c .put-bad .ensures in
-    let w = printed-bad (now (a .arena)) (now (a .room)) (now (a .trace)) (sym (r .readable .ensures) ∙ not-true (r .readable .result) (c .before .before .if1 .taken)) in
-    (omega (arith, e .0, ap length w), (e .1 .0 ∙ ap (λ (t : List ℕ). put 0 t (now (a .out))) (sym w), counts _ _ (omega (arith, e .1 .1, ap length (e .1 .0), put-length 0 (lineText (Line.bad 0)) (now (a .out))))))
+    let h = sym (r .readable .ensures) ∙ not-true (r .readable .result) (c .before .before .if1 .taken) in
+    let w = printed-bad (now (a .arena)) (now (a .room)) (now (a .trace)) h in
+    let o = e .1 .0 ∙ ap (λ (t : List ℕ). put 0 t (now (a .out))) (sym w) in
+    let l = put-length 0 (lineText (Line.bad 0)) (now (a .out)) in
+    (omega (arith, e .0, ap length w), (o, counts _ _ (omega (arith, e .1 .1, ap length (e .1 .0), l))))
 
 play-requires : tie.Need-play-requires
 play-requires c κs =

@@ -40,7 +40,9 @@ returns c = let a = c .before .before .before .before .args in ap Op.Grant (c .b
 
 returns-2 : tie.Need-returns-2
 unfolding opAt choose
-returns-2 c = let a = c .before .before .before .before .args in ap Op.Release (c .big42 .ensures .0) ∙ is _ 2 (now (a .s)) (a .at) (a .n) (c .before .match .keys2)
+returns-2 c =
+    let a = c .before .before .before .before .args in
+    ap Op.Release (c .big42 .ensures .0) ∙ is _ 2 (now (a .s)) (a .at) (a .n) (c .before .match .keys2)
 
 returns-3 : tie.Need-returns-3
 unfolding opAt choose
@@ -50,7 +52,9 @@ returns-3 c =
 
 returns-4 : tie.Need-returns-4
 unfolding opAt choose
-returns-4 c = let a = c .before .before .before .before .args in ap Op.Measure (c .big45 .ensures .0) ∙ is _ 4 (now (a .s)) (a .at) (a .n) (c .before .match .keys4)
+returns-4 c =
+    let a = c .before .before .before .before .args in
+    ap Op.Measure (c .big45 .ensures .0) ∙ is _ 4 (now (a .s)) (a .at) (a .n) (c .before .match .keys4)
 
 returns-5 : tie.Need-returns-5
 unfolding opAt choose

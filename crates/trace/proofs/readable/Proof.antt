@@ -1,8 +1,8 @@
 -- `readable` meets its contract, test by test.
 use Rattle.mem.proofs.Prelude.{_∙_, sym, arith, now, needs, le-leb, lt-leb, length}
-use Rattle.trace.specs.Replay.{traceRight}
-use Rattle.player.proofs.readable.Statement.{statement}
-use Rattle.player.proofs.readable.Tie as tie
+use Rattle.trace.specs.Trace.{traceRight}
+use Rattle.trace.proofs.readable.Statement.{statement}
+use Rattle.trace.proofs.readable.Tie as tie
 
 returns : tie.Need-returns
 unfolding traceRight
