@@ -1,22 +1,22 @@
 -- Set up and release leave what document 01 says, measure and report leave everything, and no block starts at 0.
-use Rattle.mem.proofs.Prelude.{_∙_, _≡_, sym, ap, refl, subst, true, Bool, false, ⊎-elim, inl, inr, _⊎_, List, [], _++_, append-nil, ℕ, _<_, _/_, arith}
-use Rattle.mem.proofs.Prelude.{eqb-false, eqb-true, T, eqb, length, getD}
+use Rattle.mem.proofs.Prelude.{_∙_, _≡_, sym, ap, refl, subst, ⊎-elim, inl, inr, _⊎_, List, [], _++_, append-nil, ℕ, _<_, _/_, arith}
+use Rattle.mem.proofs.Prelude.{T, length, getD}
 use Rattle.mem.specs.Lists.{any}
 use Rattle.mem.specs.Bytes.{zeros, put}
 use Rattle.mem.proofs.Tests.{T-true, true-T, every-not, choose-case}
 use Rattle.mem.proofs.Laws.{put-all, put-length, put-before, put-past, zeros-length, zeros-put}
 use Rattle.model.specs.State.{Pool, Place, isLive, wellFormed, poolOf}
-use Rattle.model.specs.Plans.{freshPool, Plan, Call, releases, measures, reports, plan, lookup, onBlock, releaseAt, release, measureAt, measure, report}
-use Rattle.model.specs.Tables.{sound, byMasks, encode, view}
+use Rattle.model.specs.Plans.{freshPool, Plan, releases, reports, plan, lookup, onBlock, releaseAt, release, report}
+use Rattle.model.specs.Tables.{sound, byMasks, view}
 use Rattle.model.specs.Calls.{callBy, setUpRight, Result, masked, applied, written, call}
 use Rattle.model.proofs.Tables.{masks-laws, sound-facts, view-encode}
 use Rattle.model.proofs.Formed.{release-formed}
 use Rattle.model.proofs.Fresh.{fresh-formed, set-up-done}
 use Rattle.model.proofs.Calls.{call-sound, carried-whole, on-live, measure-keeps, report-keeps}
 use Rattle.claims.specs.Demand2 as demand2
-use Rattle.claims.specs.AsSaid.{MadeFresh, SetsUpAsSaid, ReportsAsSaid, ZeroedOnly, NeverAtZero, Unchanged, ReadsOnly, Waits, Goes, ReleasesAsSaid}
-use Rattle.claims.proofs.Cases.{release-parts, on-named}
-use Rattle.claims.proofs.Demand1.{demand1, starts-found}
+use Rattle.claims.specs.AsSaid.{MadeFresh, SetsUpAsSaid, ReportsAsSaid, ZeroedOnly, NeverAtZero, ReadsOnly, Waits, Goes, ReleasesAsSaid}
+use Rattle.claims.proofs.Cases.{release-parts}
+use Rattle.claims.proofs.Demand1.{starts-found}
 use Rattle.claims.proofs.Demand2.{set-up-accepted, Accepted, accepted, releases-exactly}
 
 -- zeros written from a place on

@@ -12,10 +12,11 @@ use Rattle.model.specs.declared.Refusal.{Refusal}
 use Rattle.model.specs.State.{Span, Pool, Place, free, group, isLive, isReady, disp, size, wellFormed, poolOf, become, slotNumber, rowsIn, rows, beginning}
 use Rattle.model.specs.State.{start, count}
 use Rattle.model.specs.Plans.{Plan, turnReady, refill, reserve, vacant, releaseAt, freshPool, refused, release, resizeInPlace, moveTo, measureAt, measure}
-use Rattle.model.specs.Plans.{slotSum, freeRow, heldRows, totals, report, Call, setsUp, grants, releases, resizes, measures, reports, plan}
+use Rattle.model.specs.Plans.{slotSum, totals, report, Call, setsUp, grants, releases, resizes, measures, reports, plan}
 use Rattle.model.specs.Tables.{byMasks, encode, view, sound, roomBytes}
 use Rattle.model.specs.Calls.{Result, call, setUp, setUpRight, callBy, setUpRightBy}
 use Rattle.model.proofs.Rooms.{rows-append}
+use Rattle.model.proofs.Counts.{held-free}
 use Rattle.model.proofs.Fresh.{fresh-rows, fresh-formed, whole-rows, set-up-lawful, set-up-done, set-up-sound}
 use Rattle.model.proofs.Lookup.{placed, groupOf, place-unique, lookup-found}
 use Rattle.model.proofs.Reserve.{Served, served, reserve-size}
@@ -332,11 +333,6 @@ total-weigh row g f h r (group c ss ∷ P) = ap₂ (λ j k. j + k) (slots 0 ss) 
     slots : (i : ℕ) (ss : List Slot) → sum g ss ≡ weighSlots row f r c i ss
     slots i [] = refl
     slots i (x ∷ ss) = ap₂ (λ j k. j + k) (h (row * r + 16 + i * slotBytes c) x) (slots (suc i) ss)
-
-held-free : (row : ℕ) (P : Pool) → sum (heldRows row) P + sum freeRow P ≡ rows row P
-held-free row [] = refl
-held-free row (free ∷ P) = omega (arith, held-free row P)
-held-free row (group c ss ∷ P) = omega (arith, held-free row P)
 
 -- ---- a list of calls
 

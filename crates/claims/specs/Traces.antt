@@ -13,7 +13,7 @@ use Rattle.model.specs.Answers.{Answer, done}
 use Rattle.model.specs.Plans.{Plan, grants, releases, resizes, measures, reports, plan}
 use Rattle.model.specs.Calls.{setUpRight}
 use Rattle.trace.specs.Trace.{Operation, grant, release, resize, measure, store, report, Item, does, items, traceRight}
-use Rattle.trace.specs.Replay.{Line, lineThen, replayedOver, replayed}
+use Rattle.trace.specs.Replay.{Line, lineThen, replayedOver}
 use Rattle.claims.specs.Demand3.{fed, requested}
 
 -- a record without the bytes that it stores: as many zeros stand for them

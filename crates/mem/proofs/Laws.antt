@@ -7,7 +7,7 @@ use native.Mathlib.Nat.{add-suc, suc-add, add-comm, mul-zero, mul-suc}
 use lib.ListN.{replicate-append-replicate}
 use lib.Seq.{sets, sets-eq, length-sets, take-take, take-set-le, drop-append-add, drop-set-lt, drop-set-add, getD-take, take-at}
 use Rattle.mem.specs.Bytes.{zeros, low, number, same, part, put}
-use Rattle.mem.specs.Lists.{every, join}
+use Rattle.mem.specs.Lists.{every, join, sum}
 use Rattle.mem.proofs.Tests.{and-left, and-right, and-both, same-test, eq→eqb, every-by, every-left, every-right}
 
 module _ {ℓ} {A : Type ℓ} where
@@ -306,6 +306,12 @@ module _ {ℓ} {A : Type ℓ} where
       let u = join-length-of f n ok h xs (and-right (ok x) (every ok xs) t) in
       rw (length-append (f x) (join f xs), h x (and-left (ok x) (every ok xs) t), u, mul-suc)
       (add-comm n (n * length xs))
+
+  -- where each element that passes a test counts n at most
+  pub sum-below : (f : A → ℕ) (n : ℕ) (ok : A → Bool) → ((x : A) → T (ok x) → f x ≤ n) → (xs : List A) → T (every ok xs) → sum f xs ≤ n * length xs
+  sum-below f n ok h [] t = omega arith
+  sum-below f n ok h (x ∷ xs) t =
+      omega (arith, mul-suc n (length xs), h x (and-left (ok x) (every ok xs) t), sum-below f n ok h xs (and-right (ok x) (every ok xs) t))
 
 -- ---- writes over and into what is there
 

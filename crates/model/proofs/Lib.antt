@@ -10,3 +10,4 @@ pub mod Formed
 pub mod Calls
 pub mod Forms
 pub mod Moves
+pub mod Counts

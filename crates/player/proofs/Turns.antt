@@ -1,5 +1,5 @@
 -- A record of a trace after the other: the text of those that are left, by what stands at a place.
-use Rattle.mem.proofs.Prelude.{_∙_, _≡_, sym, ap, refl, subst, Option, some, none, true, false, true≢false, List, [], _∷_, _++_, append-nil}
+use Rattle.mem.proofs.Prelude.{_∙_, _≡_, sym, ap, refl, Option, some, none, true, false, true≢false, List, [], _++_, append-nil}
 use Rattle.mem.proofs.Prelude.{ℕ, suc, _+_, _-_, _≤_, arith, leb→le, length}
 use Rattle.mem.proofs.Tests.{true-T, and-left, and-right, choose-true, choose-false}
 use Rattle.classes.specs.Classes.{rowBytes}

@@ -1,8 +1,9 @@
 -- The text that a replay prints (02 §2).
-use Prim.Native.Nat.{ℕ}
+use Prim.Native.Nat.{ℕ, _≤_}
 use mathlib.Core.Bool.{Bool, true, false}
 use mathlib.Core.Option.{Option, none, some}
 use mathlib.Core.List.{List, [], _∷_, _++_}
+use lib.ListN.{length}
 use Rattle.mem.specs.Lists.{join}
 use Rattle.classes.specs.Classes.{rowBytes}
 use Rattle.model.specs.Answers.{Answer, replyAnswer, reportAnswer}
@@ -43,3 +44,9 @@ answerOf Bad = none
 abbrev pub isBad : Option Answer → Bool
 isBad none = true
 isBad (some r) = false
+
+-- the line of what is told is no longer than the loop has room for: only a report's depends on its numbers
+abbrev pub Short : Told → Type 0
+Short (One r) = Unit {0}
+Short (Six r) = length (lineText (told (reportAnswer r))) ≤ 45
+Short Bad = Unit {0}

@@ -9,14 +9,14 @@ ghost use Rattle.mem.specs.Bytes.{put};
 ghost use Rattle.classes.specs.Classes.{rowBytes};
 ghost use Rattle.trace.specs.Trace.{Within, operationOf};
 ghost use Rattle.trace.specs.Replay.{Line, performed, lineOf};
-ghost use Rattle.player.specs.Printed.{field, lineText, printed, playedText, answerOf, isBad};
+ghost use Rattle.player.specs.Printed.{field, lineText, printed, playedText, answerOf, isBad, Short};
 use model::Reply;
 use model::Report;
 use trace::Op;
 use trace::Step;
 
-// Room for all lines of a trace: a record has three bytes or more, and a line at most 150.
-pub const TEXT: usize = 3276800;
+// Room for all lines of a trace: a record has three bytes or more, and its line at most 45.
+pub const TEXT: usize = 1048576;
 
 // What a record tells: an answer with one value, a report, or that the record is bad.
 pub enum Told {
@@ -45,6 +45,7 @@ fn store(arena: &mut [u8], offset: usize, bytes: &[u8]) -> bool
 // What a record does. The bytes of a store are lent from the trace.
 pub fn perform(arena: &mut [u8], room: &mut [u8], trace: &[u8], op: Op) -> Told
     requires { ⌜ Within op (length (now trace)) ⌝ }
+    ensures short { λ r. ⌜ Short r ⌝ }
     ensures { λ r. ⌜ answerOf r ≡ performed rowBytes (now (arena .entry)) (now (room .entry)) (operationOf (now (trace .entry)) op) .tells ⌝ }
     ensures { λ r. ⌜ now (arena .exit) ≡ performed rowBytes (now (arena .entry)) (now (room .entry)) (operationOf (now (trace .entry)) op) .arena ⌝ }
     ensures { λ r. ⌜ now (room .exit) ≡ performed rowBytes (now (arena .entry)) (now (room .entry)) (operationOf (now (trace .entry)) op) .room ⌝ }
@@ -119,10 +120,10 @@ fn put_bad(out: &mut [u8], at: usize, count: usize) -> usize
 
 // Writes the line of a record at a place, and gives the place after it.
 pub fn put_line(out: &mut [u8], at: usize, count: usize, told: Told) -> usize
-    requires { ⌜ at + 150 ≤ length (now out) ⌝ }
+    requires { ⌜ (at + 150 ≤ length (now out)) × Short told ⌝ }
     ensures { λ r. ⌜ r ≡ at + length (lineText (lineOf count (answerOf told))) ⌝ }
     ensures { λ r. ⌜ now (out .exit) ≡ put at (lineText (lineOf count (answerOf told))) (now (out .entry)) ⌝ }
-    ensures small { λ r. ⌜ r ≤ at + 150 ⌝ }
+    ensures small { λ r. ⌜ r ≤ at + 45 ⌝ }
 {
     match told {
         Told::One(r) => {
@@ -150,10 +151,10 @@ fn is_bad(told: Told) -> bool
 
 // Performs the records behind the version byte, one after the other, and writes their lines.
 fn play(arena: &mut [u8], room: &mut [u8], trace: &[u8], out: &mut [u8]) -> usize
-    requires { ⌜ (1 ≤ length (now trace)) × (length (now trace) ≤ 65535) × (3276800 ≤ length (now out)) ⌝ }
+    requires { ⌜ (1 ≤ length (now trace)) × (length (now trace) ≤ 65535) × (1048576 ≤ length (now out)) ⌝ }
     ensures { λ r. ⌜ r ≡ length (playedText (now (arena .entry)) (now (room .entry)) (now (trace .entry))) ⌝ }
     ensures { λ r. ⌜ now (out .exit) ≡ put 0 (playedText (now (arena .entry)) (now (room .entry)) (now (trace .entry))) (now (out .entry)) ⌝ }
-    ensures small { λ r. ⌜ r ≤ 3276800 ⌝ }
+    ensures small { λ r. ⌜ r ≤ 1048576 ⌝ }
 {
     let mut at = 1;
     let mut count = 1;

@@ -1,8 +1,8 @@
 -- Decimal digits: how many there are, and that they are those of the library that makes them.
 use Rattle.mem.proofs.Prelude.{_∙_, _≡_, sym, ap, ap₂, subst, List, [], _∷_, _++_, ℕ, zero, suc, _+_, _*_, _-_, _/_, _%_, _^_, _<_, _≤_, pow-suc, arith}
-use Rattle.mem.proofs.Prelude.{lt-ltb, le-ltb}
+use Rattle.mem.proofs.Prelude.{lt-ltb, le-ltb, ltb, length, length-append}
 use native.Mathlib.Nat.{pow-le-pow-right}
-use Rattle.mem.proofs.Tests.{choose-true, choose-false}
+use Rattle.mem.proofs.Tests.{choose-true, choose-false, choose-case}
 use Rattle.io.specs.Digits.{glyph, digits, Fewest}
 use Rattle.text.specs.Decimal.{decimalIn, decimal}
 
@@ -46,3 +46,16 @@ pub most : (n k : ℕ) → n < 2 ^ 64 → Fewest 10 1 n k → k ≤ 20
 most n k h f =
     let no : 21 ≤ k → ⊥ = λ l. omega (arith, f .2 (omega arith), pow-le-pow-right {n = 10} (omega arith) {i = 20} {j = k - 1} (omega arith)) in
     omega arith
+
+-- a number below a power of ten has as many digits at most
+short-in : (f k n : ℕ) → n < 10 ^ suc k → length (decimalIn f n) ≤ suc k
+unfolding decimalIn
+short-in zero k n h = omega arith
+short-in (suc f) zero n h = let l : n < 10 = omega arith in subst (λ (d : List ℕ). length d ≤ 1) (sym (choose-true _ _ _ (lt-ltb n 10 l))) (omega arith)
+short-in (suc f) (suc k) n h =
+    choose-case (λ (l : List ℕ). length l ≤ suc (suc k)) (ltb n 10) _ _ (λ _. omega arith)
+    (λ _. omega (arith, length-append (decimalIn f (n / 10)) ((48 + n % 10) ∷ []), short-in f k (n / 10) (omega (arith, pow-suc 10 (suc k)))))
+
+pub decimal-short : (k n : ℕ) → n < 10 ^ suc k → length (decimal n) ≤ suc k
+unfolding decimal
+decimal-short k n h = short-in (suc n) k n h

@@ -1,12 +1,11 @@
 -- What the sums over bytes are to the totals of the pool's state.
-use Rattle.mem.proofs.Prelude.{_∙_, _≡_, sym, ap, refl, ap₂, subst, true, Bool, false, List, [], _∷_, _++_, append-assoc, append-nil, _+_, ℕ, _<_}
-use Rattle.mem.proofs.Prelude.{_≤_, _*_, _-_, _/_, add-zero, arith, T, ltb, ltb→lt, length, drop, drop-at, ones}
+use Rattle.mem.proofs.Prelude.{_∙_, _≡_, sym, ap, refl, ap₂, subst, List, [], _∷_, _++_, append-assoc, append-nil, _+_, ℕ, _<_}
+use Rattle.mem.proofs.Prelude.{_≤_, _-_, _/_, add-zero, arith, T, ltb→lt, length, drop, drop-at, ones}
 use Rattle.mem.specs.Lists.{every, sum, join}
 use Rattle.mem.specs.Bytes.{zeros, number, part, bit}
 use Rattle.mem.proofs.Tests.{and-left, and-right}
 use Rattle.mem.proofs.Laws.{number-low}
-use Rattle.classes.specs.Classes.{slotsOf, tooLarge}
-use Rattle.classes.proofs.Laws.{rows-pos}
+use Rattle.classes.specs.Classes.{slotsOf}
 use Rattle.model.specs.declared.Slot.{Slot}
 use Rattle.model.specs.declared.Slot.the-variants.{Fresh, Idle, Live}
 use Rattle.model.specs.declared.Holder.the-variants.{First}
@@ -16,6 +15,7 @@ use Rattle.model.specs.Plans.{slotSum, freeRow, heldRows, totals}
 use Rattle.model.specs.Tables.{rowAt, byMasks, slotRecord, rowRecord, spanRecords, sizesIn, view, viewHolder, rowRecordBytes}
 use Rattle.model.proofs.Tables.{masks-laws, slot-length, rowHead, head-length, row-parts, group-slots, group-few}
 use Rattle.model.proofs.Rooms.{rows-append}
+use Rattle.model.proofs.Counts.{held-free, size-small, totals-few}
 use Rattle.rows.specs.Rows.{Lent}
 use Rattle.rows.proofs.Rooms.{group-first, records-holder, some-rows, row-count, few-rows, row-inside, before-sound, span-sound, span-rows, span-from}
 use Rattle.records.specs.Records.{masksIn}
@@ -23,13 +23,6 @@ use Rattle.records.proofs.Laws.{mask-ones, three-sets, masks-read-span}
 use Rattle.totals.specs.Sums.{idle, Countable, Small, addHeld, addGroup, addSpan}
 
 -- ---- sums over the slots of a group
-
-size-small : (c : ℕ) (x : Slot) → T (slotSound c x) → size x ≤ 131052
-unfolding slotSound tooLarge
-size-small c Fresh t = omega arith
-size-small c (Idle r k d) t = omega arith
-size-small c (Live a) t =
-    let u : T (ltb (a .size) 131052) = search (and-left, and-right) in omega (arith, ltb→lt (a .size) 131052 u)
 
 size-read : (c : ℕ) (x : Slot) (rest : List ℕ) → T (slotSound c x) → number (part 4 3 (slotRecord x ++ rest)) ≡ size x
 unfolding slotRecord zeros
@@ -82,9 +75,7 @@ module _ (row : ℕ) where
 
   rows-passed : (X : Pool) → rows row X ≡ totals row X .held + totals row X .free
   unfolding totals
-  rows-passed [] = refl
-  rows-passed (free ∷ X) = omega (arith, rows-passed X)
-  rows-passed (group c ss ∷ X) = omega (arith, rows-passed X)
+  rows-passed X = sym (held-free row X)
 
   module _ (c : ℕ) (ss : List Slot) (Y : Pool) (t : T (spanSound (group c ss))) where
     ready-read : ones (masksIn (join (spanRecords row) (group c ss ∷ Y)) .ready) ≡ sum (λ x. bit (isReady x)) ss
@@ -111,43 +102,17 @@ module _ (row : ℕ) where
 
 -- ---- the totals of a pool fit their type
 
-slots-most : (f : Slot → ℕ) (c : ℕ) → ((x : Slot) → T (slotSound c x) → f x ≤ 131052) → (ss : List Slot) → T (every (slotSound c) ss)
-    → sum f ss ≤ 131052 * length ss
-slots-most f c h [] t = omega arith
-slots-most f c h (x ∷ ss) t =
-    omega (arith, h x (and-left (slotSound c x) (every (slotSound c) ss) t), slots-most f c h ss (and-right (slotSound c x) (every (slotSound c) ss) t))
-
-bit-small : (b : Bool) → bit b ≤ 131052
-bit-small true = omega arith
-bit-small false = omega arith
-
-module _ (row : ℕ) (pos : 0 < row) where
-  -- 31 times as much
-  spans-most : (f : Slot → ℕ) → ((c : ℕ) (x : Slot) → T (slotSound c x) → f x ≤ 131052) → (P : Pool) → T (wellFormed P)
-      → sum (slotSum f) P ≤ 4062612 * rows row P
-  unfolding spanSound
-  spans-most f h [] t = omega arith
-  spans-most f h (free ∷ P) t = omega (arith, spans-most f h P t)
-  spans-most f h (group c ss ∷ P) t =
-      let u : T (spanSound (group c ss)) = and-left (spanSound (group c ss)) (wellFormed P) t in
-      omega (
-        arith,
-        slots-most f c (h c) ss (search (and-left, and-right)),
-        group-few c ss u,
-        rows-pos row c pos,
-        spans-most f h P (and-right (spanSound (group c ss)) (wellFormed P) t),
-      )
-
-  totals-small : (P : Pool) → T (wellFormed P) → rows row P ≤ 512 → Small (totals row P)
-  unfolding totals
-  totals-small P t h = record {
-    blocks = omega (arith, spans-most (λ x. bit (isLive x)) (λ c x u. bit-small (isLive x)) P t);
-    bytes = omega (arith, spans-most size size-small P t);
-    held = omega (arith, rows-passed row P);
-    free = omega (arith, rows-passed row P);
-    ready = omega (arith, spans-most (λ x. bit (isReady x)) (λ c x u. bit-small (isReady x)) P t);
-    waiting = omega (arith, spans-most (λ x. bit (isWaiting x)) (λ c x u. bit-small (isWaiting x)) P t);
-  }
+totals-small : (row : ℕ) → 0 < row → (P : Pool) → T (wellFormed P) → rows row P ≤ 512 → Small (totals row P)
+totals-small row pos P t h =
+    let f = totals-few row pos P t h in
+    record {
+      blocks = omega (arith, f .blocks);
+      bytes = omega (arith, f .bytes);
+      held = omega (arith, f .held);
+      free = omega (arith, f .free);
+      ready = omega (arith, f .ready);
+      waiting = omega (arith, f .waiting);
+    }
 
 -- ---- the walk over sound tables
 

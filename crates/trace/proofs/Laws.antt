@@ -1,12 +1,8 @@
 -- Laws of trace numbers and operations.
-use mathlib.Core.Path.{_≡_, refl, sym, ap, _∙_, subst}
-use mathlib.Core.Bool.{Bool, true, false, false≢true}
-use mathlib.Core.List.{List, [], _∷_}
-use Prim.Native.Nat.{ℕ, zero, suc, _+_, _*_, _≤_, _<_}
-use native.Mathlib.Omega.{arith}
-use borrow.Author.Tests.{ne-eqb, eqb-true, leb-true, le-leb, lt-leb, lt-ltb, le-ltb, ltb-false}
-use lib.Dec.{eqb, leb, ltb}
-use lib.ListN.{length, getD}
+use Rattle.mem.proofs.Prelude.{_≡_, refl, sym, ap, _∙_, subst, Bool, true, false, List, ℕ, zero, suc, _+_, _≤_, _<_, arith, ne-eqb, eqb-true}
+use Rattle.mem.proofs.Prelude.{leb-true, le-leb, lt-leb, lt-ltb, le-ltb, eqb, leb, ltb, length, getD}
+use mathlib.Core.Bool.{false≢true}
+use borrow.Author.Tests.{ltb-false}
 use Rattle.mem.specs.Lists.{choose}
 use Rattle.mem.specs.Bytes.{big, part}
 use Rattle.mem.proofs.Tests.{choose-true, choose-false, choose-case}

@@ -1,7 +1,7 @@
 -- Traces are read as they are written, and whole ones are written as they are read.
-use Rattle.mem.proofs.Prelude.{_∙_, _≡_, sym, ap, refl, ap₂, true, Bool, false, List, [], _∷_, _++_, append-assoc, map, ℕ, _<_, _≤_, _+_, _-_, suc, zero}
-use Rattle.mem.proofs.Prelude.{arith, T, eqb, leb, ltb, ltb→lt, leb→le, length, take, drop, getD, length-append, length-drop, take-append-drop, drop-drop}
-use Rattle.mem.proofs.Prelude.{eqb-true, eqb-false, leb-true, le-leb, drop-at}
+use Rattle.mem.proofs.Prelude.{_∙_, _≡_, sym, ap, refl, ap₂, true, Bool, false, List, [], _∷_, _++_, append-assoc, map, ℕ, _<_, _≤_, _+_, _-_, suc}
+use Rattle.mem.proofs.Prelude.{zero, arith, T, eqb, leb, ltb, ltb→lt, leb→le, length, take, drop, getD, length-append, length-drop, take-append-drop}
+use Rattle.mem.proofs.Prelude.{drop-drop, eqb-true, eqb-false, leb-true, le-leb, drop-at}
 use mathlib.Core.Bool.{false≢true}
 use lib.Seq.{take-at, take-add, take-all}
 use lib.ListN.{drop-of-length-le}

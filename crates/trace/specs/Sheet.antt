@@ -3,7 +3,7 @@ use Prim.Native.Nat.{ℕ}
 use mathlib.Core.Path.{_≡_}
 use mathlib.Core.List.{List, [], _∷_, _++_, map}
 use Rattle.mem.specs.Bytes.{zeros}
-use Rattle.model.specs.Answers.{Answer, done}
+use Rattle.model.specs.Answers.{done}
 use Rattle.trace.specs.Trace.{Operation, grant, release, resize, measure, store, report, encodeRecord, encodeTrace}
 use Rattle.trace.specs.Replay.{Line, told, bad, replayed}
 

@@ -1,7 +1,7 @@
 -- That traces are read as they are written.
 use Prim.Native.Nat.{ℕ}
 use mathlib.Core.Path.{_≡_}
-use mathlib.Core.List.{List, [], _∷_, map}
+use mathlib.Core.List.{List, _∷_, map}
 use lib.Dec.{T, ltb}
 use Rattle.mem.specs.Lists.{every}
 use Rattle.trace.specs.Trace.{Operation, version, does, items, writable, encodeTrace}

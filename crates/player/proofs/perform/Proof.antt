@@ -1,5 +1,5 @@
 -- `perform` meets its contract: an operation is a call, or a store of bytes of the trace.
-use Rattle.mem.proofs.Prelude.{_∙_, _≡_, sym, ap, refl, subst, some, none, List, [], _∷_, ℕ, _-_, now, needs, length}
+use Rattle.mem.proofs.Prelude.{_∙_, _≡_, sym, ap, refl, subst, some, none, List, [], _∷_, ℕ, _-_, _≤_, now, needs, length}
 use Rattle.mem.specs.Lists.{choose}
 use Rattle.mem.specs.Bytes.{part}
 use Rattle.mem.proofs.Tests.{choose-true, choose-false}
@@ -10,8 +10,10 @@ use Rattle.model.specs.Calls.{call}
 use Rattle.model.proofs.Calls.{measure-keeps, report-keeps}
 use Rattle.trace.specs.declared.Op.{Op}
 use Rattle.trace.specs.Trace.{Within, operationOf}
-use Rattle.trace.specs.Replay.{Effect, effect, performed}
+use Rattle.trace.specs.Replay.{Line, Effect, effect, performed}
+use Rattle.player.specs.Printed.{lineText}
 use Rattle.player.proofs.Laws.{Parts, of-call, of-store}
+use Rattle.player.proofs.Lines.{report-short}
 use Rattle.player.proofs.perform.Statement.{statement}
 use Rattle.player.proofs.perform.Tie as tie
 
@@ -47,7 +49,7 @@ returns c =
     let g = c .before .before .before .before in
     let o = g .before .before .before .before in
     let x = o .op .given .0 in
-    asks (o .before .before .before .before .before) (Op.Grant (x .0)) (grants (x .0)) _ _ _ (o .op .given .1) refl (g .grant .ensures)
+    (tt, asks (o .before .before .before .before .before) (Op.Grant (x .0)) (grants (x .0)) _ _ _ (o .op .given .1) refl (g .grant .ensures))
 
 returns-2 : tie.Need-returns-2
 unfolding performed operationOf
@@ -55,15 +57,18 @@ returns-2 c =
     let g = c .before .before .before .before in
     let o = g .before .before .before .before in
     let x = o .op2 .given .0 in
-    asks (o .before .before .before .before .before) (Op.Release (x .0)) (releases (x .0)) _ _ _ (o .op2 .given .1) refl (g .release .ensures)
+    (tt, asks (o .before .before .before .before .before) (Op.Release (x .0)) (releases (x .0)) _ _ _ (o .op2 .given .1) refl (g .release .ensures))
 
 returns-3 : tie.Need-returns-3
 unfolding performed operationOf
 returns-3 c =
     let g = c .before .before .before .before in
     let o = g .before .before .before .before in
-    let x = o .op3 .given .0 in
-    asks (o .before .before .before .before .before) (Op.Resize (x .0) (x .1 .0)) (resizes (x .0) (x .1 .0)) _ _ _ (o .op3 .given .1) refl (g .resize .ensures)
+    let x = o .op3 .given .0 in (
+      tt,
+      asks (o .before .before .before .before .before) (Op.Resize (x .0) (x .1 .0))
+          (resizes (x .0) (x .1 .0)) _ _ _ (o .op3 .given .1) refl (g .resize .ensures),
+    )
 
 returns-4 : tie.Need-returns-4
 unfolding performed operationOf
@@ -71,7 +76,7 @@ returns-4 c =
     let s = c .before .before .before .before .before .before .before .before .before in
     let o = c .before .before .before .before .op4 .given in
     let k = measure-keeps rowBytes (now (s .args .arena)) (now (s .args .room)) (o .0 .0) in
-    asks s (Op.Measure (o .0 .0)) (measures (o .0 .0)) _ _ _ (o .1) refl (c .measure .ensures, (sym (k .arena), sym (k .room)))
+    (tt, asks s (Op.Measure (o .0 .0)) (measures (o .0 .0)) _ _ _ (o .1) refl (c .measure .ensures, (sym (k .arena), sym (k .room))))
 
 -- a store made of a part of the trace
 stores : (g : tie.After-store)
@@ -87,17 +92,20 @@ stores g =
     (ap (does s) (o .1)) (g .store .ensures)
 
 returns-5 : tie.Need-returns-5
-returns-5 c = let w = stores (c .before .before .before) in (sym (choose-true _ _ _ (c .if1 .taken)) ∙ w .0, w .1)
+returns-5 c = let w = stores (c .before .before .before) in (tt, (sym (choose-true _ _ _ (c .if1 .taken)) ∙ w .0, w .1))
 
 returns-6 : tie.Need-returns-6
-returns-6 c = let w = stores (c .before .before .before) in (sym (choose-false _ _ _ (c .if1 .left)) ∙ w .0, w .1)
+returns-6 c = let w = stores (c .before .before .before) in (tt, (sym (choose-false _ _ _ (c .if1 .left)) ∙ w .0, w .1))
 
 returns-7 : tie.Need-returns-7
 unfolding performed operationOf
 returns-7 c =
     let s = c .before .before .before .before .before .before .before .before in
     let k = report-keeps rowBytes (now (s .args .arena)) (now (s .args .room)) in
-    asks s Op.Report reports _ _ _ (c .before .before .before .enum-told .given .1) refl (c .report .ensures, (sym (k .arena), sym (k .room)))
+    let e = c .report .ensures in (
+      subst (λ (r : Answer). length (lineText (Line.told r)) ≤ 45) (sym e) (report-short (now (s .args .arena)) (now (s .args .room))),
+      asks s Op.Report reports _ _ _ (c .before .before .before .enum-told .given .1) refl (e, (sym (k .arena), sym (k .room))),
+    )
 
 pub perform-spec : {M : Type 1} → statement M
 perform-spec =

@@ -1,7 +1,6 @@
 -- `play` meets its contract. The invariant: writing the text of the records that are left makes the whole written; a record has three bytes
--- or more and a line at most 150, so there is room for it.
-use Rattle.mem.proofs.Prelude.{_∙_, _≡_, sym, ap, refl, subst, List, [], ℕ, suc, _+_, _*_, _-_, _<_, _≤_, append-nil, arith, now, needs, length}
-use Rattle.mem.proofs.Laws.{put-length}
+-- or more and its line at most 45, so there is room for it.
+use Rattle.mem.proofs.Prelude.{_∙_, _≡_, sym, refl, subst, [], _+_, _*_, _-_, _≤_, append-nil, arith, now, needs, length}
 use Rattle.trace.specs.Trace.{Within}
 use Rattle.trace.specs.Replay.{Line, lineOf}
 use Rattle.trace.proofs.Laws.{step-within}
@@ -13,7 +12,7 @@ use Rattle.player.proofs.play.Tie as tie
 
 abbrev Inv-loop : tie.InvT-loop
 Inv-loop arena₀ room₀ trace out₀ at₀ count₀ end₀ arena room out at count end =
-    (count ≤ at) × (at ≤ length trace) × (end ≤ 50 * at) × (length arena ≡ length arena₀) × (length room ≡ length room₀) × (length out ≡ length out₀)
+    (count ≤ at) × (at ≤ length trace) × (end ≤ 15 * at) × (length arena ≡ length arena₀) × (length room ≡ length room₀) × (length out ≡ length out₀)
     × Left 0 (playedText arena₀ room₀ trace) out₀ end (Rest arena room trace count at) out
 
 abbrev μ-loop : tie.MeasureT-loop
@@ -39,9 +38,9 @@ perform-requires c κs = promised (c .before .before .before) .1 .1
 
 put-line-requires : tie.Need-put-line-requires Inv-loop μ-loop
 put-line-requires c κs =
-    let o = c .before .before .before .before .before .before .before .before .before in
-    let w = promised o in
-    omega (arith, w .0, w .1 .0)
+    let d = c .before .before .before .before .before in
+    let w = promised (d .before .before .before .before) in
+    (omega (arith, w .0, w .1 .0), d .perform .ensures .0)
 
 -- the record's line is written, and what is behind it is left
 written : (p : tie.After-is-bad Inv-loop μ-loop)
@@ -67,7 +66,7 @@ written p =
     (Rest (k .loop .arena) (k .loop .room) (now (a .trace)) i (k .loop .at)) (lineText (lineOf i x))
     (Behind x (d .perform .last .0) (d .perform .last .1 .0) (now (a .trace)) (i + 1) (o .op .given .0 .1 .0)) (k .loop .out) (l .put-line .last .0)
     (turn (k .loop .arena) (k .loop .room) (now (a .trace)) i (k .loop .at) (omega arith) (o .op .given .0 .0) (o .op .given .0 .1 .0)
-    (sym (o .op .given .1) ∙ r .read .ensures) x (d .perform .last .0) (d .perform .last .1 .0) (e .0) (e .1 .0) (e .1 .1))
+    (sym (o .op .given .1) ∙ r .read .ensures) x (d .perform .last .0) (d .perform .last .1 .0) (e .1 .0) (e .1 .1 .0) (e .1 .1 .1))
     (l .put-line .ensures .0) (l .put-line .ensures .1 .0) (k .loop .inv .6)
 
 -- a bad record is the last

@@ -1,5 +1,5 @@
 -- `put_field` meets its contract: a byte, and the number behind it.
-use Rattle.mem.proofs.Prelude.{_∙_, sym, ap, _+_, suc, add-one, arith, now, needs, length, length-set}
+use Rattle.mem.proofs.Prelude.{_∙_, sym, ap, add-one, arith, now, needs, length, length-set}
 use Rattle.mem.proofs.Laws.{put-cons, put-length}
 use Rattle.text.specs.Decimal.{decimal}
 use Rattle.player.specs.Printed.{field}

@@ -5,7 +5,7 @@ use Rattle.model.specs.declared.Reply.{Reply}
 use Rattle.model.specs.Answers.{Answer, replyAnswer}
 use Rattle.trace.specs.Replay.{Line, lineOf}
 use Rattle.player.specs.declared.Told.{Told}
-use Rattle.player.specs.Printed.{lineText, answerOf}
+use Rattle.player.specs.Printed.{lineText, answerOf, Short}
 use Rattle.player.proofs.put_line.Statement.{statement}
 use Rattle.player.proofs.put_line.Tie as tie
 
@@ -19,7 +19,7 @@ of-reply (Reply.Refused x) n v e f = ap₂ (λ k w. answer k (w ∷ [])) e f
 
 -- what is promised of one line is promised of the same line
 abbrev Writes : ℕ → List ℕ → ℕ → List ℕ → Line → Type 0
-Writes at out r o l = (r ≡ at + length (lineText l)) × ((o ≡ put at (lineText l) out) × (r ≤ at + 150))
+Writes at out r o l = (r ≡ at + length (lineText l)) × ((o ≡ put at (lineText l) out) × (r ≤ at + 45))
 
 returns : tie.Need-returns
 returns c =
@@ -34,12 +34,14 @@ returns c =
 returns-2 : tie.Need-returns-2
 returns-2 c =
     let p = c .before .before in
-    let a = p .before .before .before .before .before .before .before .before .before .args in
+    let start = p .before .before .before .before .before .before .before .before .before in
+    let a = start .args in
     let e = p .put-answer2 .ensures in
     let o = p .before .before .before .before .before .before .told2 .given in
     let q = ap₂ answer (p .before .before .report-number .ensures) (p .before .before .before .before .report-values .ensures) in
+    let b = subst Short (o .1) (start .pre .1) in
     subst (Writes (a .at) (now (a .out)) (p .put-answer2 .result) _) (ap Line.told q ∙ ap (λ (t : Told). lineOf (a .count) (answerOf t)) (sym (o .1)))
-    (e .0, (e .1 .0, omega (arith, e .1 .1)))
+    (e .0, (e .1 .0, omega (arith, e .0, ap (λ (r : Answer). length (lineText (Line.told r))) q, b)))
 
 returns-3 : tie.Need-returns-3
 returns-3 c =

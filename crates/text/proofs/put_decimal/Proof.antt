@@ -1,5 +1,5 @@
 -- `put_decimal` meets its contract: the digits are made in a local array, and copied to their place.
-use Rattle.mem.proofs.Prelude.{_∙_, sym, ap, List, ℕ, _+_, arith, now, needs, length}
+use Rattle.mem.proofs.Prelude.{_∙_, ap, List, ℕ, _+_, arith, now, needs, length}
 use Rattle.mem.specs.Bytes.{put}
 use Rattle.text.specs.Decimal.{decimal}
 use Rattle.text.proofs.Laws.{digits-are, most}

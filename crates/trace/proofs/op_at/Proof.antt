@@ -1,13 +1,7 @@
 -- `op_at` meets its contract: one arm for each operation.
-use mathlib.Core.Path.{_≡_, sym, ap, ap₂, _∙_}
-use mathlib.Core.List.{List}
-use Prim.Native.Nat.{ℕ, _+_, _≤_}
-use native.Mathlib.Omega.{arith}
-use borrow.Author.Needs.{needs}
-use denote.Ref.{now}
-use lib.ListN.{getD, length}
+use Rattle.mem.proofs.Prelude.{_≡_, sym, ap, ap₂, _∙_, List, ℕ, _+_, arith, needs, now}
 use Rattle.mem.specs.Lists.{choose}
-use Rattle.trace.specs.Trace.{opAt, fits}
+use Rattle.trace.specs.Trace.{opAt}
 use Rattle.trace.specs.declared.Op.{Op}
 use Rattle.trace.proofs.Laws.{five, nine, op-none}
 use Rattle.trace.proofs.op_at.Statement.{statement}

@@ -1,5 +1,5 @@
 -- `readable` meets its contract, test by test.
-use Rattle.mem.proofs.Prelude.{_∙_, sym, arith, now, needs, le-leb, lt-leb, length}
+use Rattle.mem.proofs.Prelude.{sym, arith, now, needs, le-leb, lt-leb, length}
 use Rattle.trace.specs.Trace.{traceRight}
 use Rattle.trace.proofs.readable.Statement.{statement}
 use Rattle.trace.proofs.readable.Tie as tie

@@ -1,0 +1,69 @@
+-- What report counts: rows held and rows free are all rows, and no total is large.
+use Rattle.mem.proofs.Prelude.{_≡_, refl, Bool, true, false, [], _∷_, ℕ, _+_, _*_, _<_, _≤_, arith, T, ltb→lt, eqb→eq, length}
+use native.Mathlib.Nat.{mul-le-mul-left}
+use Rattle.mem.specs.Lists.{sum}
+use Rattle.mem.specs.Bytes.{bit}
+use Rattle.mem.proofs.Tests.{and-left, and-right}
+use Rattle.mem.proofs.Laws.{sum-below}
+use Rattle.classes.specs.Classes.{slotsOf, tooLarge}
+use Rattle.classes.proofs.Laws.{slots-small, rows-pos}
+use Rattle.model.specs.declared.Slot.{Slot}
+use Rattle.model.specs.declared.Slot.the-variants.{Fresh, Idle, Live}
+use Rattle.model.specs.declared.Totals.{Totals}
+use Rattle.model.specs.State.{Span, Pool, free, group, isLive, isReady, isWaiting, size, slotSound, spanSound, wellFormed, rows}
+use Rattle.model.specs.Plans.{slotSum, heldRows, freeRow, totals}
+
+pub held-free : (row : ℕ) (P : Pool) → sum (heldRows row) P + sum freeRow P ≡ rows row P
+held-free row [] = refl
+held-free row (free ∷ P) = omega (arith, held-free row P)
+held-free row (group c ss ∷ P) = omega (arith, held-free row P)
+
+-- no span is without a row
+few-spans : (row : ℕ) → 0 < row → (P : Pool) → length P ≤ rows row P
+few-spans row pos [] = omega arith
+few-spans row pos (free ∷ P) = omega (arith, few-spans row pos P)
+few-spans row pos (group c ss ∷ P) = omega (arith, few-spans row pos P, rows-pos row c pos)
+
+-- where each slot counts k at most, a span counts 31 times that
+slots-below : (f : Slot → ℕ) (k : ℕ) → ((c : ℕ) (x : Slot) → T (slotSound c x) → f x ≤ k) → (s : Span) → T (spanSound s) → slotSum f s ≤ k * 31
+unfolding spanSound
+slots-below f k h free t = omega arith
+slots-below f k h (group c ss) t =
+    let l : length ss ≤ 31 = omega (arith, eqb→eq (length ss) (slotsOf c) (search (and-left, and-right)), slots-small c) in
+    omega (arith, sum-below f k (slotSound c) (h c) ss (search and-right), mul-le-mul-left {m = length ss} {n = 31} k l)
+
+pub size-small : (c : ℕ) (x : Slot) → T (slotSound c x) → size x ≤ 131051
+unfolding slotSound tooLarge
+size-small c Fresh t = omega arith
+size-small c (Idle r k d) t = omega arith
+size-small c (Live a) t = omega (arith, ltb→lt (a .size) 131052 (search (and-left, and-right)))
+
+-- totals whose numbers have at most five digits, and the bytes ten
+pub record Few (s : Totals) : Type 0 where
+  pub blocks : s .blocks < 100000
+  pub bytes : s .bytes < 10000000000
+  pub held : s .held < 100000
+  pub free : s .free < 100000
+  pub ready : s .ready < 100000
+  pub waiting : s .waiting < 100000
+
+bit-small : (b : Bool) → bit b ≤ 1
+bit-small true = omega arith
+bit-small false = omega arith
+
+module _ (row : ℕ) (pos : 0 < row) (P : Pool) (t : T (wellFormed P)) (h : rows row P ≤ 512) where
+  spans-below : (f : Slot → ℕ) (k : ℕ) → ((c : ℕ) (x : Slot) → T (slotSound c x) → f x ≤ k) → sum (slotSum f) P ≤ k * 31 * length P
+  spans-below f k g = sum-below (slotSum f) (k * 31) spanSound (slots-below f k g) P t
+
+  pub totals-few : Few (totals row P)
+  unfolding totals
+  totals-few =
+      let n = few-spans row pos P in
+      record {
+        blocks = omega (arith, spans-below (λ x. bit (isLive x)) 1 (λ c x u. bit-small (isLive x)));
+        bytes = omega (arith, spans-below size 131051 size-small);
+        held = omega (arith, held-free row P);
+        free = omega (arith, held-free row P);
+        ready = omega (arith, spans-below (λ x. bit (isReady x)) 1 (λ c x u. bit-small (isReady x)));
+        waiting = omega (arith, spans-below (λ x. bit (isWaiting x)) 1 (λ c x u. bit-small (isWaiting x)));
+      }
