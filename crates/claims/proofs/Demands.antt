@@ -15,7 +15,7 @@ use Rattle.claims.proofs.Guards.{guards-as-said}
 use Rattle.claims.proofs.Resizes.{resizes-as-said}
 use Rattle.claims.proofs.Demand3.{steers-nothing, stores-admitted, room-follows}
 use Rattle.claims.proofs.History.{history}
-use Rattle.claims.proofs.Traces.{lines-modelled, stores-steer-nothing}
+use Rattle.claims.proofs.Traces.{lines-modelled, stores-steer-nothing, replay-steers-nothing}
 
 some-bytes : 0 < rowBytes
 unfolding rowBytes
@@ -50,4 +50,5 @@ demands = record {
   lines-due = lines-due;
   lines-modelled = lines-modelled rowBytes some-bytes;
   stores-steer-nothing = stores-steer-nothing rowBytes some-bytes;
+  replay-steers-nothing = replay-steers-nothing some-bytes;
 }

@@ -5,16 +5,18 @@ use borrow.Author.Tests.{ltb-true, ltb-false}
 use Rattle.mem.specs.Lists.{choose}
 use Rattle.mem.specs.Bytes.{zeros, put}
 use Rattle.mem.proofs.Laws.{zeros-length, put-length, put-before, put-past}
+use Rattle.classes.specs.Classes.{rowBytes}
 use Rattle.model.specs.State.{Pool, wellFormed}
 use Rattle.model.specs.Plans.{Plan, Call, grants, releases, resizes, measures, reports, plan}
-use Rattle.model.specs.Tables.{encode, arenaRight}
-use Rattle.model.specs.Calls.{Result, masked, applied, call, callBy, written}
+use Rattle.model.specs.Tables.{encode, arenaRight, roomBytes}
+use Rattle.model.specs.Calls.{Result, masked, applied, call, callBy, written, setUpRight, setUpRightBy}
 use Rattle.model.proofs.Fresh.{fresh-formed, whole-rows, set-up-lawful, set-up-done}
 use Rattle.model.proofs.Formed.{Formed, plan-formed}
 use Rattle.trace.specs.Trace.{Operation, grant, release, resize, measure, store, report, Item, does, items, traceRight}
-use Rattle.trace.specs.Replay.{Line, Effect, effect, lineThen, performed, linesFrom, replayedOver}
+use Rattle.trace.specs.Replay.{arenaBytes, Line, Effect, effect, lineThen, performed, linesFrom, replayedOver, replayed}
 use Rattle.claims.specs.Demand3.{fed, requested, SameOutside}
 use Rattle.claims.specs.Traces.{blank, Stepped, stepped, steps, modelLines, Lies, StoresInside, LinesModelled, StoresSteerNothing}
+use Rattle.claims.specs.Traces.{ReplaySteersNothing}
 use Rattle.claims.proofs.Cells.{cells, Agrees}
 use Rattle.claims.proofs.Steps.{fresh-agrees, arena-length, plan-kept}
 use Rattle.claims.proofs.Requested.{engine-keeps}
@@ -168,3 +170,16 @@ module _ (row : ℕ) (pos : 0 < row) where
       lines-modelled a₁ t₁ s₁ h₁ k
       ∙ ap₂ (λ b ls. choose b ls (Line.bad 0 ∷ [])) (same .read) (e ∙ ap (λ m. modelLines row m (fed row m) 1 (items s₂)) l)
       ∙ sym (lines-modelled a₂ t₂ s₂ h₂ k₂)
+
+-- ---- the replay's pool
+
+-- set up takes the program's arena and table room
+taken : T (setUpRight rowBytes (zeros arenaBytes) (zeros (roomBytes (arenaBytes / rowBytes))))
+unfolding setUpRightBy arenaRight rowBytes roomBytes zeros
+taken = tt
+
+pub replay-steers-nothing : 0 < rowBytes → ReplaySteersNothing
+unfolding replayed
+replay-steers-nothing pos s₁ s₂ same k =
+    stores-steer-nothing rowBytes pos (zeros arenaBytes) _ (zeros arenaBytes) _ s₁ s₂ taken taken refl same
+    (subst (λ m. StoresInside rowBytes m (fed rowBytes m) (items s₁)) (sym (zeros-length arenaBytes)) k)

@@ -14,7 +14,7 @@ use Rattle.claims.specs.Demand2.{ReleasesExactly, MeasuresExactly, Grant
 use Rattle.claims.specs.AsSaid.{NeverAtZero, GuardsAsSaid, SetsUpAsSaid, ReadsOnly, ReportsAsSaid, ReleasesAsSaid, ResizesAsSaid}
 use Rattle.claims.specs.Demand3.{RoomFollows, SteersNothing, StoresAdmitted}
 use Rattle.claims.specs.History.{History}
-use Rattle.claims.specs.Traces.{LinesModelled, StoresSteerNothing}
+use Rattle.claims.specs.Traces.{LinesModelled, StoresSteerNothing, ReplaySteersNothing}
 
 pub record Demands (row : ℕ) : Type 0 where
   -- 1: every call ends with the first answer due, and a refusal changes nothing
@@ -49,3 +49,4 @@ pub record Demands (row : ℕ) : Type 0 where
   pub lines-due : LinesDue
   pub lines-modelled : LinesModelled row
   pub stores-steer-nothing : StoresSteerNothing row
+  pub replay-steers-nothing : ReplaySteersNothing

@@ -8,12 +8,13 @@ use lib.Dec.{T, leb}
 use lib.ListN.{length}
 use Rattle.mem.specs.Lists.{choose}
 use Rattle.mem.specs.Bytes.{zeros}
+use Rattle.classes.specs.Classes.{rowBytes}
 use Rattle.model.specs.State.{Pool}
 use Rattle.model.specs.Answers.{Answer, done}
 use Rattle.model.specs.Plans.{Plan, grants, releases, resizes, measures, reports, plan}
 use Rattle.model.specs.Calls.{setUpRight}
 use Rattle.trace.specs.Trace.{Operation, grant, release, resize, measure, store, report, Item, does, items, traceRight}
-use Rattle.trace.specs.Replay.{Line, lineThen, replayedOver}
+use Rattle.trace.specs.Replay.{arenaBytes, Line, lineThen, replayedOver, replayed}
 use Rattle.claims.specs.Demand3.{fed, requested}
 
 -- a record without the bytes that it stores: as many zeros stand for them
@@ -81,3 +82,8 @@ module _ (row : ℕ) where
   StoresSteerNothing = (a₁ t₁ a₂ t₂ s₁ s₂ : List ℕ) → T (setUpRight row a₁ t₁) → T (setUpRight row a₂ t₂) → length a₁ ≡ length a₂
       → AlikeButStores s₁ s₂ → StoresInside (length a₁) (fed row (length a₁)) (items s₁)
       → replayedOver row a₁ t₁ s₁ ≡ replayedOver row a₂ t₂ s₂
+
+-- and so the replay's own lines
+abbrev pub ReplaySteersNothing : Type 0
+ReplaySteersNothing = (s₁ s₂ : List ℕ) → AlikeButStores s₁ s₂ → StoresInside rowBytes arenaBytes (fed rowBytes arenaBytes) (items s₁)
+    → replayed s₁ ≡ replayed s₂
