@@ -8,7 +8,8 @@ ghost use Rattle.player.specs.Printed.{linesText};
 use libc::STDIN_FILENO;
 use libc::STDOUT_FILENO;
 
-// Writes the text of a trace's lines, and gives its length. Arena and table room are arrays of this program, lent to the library.
+// Writes the text of a trace's lines, and gives its length. Arena and table room are arrays of this program, lent to the library: 16,384
+// bytes, and the size of the tables for as many (docs/TABLES.md).
 fn replay_text(trace: &[u8], out: &mut [u8; player::TEXT]) -> usize
     ensures { λ r. ⌜ r ≡ length (linesText (replayed (now (trace .entry)))) ⌝ }
     ensures { λ r. ⌜ now (out .exit) ≡ put 0 (linesText (replayed (now (trace .entry)))) (now (out .entry)) ⌝ }
