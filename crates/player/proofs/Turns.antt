@@ -1,7 +1,7 @@
 -- A record of a trace after the other: the text of those that are left, by what stands at a place.
 use Rattle.mem.proofs.Prelude.{_∙_, _≡_, sym, ap, refl, Option, some, none, true, false, true≢false, List, [], _++_, append-nil}
-use Rattle.mem.proofs.Prelude.{ℕ, suc, _+_, _-_, _≤_, arith, leb→le, length}
-use Rattle.mem.proofs.Tests.{true-T, and-left, and-right, choose-true, choose-false}
+use Rattle.mem.proofs.Prelude.{ℕ, suc, _+_, _-_, _≤_, arith, length}
+use Rattle.mem.proofs.Tests.{choose-true, choose-false}
 use Rattle.classes.specs.Classes.{rowBytes}
 use Rattle.model.specs.Answers.{Answer}
 use Rattle.model.specs.Plans.{setsUp}
@@ -67,12 +67,6 @@ module _ (a t s : List ℕ) (i at : ℕ) (h : i ≤ length s) where
         by (Step.Record op q) e ∙ cc
 
 -- ---- the whole trace
-
-pub right-length : (s : List ℕ) → traceRight s ≡ true → (1 ≤ length s) × (length s ≤ 65535)
-unfolding traceRight
-right-length s e =
-    let t = true-T _ e in
-    (leb→le 1 (length s) (search and-left), leb→le (length s) 65535 (search (and-left, and-right)))
 
 module _ (a t s : List ℕ) where
   pub printed-bad : traceRight s ≡ false → printed a t s ≡ lineText (Line.bad 0)

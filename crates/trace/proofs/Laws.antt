@@ -1,12 +1,12 @@
 -- Laws of trace numbers and operations.
 use Rattle.mem.proofs.Prelude.{_≡_, refl, sym, ap, _∙_, subst, Bool, true, false, List, ℕ, zero, suc, _+_, _≤_, _<_, arith, ne-eqb, eqb-true}
-use Rattle.mem.proofs.Prelude.{leb-true, le-leb, lt-leb, lt-ltb, le-ltb, eqb, leb, ltb, length, getD}
+use Rattle.mem.proofs.Prelude.{leb-true, le-leb, lt-leb, lt-ltb, le-ltb, leb→le, eqb, leb, ltb, length, getD}
 use mathlib.Core.Bool.{false≢true}
 use borrow.Author.Tests.{ltb-false}
 use Rattle.mem.specs.Lists.{choose}
 use Rattle.mem.specs.Bytes.{big, part}
-use Rattle.mem.proofs.Tests.{choose-true, choose-false, choose-case}
-use Rattle.trace.specs.Trace.{fits, opAt, recordAt, stepAt, Within}
+use Rattle.mem.proofs.Tests.{true-T, and-left, and-right, choose-true, choose-false, choose-case}
+use Rattle.trace.specs.Trace.{fits, opAt, recordAt, stepAt, traceRight, Within}
 use Rattle.trace.specs.declared.Op.{Op}
 use Rattle.trace.specs.declared.Step.{Step}
 use Rattle.trace.specs.declared.Step.the-variants.{Record, Bad, End}
@@ -117,3 +117,11 @@ step-good s p =
 
 pub step-within : (s : List ℕ) (p : ℕ) (op : Op) (q : ℕ) → Step.Record op q ≡ stepAt s p → (p + 3 ≤ q) × ((q ≤ length s) × Within op (length s))
 step-within s p op q e = subst (Good s p) (sym e) (step-good s p)
+
+-- ---- the whole trace
+
+pub right-length : (s : List ℕ) → traceRight s ≡ true → (1 ≤ length s) × (length s ≤ 65535)
+unfolding traceRight
+right-length s e =
+    let t = true-T _ e in
+    (leb→le 1 (length s) (search and-left), leb→le (length s) 65535 (search (and-left, and-right)))
