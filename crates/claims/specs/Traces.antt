@@ -66,7 +66,7 @@ module _ (row : ℕ) where
   Lies P (store o bs) = (i : ℕ) → o ≤ i → i < o + length bs → T (requested row P i)
   Lies P report = Unit {0}
 
-  -- so do those of every store of a trace
+  -- and so are those of every store of a trace
   unfoldable pub StoresInside : ℕ → Pool → List Item → Type 0
   StoresInside n P [] = Unit {0}
   StoresInside n P (Item.bad ∷ xs) = StoresInside n P xs
