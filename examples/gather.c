@@ -1,4 +1,4 @@
-/* Grants a gather list for a packet, shows what the pool refuses, and prints a map of the arena's rows. */
+/* Grants a packet as one gather list, shows what the pool refuses, and prints a map of the arena's rows. */
 #include <stdio.h>
 #include <stdlib.h>
 #include <string.h>
@@ -14,7 +14,8 @@ static size_t room_len;
 static const char *name(uint32_t answer)
 {
     static const char *const names[] = {"done", "bad arena", "unsound", "too large", "no such block",
-                                        "already free", "header damaged", "overrun", "no room"};
+                                        "already free", "header damaged", "overrun", "no room", "list too long",
+                                        [SLOTPOOL_BAD_PROPOSAL] = "bad proposal"};
     return names[answer];
 }
 
@@ -31,6 +32,21 @@ static void map(void)
     printf("  %zu blocks, %zu bytes, %zu rows held, %zu free, %zu slots ready, %zu waiting\n", t[0], t[1], t[2], t[3], t[4], t[5]);
 }
 
+/* Asks for a list of so many bytes in entries of these sizes, at most cap each; gives how many were granted. */
+static size_t grant_list(size_t length, size_t cap, const size_t *sizes, size_t count, size_t starts[SLOTPOOL_ENTRIES])
+{
+    size_t entries;
+    uint32_t answer = slotpool_grant_list(arena, ARENA, room, room_len, length, cap, sizes, count, starts, SLOTPOOL_ENTRIES, &entries);
+    printf("list of %zu bytes as", length);
+    for (size_t i = 0; i < count; i++)
+        printf(" %zu", sizes[i]);
+    printf(": %s", name(answer));
+    for (size_t i = 0; i < entries; i++)
+        printf("%s %zu", i == 0 ? "," : "", starts[i]);
+    putchar('\n');
+    return entries;
+}
+
 int main(void)
 {
     room_len = slotpool_room_len(ARENA);
@@ -40,13 +56,19 @@ int main(void)
     printf("an arena of %d bytes, a table room of %zu\n", ARENA, room_len);
     map();
 
-    /* a packet of 400 bytes in entries of at most 160 */
-    size_t list[3], sizes[3] = {160, 160, 80};
-    for (int i = 0; i < 3; i++) {
-        uint32_t answer = slotpool_grant(arena, ARENA, room, room_len, sizes[i], &list[i]);
-        printf("grant %zu: %s, %zu\n", sizes[i], name(answer), list[i]);
-        memset(arena + list[i], 'a' + i, sizes[i]);
-    }
+    /* a packet of 400 bytes in entries of at most 160, as the planner proposes */
+    size_t sizes[SLOTPOOL_ENTRIES], list[SLOTPOOL_ENTRIES], planned;
+    if (slotpool_plan_list(400, 160, sizes, &planned) != SLOTPOOL_DONE)
+        return 1;
+    size_t entries = grant_list(400, 160, sizes, planned, list);
+    for (size_t i = 0; i < entries; i++)
+        memset(arena + list[i], 'a' + (int)i, sizes[i]);
+    map();
+
+    /* a list whose last entry has no room, and one whose sizes do not add up: no entry is granted, and the map stays */
+    size_t ours[2] = {160, 100}, starts[SLOTPOOL_ENTRIES];
+    grant_list(260, 160, ours, 2, starts);
+    grant_list(261, 160, ours, 2, starts);
     map();
 
     /* the driver writes one byte too many into the second entry */

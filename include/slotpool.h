@@ -1,8 +1,10 @@
 /* The slot pool: blocks of an arena of bytes, with the tables in a second room.
  *
- * Every call takes the arena and the table room, and answers a number of the table below. A refusal changes no byte of either.
+ * Every call on a pool takes the arena and the table room, and answers a number of the table below. A refusal changes no byte of either.
  * The caller owes: both buffers are valid for their given lengths, do not overlap, and are not used by anybody else during a call;
- * `value` and `totals` point to memory of their own. Nothing else: any bytes, lengths, offsets and sizes may be given.
+ * `value` and `totals` point to memory of their own. Likewise the lists `sizes` and `starts` are valid for their given lengths, the
+ * planner's for 17 places, and overlap neither each other nor a buffer; their pointers are not null, even where a length is 0.
+ * Nothing else: any bytes, lengths, offsets, sizes, caps and proposals may be given.
  */
 #ifndef SLOTPOOL_H
 #define SLOTPOOL_H
@@ -23,8 +25,13 @@ enum {
     SLOTPOOL_ALREADY_FREE = 5,   /* the last start of a slot that is not live */
     SLOTPOOL_HEADER_DAMAGED = 6, /* the 4 bytes before the block are not those due */
     SLOTPOOL_OVERRUN = 7,        /* header right, the byte past the end or the guard not that due */
-    SLOTPOOL_NO_ROOM = 8         /* no slot of the class, and no run of free rows for a new group */
+    SLOTPOOL_NO_ROOM = 8,        /* no slot of the class, and no run of free rows for a new group */
+    SLOTPOOL_TOO_LONG = 9,       /* lists: over 17 times the cap, a cap outside 1 to 131,051, or `starts` of fewer than 17 places */
+    SLOTPOOL_BAD_PROPOSAL = 17   /* a list whose proposal the check refuses */
 };
+
+/* The entries that the hardware takes in a gather list. */
+enum { SLOTPOOL_ENTRIES = 17 };
 
 /* The table room for an arena of arena_len bytes, which is 512 to 262,144, a multiple of 512; 0 for any other length. */
 size_t slotpool_room_len(size_t arena_len);
@@ -48,7 +55,22 @@ uint32_t slotpool_measure(const uint8_t *arena, size_t arena_len, const uint8_t 
 /* Live blocks, their requested bytes, rows held, rows free, ready slots, waiting slots. Answers 0 or 2. */
 uint32_t slotpool_report(const uint8_t *arena, size_t arena_len, const uint8_t *room, size_t room_len, size_t totals[6]);
 
-/* With a refusal, *value is 0 and totals are six zeros. */
+/* Gather lists: `length` bytes in at most 17 entries of at most `cap` bytes each. A proposal says the size of each entry. */
+
+/* 1 if a proposal is accepted, 0 if not. Accepted are at most 17 sizes, each from 1 to the cap, whose sum is the length, for a cap from
+ * 1 to 131,051; nothing else. */
+uint32_t slotpool_check_list(size_t length, size_t cap, const size_t *sizes, size_t sizes_len);
+
+/* Writes a proposal that the check accepts, full caps and then the rest, to the front of `sizes`, and keeps its later places; *value is
+ * the number of sizes. Answers 0, or 9 by the length or the cap. */
+uint32_t slotpool_plan_list(size_t length, size_t cap, size_t sizes[17], size_t *value);
+
+/* Grants the sizes of an accepted proposal in order, all of them or none. Writes the blocks' offsets to the front of `starts`, and keeps
+ * its later places; *value is the number of entries. Answers 0, 2, 9, 17 or 8, refusals in this order. */
+uint32_t slotpool_grant_list(uint8_t *arena, size_t arena_len, uint8_t *room, size_t room_len, size_t length, size_t cap,
+                             const size_t *sizes, size_t sizes_len, size_t *starts, size_t starts_len, size_t *value);
+
+/* With a refusal, *value is 0, totals are six zeros, and a list is as it was. */
 
 #ifdef __cplusplus
 }

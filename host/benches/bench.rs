@@ -1,17 +1,17 @@
 //! Nanoseconds per call, of the library and of the second implementation with its own full check of the tables, over arenas of four
-//! sizes, empty, half full and nearly full; and records per second, of the replay program and of the second implementation's replay.
-//! Each figure is the median of several runs, with the least and the most.
+//! sizes, empty, half full and nearly full; of the grants of a list beside its list call; and records per second, of the replay program
+//! and of the second implementation's replay. Each figure is the median of several runs, with the least and the most.
 
 #[path = "../tests/program/mod.rs"]
 mod program;
 
 use slotpool::trace::{self, Op};
-use slotpool::{room_len, Pool};
+use slotpool::{room_len, Pool, Refusal, ENTRIES};
 use slotpool_reference::{replay, Reference, Tables};
 use std::hint::black_box;
 use std::path::Path;
 use std::process::Command;
-use std::time::Instant;
+use std::time::{Duration, Instant};
 
 const RUNS: usize = 15;
 
@@ -42,13 +42,22 @@ fn time(turns: usize, mut turn: impl FnMut()) -> Time {
 
 /// Two things timed in turn, so that the machine's speed is the same for both: each one's time, and the ratio of the two in a run.
 fn time_beside(turns: usize, mut one: impl FnMut(), mut other: impl FnMut()) -> (Time, Time, Time) {
-    let runs: Vec<(f64, f64)> = (0..RUNS).map(|_| (run(turns, &mut one), run(turns, &mut other))).collect();
+    runs_beside(|| run(turns, &mut one), || run(turns, &mut other))
+}
+
+/// Runs of two things in turn, each of which gives its nanoseconds per turn.
+fn runs_beside(mut one: impl FnMut() -> f64, mut other: impl FnMut() -> f64) -> (Time, Time, Time) {
+    let runs: Vec<(f64, f64)> = (0..RUNS).map(|_| (one(), other())).collect();
     let each = |f: fn(&(f64, f64)) -> f64| sorted(runs.iter().map(f).collect());
     (each(|r| r.0), each(|r| r.1), each(|r| r.0 / r.1))
 }
 
 fn show(t: &Time) -> String {
     format!("{:>9.0} ({:.0} to {:.0})", t.median, t.least, t.most)
+}
+
+fn show_ratio(t: &Time) -> String {
+    format!("{:>5.1} ({:.1} to {:.1})", t.median, t.least, t.most)
 }
 
 /// All bytes of a room, read once.
@@ -130,6 +139,81 @@ fn replays() {
         println!("{name:<34} {:>8} {:>34} {:>34}", ops.len(), per_second(one), per_second(other));
     }
     println!("nanoseconds of a run with no record, the program's start: {}", show(&time(10, || drop(black_box(program(&[1]))))));
+}
+
+/// A pool that is put back to one state before every turn.
+#[derive(Clone)]
+struct Kept {
+    arena: Vec<u8>,
+    room: Vec<u8>,
+    state: (Vec<u8>, Vec<u8>),
+}
+
+impl Kept {
+    /// An arena that was full of blocks of one size, of which some, here and there, were released.
+    fn with_room(len: usize, size: usize, released: Released) -> Kept {
+        let (mut arena, mut room) = (vec![0; len], vec![0; room_len(len)]);
+        let mut pool = Pool::set_up(&mut arena, &mut room).unwrap();
+        let blocks: Vec<usize> = std::iter::from_fn(|| pool.grant(size).ok()).collect();
+        let released = released(blocks.len());
+        for i in 0..released {
+            pool.release(blocks[i * blocks.len() / released]).unwrap();
+        }
+        Kept { state: (arena.clone(), room.clone()), arena, room }
+    }
+
+    /// Nanoseconds per turn of one run. That the bytes are copied back before each turn is not timed.
+    fn run<T>(&mut self, turns: usize, mut turn: impl FnMut(&mut Pool) -> T) -> f64 {
+        let mut spent = Duration::ZERO;
+        for _ in 0..turns {
+            self.arena.copy_from_slice(&self.state.0);
+            self.room.copy_from_slice(&self.state.1);
+            let mut pool = Pool::over(&mut self.arena, &mut self.room);
+            let begun = Instant::now();
+            black_box(turn(&mut pool));
+            spent += begun.elapsed();
+        }
+        spent.as_nanos() as f64 / turns as f64
+    }
+}
+
+/// How many of all blocks are released in a state.
+type Released = fn(usize) -> usize;
+
+const STATES: [(&str, Released); 3] = [("empty", |all| all), ("half full", |all| all / 2), ("nearly full", |_| ENTRIES)];
+
+/// A list call under the largest cap.
+fn list_call(pool: &mut Pool, sizes: &[usize; ENTRIES]) -> Result<usize, Refusal> {
+    pool.grant_list(sizes.iter().sum(), 131_051, black_box(sizes), black_box(&mut [0; ENTRIES]))
+}
+
+/// Times 17 grants of one size beside a list call of the same, and a list call that is refused at its last entry.
+fn lists() {
+    println!("\nlists of 17 entries, nanoseconds per list: 17 grants of one size beside a list call of the same; and a list refused with 8,");
+    println!("whose last entry, of 131,051 bytes, has no room. The pool before each, copied back untimed, was full of blocks of that size,");
+    println!("of which all, every other or 17 here and there were released: empty, half full and nearly full");
+    println!("{:<36} {:>26} {:>26} {:>20} {:>26}", "arena, entries", "17 grants", "list call", "ratio of a run", "refused with 8");
+    for (kib, size) in [4, 16, 64].iter().flat_map(|&kib| [(kib, 12), (kib, 160)]) {
+        for (name, released) in STATES {
+            let name = format!("{kib} KiB, {name}, {size} bytes");
+            let sizes = [size; ENTRIES];
+            let mut short = sizes;
+            short[ENTRIES - 1] = 131_051;
+            let mut one = Kept::with_room(1024 * kib, size, released);
+            let mut other = one.clone();
+            if list_call(&mut Pool::over(&mut one.arena, &mut one.room), &sizes).is_err() {
+                println!("{name:<36} no room for 17");
+                continue;
+            }
+            let turns = 4000 / kib + 40;
+            let (grants, list, ratio) = runs_beside(
+                || one.run(turns, |pool| sizes.map(|n| pool.grant(black_box(n)).unwrap())),
+                || other.run(turns, |pool| list_call(pool, &sizes).unwrap()),
+            );
+            let refused = sorted((0..RUNS).map(|_| other.run(turns, |pool| list_call(pool, &short).unwrap_err())).collect());
+            println!("{name:<36} {:>26} {:>26} {:>20} {:>26}", show(&grants), show(&list), show_ratio(&ratio), show(&refused));
+        }
+    }
 }
 
 fn main() {
@@ -217,17 +301,10 @@ fn main() {
                     black_box(plain_read(black_box(&bytes)));
                 },
             );
-            println!(
-                "{:<30} {:>26} {:>26} {:>5.1} ({:.1} to {:.1})",
-                format!("{kib} KiB, {name}"),
-                show(&check),
-                show(&read),
-                ratio.median,
-                ratio.least,
-                ratio.most
-            );
+            println!("{:<30} {:>26} {:>26} {}", format!("{kib} KiB, {name}"), show(&check), show(&read), show_ratio(&ratio));
         }
     }
 
+    lists();
     replays();
 }

@@ -1,8 +1,8 @@
 //! A safe interface of the slot pool: blocks of a lent arena of bytes, with the tables in a lent room of their own.
 //!
 //! ```
-//! let mut arena = vec![0; 4096];
-//! let mut room = vec![0; slotpool::room_len(4096)];
+//! let mut arena = vec![0; 8192];
+//! let mut room = vec![0; slotpool::room_len(8192)];
 //! let mut pool = slotpool::Pool::set_up(&mut arena, &mut room).unwrap();
 //!
 //! let block = pool.grant(160).unwrap();
@@ -10,6 +10,13 @@
 //! assert_eq!(pool.measure(block), Ok(160));
 //! pool.release(block).unwrap();
 //! assert_eq!(pool.release(block), Err(slotpool::Refusal::NoSuchBlock));
+//!
+//! // a packet of 400 bytes as one list, in entries of at most 160
+//! let (mut sizes, mut starts) = ([0; slotpool::ENTRIES], [0; slotpool::ENTRIES]);
+//! let planned = slotpool::plan_list(400, 160, &mut sizes).unwrap();
+//! let entries = pool.grant_list(400, 160, &sizes[..planned], &mut starts).unwrap();
+//! assert_eq!(sizes[..entries], [160, 160, 80]);
+//! assert_eq!(starts[..entries], [16, 208, 4112]);
 //! ```
 
 pub mod trace;
@@ -27,10 +34,12 @@ pub enum Refusal {
     HeaderDamaged = 6,
     Overrun = 7,
     NoRoom = 8,
+    TooLong = 9,
+    BadProposal = 17,
 }
 
-/// Each refusal with its name, in the order of their numbers.
-const REFUSALS: [(Refusal, &str); 8] = [
+/// Each refusal with its name.
+const REFUSALS: [(Refusal, &str); 10] = [
     (Refusal::BadArena, "bad arena"),
     (Refusal::Unsound, "unsound"),
     (Refusal::TooLarge, "too large"),
@@ -39,11 +48,18 @@ const REFUSALS: [(Refusal, &str); 8] = [
     (Refusal::HeaderDamaged, "header damaged"),
     (Refusal::Overrun, "overrun"),
     (Refusal::NoRoom, "no room"),
+    (Refusal::TooLong, "list too long"),
+    (Refusal::BadProposal, "bad proposal"),
 ];
+
+/// The refusal with a number, and its name.
+fn refusal(number: u32) -> (Refusal, &'static str) {
+    *REFUSALS.iter().find(|(refusal, _)| *refusal as u32 == number).expect("the number of a refusal")
+}
 
 impl fmt::Display for Refusal {
     fn fmt(&self, f: &mut fmt::Formatter<'_>) -> fmt::Result {
-        f.write_str(REFUSALS[*self as usize - 1].1)
+        f.write_str(refusal(*self as u32).1)
     }
 }
 
@@ -84,6 +100,21 @@ mod sys {
             value: *mut usize,
         ) -> u32;
         pub fn slotpool_report(arena: *const u8, arena_len: usize, room: *const u8, room_len: usize, totals: *mut usize) -> u32;
+        pub fn slotpool_check_list(length: usize, cap: usize, sizes: *const usize, sizes_len: usize) -> u32;
+        pub fn slotpool_plan_list(length: usize, cap: usize, sizes: *mut usize, value: *mut usize) -> u32;
+        pub fn slotpool_grant_list(
+            arena: *mut u8,
+            arena_len: usize,
+            room: *mut u8,
+            room_len: usize,
+            length: usize,
+            cap: usize,
+            sizes: *const usize,
+            sizes_len: usize,
+            starts: *mut usize,
+            starts_len: usize,
+            value: *mut usize,
+        ) -> u32;
     }
 }
 
@@ -96,8 +127,25 @@ fn answer<T>(number: u32, value: T) -> Result<T, Refusal> {
     if number == 0 {
         Ok(value)
     } else {
-        Err(REFUSALS[number as usize - 1].0)
+        Err(refusal(number).0)
     }
+}
+
+/// The entries that the hardware takes in a gather list.
+pub const ENTRIES: usize = 17;
+
+/// Whether a proposal for a list of `length` bytes is accepted: at most [`ENTRIES`] sizes, each from 1 to the cap, whose sum is the
+/// length, for a cap from 1 to 131,051, and nothing else.
+pub fn check_list(length: usize, cap: usize, sizes: &[usize]) -> bool {
+    unsafe { sys::slotpool_check_list(length, cap, sizes.as_ptr(), sizes.len()) == 1 }
+}
+
+/// Writes a proposal that [`check_list`] accepts, full caps and then the rest, to the front of an array, and gives how many sizes it
+/// has. Refused with [`Refusal::TooLong`] if the length is over [`ENTRIES`] times the cap, or the cap out of its range.
+pub fn plan_list(length: usize, cap: usize, sizes: &mut [usize; ENTRIES]) -> Result<usize, Refusal> {
+    let mut value = 0;
+    let number = unsafe { sys::slotpool_plan_list(length, cap, sizes.as_mut_ptr(), &mut value) };
+    answer(number, value)
 }
 
 /// A pool over a lent arena and a lent table room.
@@ -123,6 +171,31 @@ impl<'a> Pool<'a> {
         let mut value = 0;
         let number = unsafe {
             sys::slotpool_grant(self.arena.as_mut_ptr(), self.arena.len(), self.room.as_mut_ptr(), self.room.len(), n, &mut value)
+        };
+        answer(number, value)
+    }
+
+    /// Grants the sizes of a proposal in order, all of them or none. Writes the offsets of the blocks to the front of `starts`, keeps its
+    /// later places, and gives the number of entries. Refused with [`Refusal::TooLong`] where [`plan_list`] is, or if `starts` has fewer
+    /// than [`ENTRIES`] places; with [`Refusal::BadProposal`] if [`check_list`] says no; with [`Refusal::NoRoom`] if one of the grants
+    /// would be.
+    pub fn grant_list(&mut self, length: usize, cap: usize, sizes: &[usize], starts: &mut [usize]) -> Result<usize, Refusal> {
+        let Pool { arena, room } = self;
+        let mut value = 0;
+        let number = unsafe {
+            sys::slotpool_grant_list(
+                arena.as_mut_ptr(),
+                arena.len(),
+                room.as_mut_ptr(),
+                room.len(),
+                length,
+                cap,
+                sizes.as_ptr(),
+                sizes.len(),
+                starts.as_mut_ptr(),
+                starts.len(),
+                &mut value,
+            )
         };
         answer(number, value)
     }

@@ -3,7 +3,7 @@
 mod common;
 mod random;
 
-use common::{library, Answer, Both, Call};
+use common::{lent, library, Answer, Both, Call, List};
 use random::{all_seen, block, kind, next_call, Engine, Numbers, Seen};
 use slotpool::{room_len, Refusal};
 use slotpool_reference::{class_of, rows_of, slot_bytes, slots_of, Reference, State, Tables, TOO_LARGE};
@@ -211,16 +211,18 @@ fn sample(seed: u64, arena_len: usize) -> Both {
     both
 }
 
-/// Every call but set up: those on a block with that block, a grant of its size.
-fn calls_on((start, n): (usize, usize)) -> [Call; 5] {
-    [Call::Release(start), Call::Grant(n), Call::Resize(start, n / 2), Call::Measure(start), Call::Report]
+/// Every call but set up: those on a block with that block, a grant of its size, a list of two of its size, and one with everything wrong.
+fn calls_on((start, n): (usize, usize)) -> [Call; 7] {
+    let size = n.max(1);
+    let lists = [List::new(2 * size, size, &[size, size], 17), List::new(usize::MAX, 0, &[0; 18], 16)].map(Call::GrantList);
+    [Call::Release(start), Call::Grant(n), Call::Resize(start, n / 2), Call::Measure(start), Call::Report, lists[0], lists[1]]
 }
 
 /// A call that the library must refuse, with nothing changed.
 fn refused(arena: &[u8], room: &[u8], call: Call, due: Refusal, told: Arguments) {
-    let (mut a, mut r) = (arena.to_vec(), room.to_vec());
-    assert_eq!(library(&mut a, &mut r, call), Answer::Refused(due), "{told}: {call:?}");
-    assert!(a == arena && r == room, "{told}: {call:?} changed something");
+    let (mut a, mut r, mut l) = (arena.to_vec(), room.to_vec(), lent());
+    assert_eq!(library(&mut a, &mut r, &mut l, call), Answer::Refused(due), "{told}: {call:?}");
+    assert!(a == arena && r == room && l == lent(), "{told}: {call:?} changed something");
 }
 
 /// Makes each call over a copy of any tables. Unsound ones get answer 2 from all of them, with nothing changed; sound ones the second
@@ -234,7 +236,7 @@ fn over_any(arena: &[u8], room: &[u8], calls: &[Call], told: Arguments) -> bool 
     };
     for &call in calls {
         let second = Reference::over(arena.to_vec(), tables.clone());
-        if let Err(why) = (Both { arena: arena.to_vec(), room: room.to_vec(), second }).call(call) {
+        if let Err(why) = Both::over(arena, room, second).call(call) {
             panic!("{told}: {why}");
         }
     }
@@ -243,7 +245,7 @@ fn over_any(arena: &[u8], room: &[u8], calls: &[Call], told: Arguments) -> bool 
 
 /// Set up over any bytes of the right lengths: done, and a fresh pool.
 fn set_up_over(arena: &[u8], room: &[u8], told: Arguments) {
-    let mut both = Both { arena: arena.to_vec(), room: room.to_vec(), second: Reference::set_up(arena.len()) };
+    let mut both = Both::over(arena, room, Reference::set_up(arena.len()));
     assert_eq!(both.call(Call::SetUp), Ok(Answer::Done), "{told}");
 }
 

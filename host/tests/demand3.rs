@@ -39,18 +39,27 @@ impl Run {
         if let Answer::Refused(Refusal::Unsound | Refusal::HeaderDamaged | Refusal::Overrun) = answer {
             return Err(format!("{call:?}: {answer:?}, which is never due here"));
         }
-        let gained = match (call, answer) {
-            (Call::Grant(n), Answer::Value(start)) => start..start + n,
-            (Call::Resize(offset, n), Answer::Value(start)) => {
-                let old = live.iter().find(|b| b.0 == offset).map_or(0, |b| b.1);
-                start + old.min(n)..start + n
+        for (from, to) in self.gained(&live, call, answer) {
+            if self.both.arena[from..to].iter().any(|&b| b != 0) {
+                return Err(format!("{call:?}: {answer:?}: not all gained bytes {from} to {to} are zero"));
             }
-            _ => 0..0,
-        };
-        if self.both.arena[gained.clone()].iter().any(|&b| b != 0) {
-            return Err(format!("{call:?}: {answer:?}: not all gained bytes {gained:?} are zero"));
         }
         Ok(answer)
+    }
+
+    /// From where to where blocks have gained bytes by a call, before which these ones were live.
+    fn gained(&self, live: &[(usize, usize)], call: Call, answer: Answer) -> Vec<(usize, usize)> {
+        match (call, answer) {
+            (Call::Grant(n), Answer::Value(start)) => vec![(start, start + n)],
+            (Call::GrantList(list), Answer::Value(_)) => {
+                list.sizes().iter().zip(self.both.lent[0]).map(|(n, start)| (start, start + n)).collect()
+            }
+            (Call::Resize(offset, n), Answer::Value(start)) => {
+                let old = live.iter().find(|b| b.0 == offset).map_or(0, |b| b.1);
+                vec![(start + old.min(n), start + n)]
+            }
+            _ => Vec::new(),
+        }
     }
 
     /// The arena with zero for the requested bytes of live blocks.
@@ -68,6 +77,9 @@ fn step([one, other]: &mut [Run; 2], call: Call) -> Result<Answer, String> {
     let (answer, second) = (one.step(call)?, other.step(call)?);
     if answer != second {
         return Err(format!("{call:?}: {answer:?} in one run, {second:?} in the other"));
+    }
+    if one.both.lent != other.both.lent {
+        return Err(format!("{call:?}: the lent lists of the runs differ"));
     }
     if one.both.room != other.both.room {
         return Err(format!("{call:?}: the tables of the runs differ"));

@@ -1,25 +1,67 @@
-/* Every refusal of every call, through the C functions: its number, the value 0 (from report, six zeros), and no byte changed. */
+/* Every refusal of every call, through the C functions: its number, the value 0 (from report, six zeros), and no byte changed, nor a
+ * place of a lent list. */
 #include <stdio.h>
 #include <stdlib.h>
 #include <string.h>
 
 #include "slotpool.h"
 
-enum call { SET_UP, GRANT, RELEASE, RESIZE, MEASURE, REPORT, CALLS };
+enum call { SET_UP, GRANT, RELEASE, RESIZE, MEASURE, REPORT, GRANT_LIST, PLAN_LIST };
 
-static const char *const names[CALLS] = {"set up", "grant", "release", "resize", "measure", "report"};
+static const char *const names[] = {"set up", "grant", "release", "resize", "measure", "report", "grant list", "plan list"};
 
-/* The numbers that each call can refuse with. */
-static const char *const refusals[CALLS] = {"1", "238", "24567", "2345678", "24567", "2"};
+/* The numbers that each call on blocks can refuse with. */
+static const char *const refusals[] = {"1", "238", "24567", "2345678", "24567", "2"};
 
 /* The pool: one group holds all rows, with a freed block and a live one. The live one's guard is the 5 bytes before END. */
 enum { ARENA = 4096, SIZE = 160, FREED = 16, LIVE = 208, END = LIVE + 188 };
 
+/* The largest size of the group's class. A block of one byte more has no room. */
+enum { MOST = 188 };
+
+/* Lists, each with the first answer due in the order 2, 9, 17, 8. */
+static const struct list {
+    uint32_t due;
+    size_t length, cap, places, count, sizes[18];
+} lists[] = {
+    /* unsound tables, with a list that would be granted, and with one that is wrong in every way */
+    {2, SIZE, MOST, 17, 1, {SIZE}},
+    {2, SIZE_MAX, 0, 0, 1, {0}},
+    /* a length over 17 times the cap */
+    {9, 17 * MOST + 1, MOST, 17, 1, {MOST}},
+    {9, SIZE_MAX, MOST, 17, 1, {SIZE_MAX}},
+    /* a cap out of its range */
+    {9, 0, 0, 17, 0, {0}},
+    {9, SIZE, 131052, 17, 1, {SIZE}},
+    {9, MOST + 1, SIZE_MAX, 17, 1, {MOST + 1}},
+    /* fewer than 17 places, which the planner is not told: with a list that would be granted, and with 17 and 8 due behind it */
+    {9, SIZE, MOST, 16, 1, {SIZE}},
+    {9, 0, MOST, 16, 0, {0}},
+    {9, 0, MOST, 0, 0, {0}},
+    {9, SIZE, MOST, 16, 1, {SIZE + 1}},
+    {9, MOST + 1, MOST + 1, 16, 1, {MOST + 1}},
+    /* too many sizes, a size of 0, one over the cap, another sum, and one that wraps */
+    {17, 18, MOST, 17, 18, {1, 1, 1, 1, 1, 1, 1, 1, 1, 1, 1, 1, 1, 1, 1, 1, 1, 1}},
+    {17, SIZE, MOST, 17, 2, {SIZE, 0}},
+    {17, 0, MOST, 17, 1, {0}},
+    {17, SIZE, SIZE - 1, 17, 1, {SIZE}},
+    {17, SIZE - 1, MOST, 17, 1, {SIZE}},
+    {17, SIZE, MOST, 40, 0, {0}},
+    {17, SIZE, MOST, 17, 3, {SIZE, SIZE_MAX, 1}},
+    /* .. with 8 due behind it */
+    {17, MOST + 2, MOST + 1, 17, 1, {MOST + 1}},
+    /* no room for the only size, and for the last */
+    {8, MOST + 1, MOST + 1, 17, 1, {MOST + 1}},
+    {8, SIZE + MOST + MOST + 1, MOST + 1, 40, 3, {SIZE, MOST, MOST + 1}},
+};
+
 static struct {
     uint8_t arena[ARENA], room[ARENA];
+    size_t starts[40], sizes[17];
 } pool, before;
 
 static size_t arena_len, room_len, offset, n;
+static const struct list *list;
 #define LENT pool.arena, arena_len, pool.room, room_len
 
 /* What a call gives back beside its number; all of it is PATTERN before the call. */
@@ -33,7 +75,10 @@ static void check(int holds, int line, const char *what)
 {
     if (holds)
         return;
-    printf("%s:%d: %s, answer %u due: it is not so that %s\n", __FILE__, line, names[call], (unsigned)due, what);
+    printf("%s:%d: %s, answer %u due", __FILE__, line, names[call], (unsigned)due);
+    if (call >= GRANT_LIST)
+        printf(", list %d", (int)(list - lists));
+    printf(": it is not so that %s\n", what);
     exit(1);
 }
 #define CHECK(what) check(what, __LINE__, #what)
@@ -97,6 +142,12 @@ static size_t make(uint32_t *answer)
     case MEASURE:
         *answer = slotpool_measure(LENT, offset, given);
         return 1;
+    case GRANT_LIST:
+        *answer = slotpool_grant_list(LENT, list->length, list->cap, list->sizes, list->count, pool.starts, list->places, given);
+        return 1;
+    case PLAN_LIST:
+        *answer = slotpool_plan_list(list->length, list->cap, pool.sizes, given);
+        return 1;
     default:
         *answer = slotpool_report(LENT, given);
         return 6;
@@ -117,14 +168,32 @@ static void refuse(void)
     CHECK(memcmp(&pool, &before, sizeof pool) == 0);
 }
 
+/* A list, and its plan where the planner refuses it, too. 17 is due exactly if the check refuses. */
+static unsigned refuse_list(void)
+{
+    due = list->due;
+    call = GRANT_LIST;
+    refuse();
+    uint32_t accepted = slotpool_check_list(list->length, list->cap, list->sizes, list->count);
+    CHECK(accepted == 0 || accepted == 1);
+    CHECK(accepted ? due != SLOTPOOL_BAD_PROPOSAL : due != SLOTPOOL_NO_ROOM);
+    if (due != SLOTPOOL_TOO_LONG || list->places < SLOTPOOL_ENTRIES)
+        return 1;
+    call = PLAN_LIST;
+    refuse();
+    return 2;
+}
+
 int main(void)
 {
     unsigned seen = 0;
-    for (call = SET_UP; call < CALLS; call++)
+    for (call = SET_UP; call <= REPORT; call++)
         for (const char *digit = refusals[call]; *digit; digit++, seen++) {
             due = (uint32_t)(*digit - '0');
             refuse();
         }
+    for (list = lists; list < lists + sizeof lists / sizeof *lists; list++)
+        seen += refuse_list();
     printf("%u refusals, each with its number, the value 0 and no byte changed\n", seen);
     return 0;
 }

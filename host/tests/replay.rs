@@ -4,7 +4,7 @@ mod common;
 mod program;
 mod random;
 
-use common::{Both, Call};
+use common::{Answer, Both, Call};
 use program::run;
 use random::{all_seen, block, kind, next_call, Numbers, Seen};
 use slotpool::trace::{parse, read, text, write, Op, MOST};
@@ -70,18 +70,23 @@ fn anywhere(numbers: &mut Numbers, both: &Both) -> Range<usize> {
     from..(from + numbers.below(most)).min(ARENA)
 }
 
-/// How an engine stores: not at all, so as to damage no block, or anyhow.
-const ENGINES: [Option<fn(&mut Numbers, &Both) -> Range<usize>>; 3] = [None, Some(in_requested), Some(anywhere)];
+/// The bytes that an engine stores into next.
+type Engine = fn(&mut Numbers, &Both) -> Range<usize>;
 
-/// The record of a call, if traces have it. The largest sizes and offsets become the largest of four bytes.
-fn record(call: Call) -> Option<Op> {
-    match call {
-        Call::Grant(n) => Some(Op::Grant(n as u32)),
-        Call::Release(offset) => Some(Op::Release(offset as u32)),
-        Call::Resize(offset, n) => Some(Op::Resize(offset as u32, n as u32)),
-        Call::Measure(offset) => Some(Op::Measure(offset as u32)),
-        Call::Report => Some(Op::Report),
-        Call::SetUp | Call::Store(..) => None,
+/// How an engine stores: not at all, so as to damage no block, or anyhow.
+const ENGINES: [Option<Engine>; 3] = [None, Some(in_requested), Some(anywhere)];
+
+/// The records of an answered call, as far as traces have it: a list that was granted is its grants. The largest sizes and offsets
+/// become the largest of four bytes.
+fn records(call: Call, answer: Answer) -> Vec<Op> {
+    match (call, answer) {
+        (Call::Grant(n), _) => vec![Op::Grant(n as u32)],
+        (Call::GrantList(list), Answer::Value(_)) => list.sizes().iter().map(|&n| Op::Grant(n as u32)).collect(),
+        (Call::Release(offset), _) => vec![Op::Release(offset as u32)],
+        (Call::Resize(offset, n), _) => vec![Op::Resize(offset as u32, n as u32)],
+        (Call::Measure(offset), _) => vec![Op::Measure(offset as u32)],
+        (Call::Report, _) => vec![Op::Report],
+        (Call::SetUp | Call::GrantList(_) | Call::Store(..), _) => Vec::new(),
     }
 }
 
@@ -105,9 +110,12 @@ fn draw(seed: usize, seen: &mut Seen) -> Vec<Op> {
             }
             _ => {
                 let call = next_call(&mut numbers, &both, |_, _| None);
-                let Some(op) = record(call) else { continue };
-                count(kind(call, &both.make(call).0));
-                ops.push(op);
+                if call == Call::SetUp {
+                    continue;
+                }
+                let answer = both.make(call).0;
+                count(kind(call, &answer));
+                ops.extend(records(call, answer));
             }
         }
     }

@@ -3,9 +3,9 @@
 mod common;
 
 use common::Answer::{self, Done, Refused, Value};
-use common::Both;
 use common::Call::{self, Grant, Measure, Release, Report, Resize, Store};
-use slotpool::{Refusal, Totals};
+use common::{Both, List};
+use slotpool::{check_list, plan_list, Refusal, Totals, ENTRIES};
 
 const OVERRUN: Answer = Refused(Refusal::Overrun);
 
@@ -175,4 +175,82 @@ fn a_move_copies_the_first_bytes() {
     due(&mut both, [(Grant(160), Value(16)), (Store(16, 7), Done), (Store(175, 9), Done), (Resize(16, 189), Value(4112))]);
     assert_eq!((both.arena[4112], both.arena[4271], both.arena[4272]), (7, 9, 0));
     assert!(both.arena[..4096].iter().all(|&b| b == 0), "the old group is gone");
+}
+
+#[test]
+fn checks() {
+    assert!(check_list(100, 40, &[40, 20, 40]));
+    assert!(check_list(17, 1, &[1; 17]));
+    assert!(check_list(131_051, 131_051, &[131_051]));
+    assert!(check_list(0, 1, &[]));
+    assert!(!check_list(18, 2, &[1; 18]));
+    assert!(!check_list(40, 40, &[40, 0]));
+    assert!(!check_list(41, 40, &[41]));
+    assert!(!check_list(99, 40, &[40, 20, 40]));
+    assert!(!check_list(0, 40, &[0]));
+    assert!(!check_list(1, 40, &[]));
+    assert!(!check_list(0, 0, &[]));
+    assert!(!check_list(1, 131_052, &[1]));
+}
+
+#[test]
+fn plans() {
+    let mut sizes = [7; ENTRIES];
+    for (length, cap) in [(18, 1), (2_227_868, 131_051), (0, 0), (1, 131_052)] {
+        assert_eq!(plan_list(length, cap, &mut sizes), Err(Refusal::TooLong), "{length} bytes under a cap of {cap}");
+        assert_eq!(sizes, [7; ENTRIES]);
+    }
+    assert_eq!((plan_list(0, 1, &mut sizes), sizes), (Ok(0), [7; ENTRIES]));
+    assert_eq!(plan_list(100, 40, &mut sizes), Ok(3));
+    assert_eq!(sizes[..4], [40, 40, 20, 7]);
+    assert_eq!(plan_list(80, 40, &mut sizes), Ok(2));
+    assert_eq!(sizes[..4], [40, 40, 20, 7]);
+    for cap in [1, 131_051] {
+        assert_eq!(plan_list(17 * cap, cap, &mut sizes), Ok(17));
+        assert_eq!(sizes, [cap; ENTRIES]);
+    }
+}
+
+fn list<const N: usize>(length: usize, cap: usize, sizes: [usize; N], places: usize) -> Call {
+    Call::GrantList(List::new(length, cap, &sizes, places))
+}
+
+#[test]
+fn a_list_of_mixed_classes() {
+    let mut both = fresh(4096);
+    due(&mut both, [(list(44, 30, [1, 13, 30], 20), Value(3))]);
+    assert_eq!(both.lent[0][..3], [16, 528, 1552]);
+    let held = Totals { live_blocks: 3, requested_bytes: 44, rows_held: 6, rows_free: 2, ready_slots: 90, waiting_slots: 0 };
+    due(&mut both, [(Measure(16), Value(1)), (Measure(528), Value(13)), (Measure(1552), Value(30)), (Report, Answer::Totals(held))]);
+}
+
+#[test]
+fn the_empty_list() {
+    let none = Totals { rows_free: 1, ..Totals::default() };
+    due(&mut fresh(512), [(list(0, 131_051, [], 17), Value(0)), (Report, Answer::Totals(none))]);
+}
+
+#[test]
+fn a_list_whose_last_entry_has_no_room() {
+    // its first has room after a refill, its second in a new group
+    let mut both = fresh(8192);
+    for i in 0..21 {
+        due(&mut both, [(Grant(160), Value(16 + 192 * i))]);
+    }
+    due(&mut both, [(Release(16), Done), (list(373, 200, [160, 13, 200], 17), Refused(Refusal::NoRoom))]);
+    due(&mut both, [(list(173, 200, [160, 13], 17), Value(2))]);
+    assert_eq!(both.lent[0][..2], [32, 4112]);
+}
+
+#[test]
+fn lists_that_are_too_long() {
+    let lists = [list(18, 1, [1; 17], 17), list(0, 0, [], 17), list(1, 131_052, [1], 17), list(1, 1, [1], 16), list(0, 1, [], 16)];
+    due(&mut fresh(512), lists.map(|list| (list, Refused(Refusal::TooLong))));
+}
+
+#[test]
+fn bad_proposals() {
+    let lists = [list(18, 2, [1; 18], 17), list(1, 1, [1, 0], 17), list(13, 12, [13], 17), list(14, 14, [13], 17)];
+    due(&mut fresh(512), lists.map(|list| (list, Refused(Refusal::BadProposal))));
+    due(&mut fresh(512), [(list(13, 13, [13], 17), Refused(Refusal::NoRoom))]);
 }

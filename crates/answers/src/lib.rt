@@ -1,4 +1,4 @@
-// Document 01's number of a refusal, and number and values of each answer.
+// The number of a refusal, and number and values of each answer.
 ghost use mathlib.Core.Path.{_≡_};
 ghost use lib.ListN.{getD};
 ghost use Rattle.model.specs.Answers.{numberOf, replyAnswer, reportAnswer};
@@ -18,6 +18,8 @@ fn refusal_number(r: Refusal) -> u32
         Refusal::HeaderDamaged => 6,
         Refusal::Overrun => 7,
         Refusal::NoRoom => 8,
+        Refusal::TooLong => 9,
+        Refusal::BadProposal => 17,
     }
 }
 

@@ -1,7 +1,7 @@
 -- Laws of guards and frames: the writes that make them.
 use Rattle.mem.proofs.Prelude.{_∙_, _≡_, sym, ap, List, _++_, append-nil, _+_, ℕ, _<_, _≤_, _*_, _-_, sub-zero, arith, length}
 use Rattle.mem.specs.Bytes.{zeros, put}
-use Rattle.mem.proofs.Laws.{zeros-length, zeros-add, put-append, put-over, put-at, put-back, put-all}
+use Rattle.mem.proofs.Laws.{zeros-length, zeros-add, put-append, put-cover, put-at, put-back, put-all}
 use Rattle.classes.specs.Classes.{slotBytes}
 use Rattle.model.specs.Blocks.{reserved, header, guard, spare, frame}
 use Rattle.model.proofs.Blocks.{header-length, guard-none, guard-length, spare-length}
@@ -23,7 +23,7 @@ spare-put p r s h =
       put-append p (zeros (r - 5)) (guard r) s,
       zeros-length (r - 5),
     )
-    (put-over (p + (r - 5)) (guard r) (zeros 5) (put p (zeros (r - 5)) s) (omega (arith, guard-length r h, zeros-length 5)))
+    (put-cover (p + (r - 5)) (p + (r - 5)) (guard r) (zeros 5) (put p (zeros (r - 5)) s) (omega arith) (omega (arith, guard-length r h, zeros-length 5)))
 
 -- zeros, the header, and the reserved bytes at the end
 pub frame-put : (c i d n : ℕ) → 16 * d + n + 4 ≤ slotBytes c

@@ -7,11 +7,12 @@ use Rattle.classes.specs.Classes.{classOf, slotsOf, rowsOf, tooLarge}
 use Rattle.model.specs.declared.Slot.{Slot}
 use Rattle.model.specs.declared.Slot.the-variants.{Fresh}
 use Rattle.model.specs.declared.Refusal.{Refusal}
-use Rattle.model.specs.declared.Refusal.the-variants.{BadArena, Unsound, TooLarge, NoSuchBlock, AlreadyFree, HeaderDamaged, Overrun, NoRoom}
+use Rattle.model.specs.declared.Refusal.the-variants.{BadArena, Unsound, TooLarge, NoSuchBlock, AlreadyFree, HeaderDamaged, Overrun, NoRoom, TooLong}
+use Rattle.model.specs.declared.Refusal.the-variants.{BadProposal}
 use Rattle.model.specs.State.{Pool, Place, group, isLive, poolOf, become}
 use Rattle.model.specs.Answers.{numberOf, done}
 use Rattle.model.specs.Plans.{Plan, Site, refused, refill, grantIn, reserve, grantAt, grant, lookup, onBlock, releaseAt, inPlace, resizeInPlace, moveTo}
-use Rattle.model.specs.Plans.{resizeMove, resizeAt, resize, freshPool, Call, setsUp, grants, releases, resizes, measures, reports}
+use Rattle.model.specs.Plans.{resizeMove, resizeAt, resize, freshPool, Call, setsUp, grants, releases, resizes, measures, reports, grantsList}
 use Rattle.model.proofs.Reserve.{Open, New, site-found, Served, grant-live}
 use Rattle.model.proofs.Formed.{on-block}
 use Rattle.model.proofs.Calls.{Asks}
@@ -26,6 +27,8 @@ refuses AlreadyFree e = omega arith
 refuses HeaderDamaged e = omega arith
 refuses Overrun e = omega arith
 refuses NoRoom e = omega arith
+refuses TooLong e = omega arith
+refuses BadProposal e = omega arith
 
 -- set up, and the other calls alike
 pub by-call : (M : Call → Type 0) → M setsUp → ((c : Call) → Asks c → M c) → (c : Call) → M c
@@ -35,6 +38,7 @@ by-call M s f (releases o) = f (releases o) tt
 by-call M s f (resizes o n) = f (resizes o n) tt
 by-call M s f (measures o) = f (measures o) tt
 by-call M s f reports = f reports tt
+by-call M s f (grantsList total cap places ns) = f (grantsList total cap places ns) tt
 
 -- a release, whether its group stays or goes
 pub release-parts : (row : ℕ) (p : Place) → (releaseAt row p .checks ≡ some p) × (releaseAt row p .answer ≡ done (0 ∷ []))

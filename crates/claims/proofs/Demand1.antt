@@ -1,16 +1,19 @@
 -- Demand 1: every call ends with the number of the first reason that is due, or 0, and a refusal changes no byte.
 use Rattle.mem.proofs.Prelude.{_≡_, sym, ap, refl, subst, true, Bool, false, not, inl, inr, some, none, Option, List, [], _∷_, ℕ, _<_, arith}
-use Rattle.mem.proofs.Prelude.{leb-false, leb-true, T, leb, T-not, length}
+use Rattle.mem.proofs.Prelude.{_&&_, leb-false, leb-true, T, leb, T-not, length}
 use Rattle.mem.specs.Lists.{choose}
 use Rattle.mem.proofs.Tests.{true-T, choose-case}
 use Rattle.classes.specs.Classes.{tooLarge}
 use Rattle.model.specs.declared.Refusal.{Refusal}
-use Rattle.model.specs.declared.Refusal.the-variants.{BadArena, Unsound, TooLarge, NoSuchBlock, AlreadyFree, HeaderDamaged, Overrun, NoRoom}
+use Rattle.model.specs.declared.Refusal.the-variants.{BadArena, Unsound, TooLarge, NoSuchBlock, AlreadyFree, HeaderDamaged, Overrun, NoRoom, TooLong}
+use Rattle.model.specs.declared.Refusal.the-variants.{BadProposal}
 use Rattle.model.specs.declared.Damage.{Damage}
 use Rattle.model.specs.State.{Pool, Place, isLive, granted, wellFormed, poolOf, start}
 use Rattle.model.specs.Blocks.{damageIn}
 use Rattle.model.specs.Answers.{numberOf, refusal}
-use Rattle.model.specs.Plans.{Plan, Call, setsUp, grants, releases, resizes, measures, reports, refused, plan}
+use Rattle.model.specs.Plans.{Plan, Call, setsUp, grants, releases, resizes, measures, reports, grantsList, refused, plan}
+use Rattle.model.specs.Proposals.{entries, accepts, plannable}
+use Rattle.model.specs.Plans.{reserveAll, grantAllAt, grantList}
 use Rattle.model.specs.Plans.{reserve, grantAt, lookup, onBlock, releaseAt, inPlace, resizeInPlace, resizeMove, moveTo, resizeAt, measureAt}
 use Rattle.model.specs.Tables.{byMasks, view, sound}
 use Rattle.model.specs.Calls as calls
@@ -20,6 +23,7 @@ use Rattle.model.proofs.Lookup.{lookup-start, lookup-found}
 use Rattle.model.proofs.Lowest.{reserve-none, reserve-some}
 use Rattle.claims.specs.Demand1.{order, sizeIn, offsetIn, FirstDue, refusedValues, StartsAt, LiveAt, headerDue, guardDue, Due, Demand1}
 use Rattle.claims.proofs.Cases.{release-parts}
+use Rattle.claims.proofs.Meets.{too-long, short-enough, meets, meets-none}
 
 -- what is tested of the block at an offset, before other reasons
 abbrev pub blockFirst : List Refusal → List Refusal
@@ -53,7 +57,8 @@ module _ (row : ℕ) (pos : 0 < row) (a t : List ℕ) where
   -- what is claimed of a call, of the reasons that are left to test and a result
   record Right (c : Call) (rs : List Refusal) (r : Result) : Type 0 where
     number : FirstDue (Due row a t c) rs (r .answer .number)
-    refused : (r .answer .number ≡ 0 → ⊥) → (r .arena ≡ a) × (r .room ≡ t) × (r .answer .values ≡ refusedValues c)
+    refused : (r .answer .number ≡ 0 → ⊥)
+        → (r .arena ≡ a) × (r .room ≡ t) × (r .answer .values ≡ refusedValues c) × (r .answer .lent ≡ [])
 
   abbrev P : Pool
   P = view row t
@@ -69,11 +74,11 @@ module _ (row : ℕ) (pos : 0 < row) (a t : List ℕ) where
 
     -- one that is due is given
     due-right : (d : Refusal) (rs : List Refusal) {vs u : List ℕ} → vs ≡ refusedValues c → u ≡ t → Due row a t c d
-        → Right c (d ∷ rs) (keeps (record { number = numberOf d; values = vs }) a u)
-    due-right d rs v e x = record { number = inl (refl, x); refused = λ n. (refl, e, v) }
+        → Right c (d ∷ rs) (keeps (record { number = numberOf d; values = vs; lent = [] }) a u)
+    due-right d rs v e x = record { number = inl (refl, x); refused = λ n. (refl, e, v, refl) }
 
   -- a call on tables that must be sound
-  checked-right : (c : Call) (rs : List Refusal) → calls.unsound c ≡ record { number = numberOf Unsound; values = refusedValues c }
+  checked-right : (c : Call) (rs : List Refusal) → calls.unsound c ≡ record { number = numberOf Unsound; values = refusedValues c; lent = [] }
       → (Sound byMasks row (length a) t → Right c rs (carried row a t (plan row P c))) → Right c (Unsound ∷ rs) (checked row a t c)
   unfolding checkedBy
   checked-right c rs u f =
@@ -177,6 +182,28 @@ module _ (row : ℕ) (pos : 0 < row) (a t : List ℕ) where
         )
         room p e (some q) f = (refl, λ l. later-right c NoRoom [] _ (λ d. reserve-some row P n q f (d .1)) (done-right c _ refl))
 
+    lists-right : (total cap places : ℕ) (ns : List ℕ) → (let c = grantsList total cap places ns in
+        Right c (TooLong ∷ BadProposal ∷ NoRoom ∷ []) (carried row a t (plan row P c)))
+    unfolding plan grantList carriedBy unless
+    lists-right total cap places ns =
+        choose-case (M (TooLong ∷ BadProposal ∷ NoRoom ∷ [])) (plannable total cap && leb entries places) _ (refused TooLong P)
+        (λ e. later-right c TooLong (BadProposal ∷ NoRoom ∷ []) _ (short-enough total cap places e)
+        (choose-case (M (BadProposal ∷ NoRoom ∷ [])) (accepts total cap ns) (grantAllAt row P (reserveAll row P ns)) (refused BadProposal P)
+        (λ f. later-right c BadProposal (NoRoom ∷ []) _ (λ d. T-not (accepts total cap ns) d (true-T (accepts total cap ns) f))
+        (room (reserveAll row P ns) refl))
+        (λ f. refused-right s c refl BadProposal (NoRoom ∷ []) (rw f tt))))
+        (λ e. refused-right s c refl TooLong (BadProposal ∷ NoRoom ∷ []) (too-long total cap places e))
+      where
+        c : Call
+        c = grantsList total cap places ns
+
+        M : List Refusal → Plan → Type 0
+        M rs p = Right c rs (carried row a t p)
+
+        room : (o : Option (List Place)) → reserveAll row P ns ≡ o → M (NoRoom ∷ []) (grantAllAt row P o)
+        room none e = refused-right s c refl NoRoom [] (meets row pos P ns e)
+        room (some qs) e = later-right c NoRoom [] _ (meets-none row P ns qs e) (done-right c _ refl)
+
   call-right : (c : Call) → Right c (order c) (call row a t c)
   unfolding callBy plan carriedBy unless
   call-right setsUp = set-up-right
@@ -190,6 +217,7 @@ module _ (row : ℕ) (pos : 0 < row) (a t : List ℕ) where
       checked-right (measures o) _ refl
       (λ s. block-right s (measures o) refl [] (measureAt row P) (λ p. (refl, λ l. done-right (measures o) _ refl)))
   call-right reports = checked-right reports [] refl (λ s. done-right reports _ refl)
+  call-right (grantsList total cap places ns) = checked-right (grantsList total cap places ns) _ refl (λ s. lists-right s total cap places ns)
 
 pub demand1 : (row : ℕ) → 0 < row → Demand1 row
 demand1 row pos a t c =

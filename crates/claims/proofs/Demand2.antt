@@ -16,6 +16,7 @@ use Rattle.model.specs.State.{Pool, Place, group, isLive, isReady, disp, size, 
 use Rattle.model.specs.Blocks.{frame, damageIn}
 use Rattle.model.specs.Answers.{refusal}
 use Rattle.model.specs.Plans.{Plan, Site, freshPool, AllLive, NoPlace, Call, setsUp, grants, releases, resizes, measures, reports, plan, reserve, enframe}
+use Rattle.model.specs.Plans.{grantsList}
 use Rattle.model.specs.Plans.{grantAt, grantIn, lookup}
 use Rattle.model.specs.Tables.{byMasks, view, sound}
 use Rattle.model.specs.Calls.{Result, FormLaws, masked, applied, keeps, damaged, setUpRight, call, callBy, carriedBy, checkedBy, unless}
@@ -73,6 +74,7 @@ module _ (row : ℕ) (pos : 0 < row) (a t : List ℕ) where
       asked-sound (resizes o m) k n = unrefuted (sound row (length a) t) (n .0)
       asked-sound (measures o) k n = unrefuted (sound row (length a) t) (n .0)
       asked-sound reports k n = unrefuted (sound row (length a) t) (n .0)
+      asked-sound (grantsList total cap places ns) k n = unrefuted (sound row (length a) t) (n .0)
 
       intact : (d : Damage) → call row a t c ≡ unless d (applied (masked row) a p) (λ r. keeps (refusal r) a t) → call row a t c ≡ applied (masked row) a p
       intact Intact e = e

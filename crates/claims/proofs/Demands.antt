@@ -15,6 +15,7 @@ use Rattle.claims.proofs.Guards.{guards-as-said}
 use Rattle.claims.proofs.Resizes.{resizes-as-said}
 use Rattle.claims.proofs.Demand3.{steers-nothing, stores-admitted, room-follows}
 use Rattle.claims.proofs.History.{history}
+use Rattle.claims.proofs.Lists.{plans-as-said, lists-as-grants, lists-exactly}
 use Rattle.claims.proofs.Traces.{lines-modelled, stores-steer-nothing, replay-steers-nothing}
 
 some-bytes : 0 < rowBytes
@@ -36,6 +37,9 @@ demands = record {
   never-at-zero = never-at-zero rowBytes;
   guards-as-said = guards-as-said rowBytes some-bytes;
   never-shared = never-shared rowBytes some-bytes;
+  plans-as-said = plans-as-said;
+  lists-as-grants = lists-as-grants rowBytes some-bytes;
+  lists-exactly = lists-exactly rowBytes some-bytes;
   steers-nothing = steers-nothing rowBytes some-bytes;
   stores-admitted = stores-admitted rowBytes;
   room-follows = room-follows rowBytes;

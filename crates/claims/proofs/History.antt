@@ -12,7 +12,9 @@ use Rattle.model.specs.declared.Refusal.{Refusal}
 use Rattle.model.specs.State.{Span, Pool, Place, free, group, isLive, isReady, disp, size, wellFormed, poolOf, become, slotNumber, rowsIn, rows, beginning}
 use Rattle.model.specs.State.{start, count}
 use Rattle.model.specs.Plans.{Plan, turnReady, refill, reserve, vacant, releaseAt, freshPool, refused, release, resizeInPlace, moveTo, measureAt, measure}
-use Rattle.model.specs.Plans.{slotSum, totals, report, Call, setsUp, grants, releases, resizes, measures, reports, plan}
+use Rattle.model.specs.Plans.{slotSum, totals, report, Call, setsUp, grants, releases, resizes, measures, reports, grantsList, plan}
+use Rattle.model.specs.Plans.{reserveAll, poolAfter}
+use Rattle.model.proofs.Lists.{small, by-grants, on-list}
 use Rattle.model.specs.Tables.{byMasks, encode, view, sound, roomBytes}
 use Rattle.model.specs.Calls.{Result, call, setUp, setUpRight, callBy, setUpRightBy}
 use Rattle.model.proofs.Rooms.{rows-append}
@@ -24,7 +26,7 @@ use Rattle.model.proofs.Formed.{any-middle, plan-formed}
 use Rattle.model.proofs.Tables.{masks-laws, Sound, sound-facts, view-encode, encode-length}
 use Rattle.model.proofs.Calls.{Asks}
 use Rattle.model.proofs.Moves.{Old, old, old-released, stays-start}
-use Rattle.claims.specs.History.{Entry, Ledger, opening, without, entered, Asked, booked, kept, Counts, Tells, History}
+use Rattle.claims.specs.History.{Entry, Ledger, opening, without, enteredEach, entered, Asked, booked, kept, Counts, Tells, History}
 use Rattle.claims.proofs.Cases.{reserve-live, taken-same, refuses, by-call, Named, on-named, on-grant, on-resize}
 use Rattle.claims.proofs.Demand1.{demand1}
 use Rattle.claims.proofs.Demand2.{Accepted, accepted, set-up-accepted, sound-leaves}
@@ -237,6 +239,14 @@ module _ (row : ℕ) where
   fresh-tallies : (n : ℕ) → Tallies opening (freshPool n)
   fresh-tallies n = record { sums = λ f. sym (fresh-weigh row f 0 n); count = refl }
 
+  -- each entry of a list is a grant
+  list-tallies : (P : Pool) (ns : List ℕ) (qs : List Place) → T (wellFormed P) → T (small ns) → reserveAll row P ns ≡ some qs
+      → (l : Ledger) → Tallies l P → Tallies (enteredEach l (map (start row) qs) ns) (poolAfter P qs)
+  list-tallies =
+      by-grants row (λ P ns qs. (l : Ledger) → Tallies l P → Tallies (enteredEach l (map (start row) qs) ns) (poolAfter P qs)) (λ P l t. t)
+      (λ P n ns q qs w h r k l t.
+      k _ (record { sums = λ f. omega (arith, t .sums f, reserve-weigh row f P n q w r); count = omega (arith, t .count) }))
+
   module _ (pos : 0 < row) (P : Pool) (w : T (wellFormed P)) (l : Ledger) (t : Tallies l P) where
     -- the ledger's block that starts where a live block of the pool does is that one
     struck : (p : Place) (o : ℕ) → Named row P o p → (f : Entry → ℕ) → sum f (without o (l .blocks)) + f (entry row p) ≡ sum f (l .blocks)
@@ -263,7 +273,7 @@ module _ (row : ℕ) where
 
     -- the ledger after an accepted plan
     abbrev Enters : Call → Plan → Type 0
-    Enters c r = r .answer .number ≡ 0 → Tallies (entered l c (getD (r .answer .values) 0 0)) (r .pool)
+    Enters c r = r .answer .number ≡ 0 → Tallies (entered l c (r .answer)) (r .pool)
 
     refused-enters : (c : Call) (r : Refusal) → Enters c (refused r P)
     refused-enters c r z = absurd (refuses r z)
@@ -320,6 +330,9 @@ module _ (row : ℕ) where
         (λ p n z. absurd (omega arith)) (λ p q n s e. moved-enters o m p q n s e)
     plan-enters (measures o) = on-named row pos P (Enters (measures o)) (refused-enters (measures o)) o (measureAt row P) (λ p n z. t)
     plan-enters reports = λ z. t
+    plan-enters (grantsList total cap places ns) =
+        let c : Call = grantsList total cap places ns in
+        on-list row (Enters c) P total cap places ns (refused-enters c) (λ qs h e z. list-tallies P ns qs w h e l t)
 
 -- ---- what report counts
 
@@ -375,7 +388,7 @@ module _ (row : ℕ) (pos : 0 < row) (n : ℕ) where
     s = sound-facts byMasks row n t (k .tables)
 
     abbrev Keeps : Call → Type 0
-    Keeps c = call row a t c .answer .number ≡ 0 → Kept (entered l c (getD (call row a t c .answer .values) 0 0)) (call row a t c .room)
+    Keeps c = call row a t c .answer .number ≡ 0 → Kept (entered l c (call row a t c .answer)) (call row a t c .room)
 
     -- a call but set up is accepted only over an arena of n bytes
     asks-kept : (c : Call) → Asks c → Keeps c
@@ -387,8 +400,8 @@ module _ (row : ℕ) (pos : 0 < row) (n : ℕ) where
         record {
           tables = subst (λ m. T (sound row m (call row a t c .room))) e (sound-leaves row pos a t (y .sound-tables) c .tables);
           tallies =
-              subst (λ (r : Result). Tallies row (entered l c (getD (r .answer .values) 0 0)) (view row (r .room))) (sym (y .left))
-              (subst (Tallies row (entered l c (getD (p .answer .values) 0 0)))
+              subst (λ (r : Result). Tallies row (entered l c (r .answer)) (view row (r .room))) (sym (y .left))
+              (subst (Tallies row (entered l c (p .answer)))
               (sym (view-encode masks-laws row pos (p .pool) (plan-formed row pos P c (s .formed) .formed)))
               (plan-enters row pos P (s .formed) l (k .tallies) c (ap (λ (r : Result). r .answer .number) (sym (y .left)) ∙ z)));
         }

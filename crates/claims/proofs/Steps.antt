@@ -16,7 +16,9 @@ use Rattle.model.specs.declared.Damage.the-variants.{Intact}
 use Rattle.model.specs.State.{Pool, Place, group, isLive, disp, size, slotSound, wellFormed, poolOf, become, slotNumber, rows, base, start, owned}
 use Rattle.model.specs.Blocks.{reserved, header, spare, frame}
 use Rattle.model.specs.Plans.{Plan, refused, turnReady, refill, grantIn, reserve, enframe, vacant, releaseAt, release, inPlace, resizeInPlace, moveTo}
-use Rattle.model.specs.Plans.{measureAt, measure, report, freshPool, Call, setsUp, grants, releases, resizes, measures, reports, plan, lookup}
+use Rattle.model.specs.Plans.{measureAt, measure, report, freshPool, Call, setsUp, grants, releases, resizes, measures, reports, grantsList, plan, lookup}
+use Rattle.model.specs.Plans.{reserveAll, poolAfter, grantAllAt}
+use Rattle.model.proofs.Lists.{small, by-grants, on-list}
 use Rattle.model.specs.Calls.{write, written, damaged}
 use Rattle.model.proofs.Lookup.{Fits, fits, disp-inside}
 use Rattle.model.proofs.Reserve.{Served, served, reserve-formed, refill-sound, reserve-size}
@@ -24,6 +26,7 @@ use Rattle.model.proofs.Formed.{become-fits, vacant-sound}
 use Rattle.model.proofs.Blocks.{header-length}
 use Rattle.claims.specs.Demand3.{sizeAt, Cleared}
 use Rattle.claims.proofs.Cases.{release-parts, Named, on-named, on-grant, on-resize, reserve-live, taken-same, refuses}
+use Rattle.claims.proofs.Gathers.{framed, list-clears}
 use Rattle.claims.proofs.Cells.{due, slotCells, slotsCells, pad, spanCells, cells, cells-append, cells-length, group-length, fresh-pool-cells, zeros-due}
 use Rattle.claims.proofs.Cells.{due-zeros, Agrees, agrees-length, agrees-due, agrees-over, agrees-frame, undamaged, slot-written, copied, resized}
 
@@ -73,6 +76,13 @@ module _ (row : ℕ) (pos : 0 < row) where
         slot-written row pos (become q x) (become-fits q x f y) a (q .state) _ (f .state)
         (agrees-frame (q .cls) (slotNumber q) (q .state) (reserve-live row P n q v)) (subst (λ l. Agrees l a) (sym e) g)
 
+  -- a list of grants
+  list-agrees : (P : Pool) (ns : List ℕ) (qs : List Place) → T (wellFormed P) → T (small ns) → reserveAll row P ns ≡ some qs
+      → (a : List ℕ) → Agrees (cells row P) a → Agrees (cells row (poolAfter P qs)) (written a (map (enframe row) qs))
+  list-agrees =
+      by-grants row (λ P ns qs. (a : List ℕ) → Agrees (cells row P) a → Agrees (cells row (poolAfter P qs)) (written a (map (enframe row) qs)))
+      (λ P a g. g) (λ P n ns q qs w h r k a g. k (write a (enframe row q)) (reserve-agrees P n q w h r a g))
+
   -- ---- release
 
   released : (p : Place) (a : List ℕ) → Fits p → T (isLive (p .state)) → Agrees (cells row (poolOf p)) a
@@ -99,20 +109,6 @@ module _ (row : ℕ) (pos : 0 < row) where
           (cells-length row pos (p .before) (f .before)) (zeros-due n ∙ sym (group-length row pos (p .cls) ss (f .class) (f .slots) t)) (agrees-due (zeros n)) g
 
   -- ---- what each write leaves where a block gains bytes
-
-  -- a framed block's requested bytes are zero
-  framed : (q : Place) (a : List ℕ) (i : ℕ) → start row q ≤ i → i < start row q + size (q .state) → getD (write a (enframe row q)) i 0 ≡ 0
-  unfolding enframe frame
-  framed q a i h₁ h₂ =
-      let c : ℕ = q .cls in
-      let d : ℕ = disp (q .state) in
-      let n : ℕ = size (q .state) in
-      let Z : List ℕ = zeros (16 * d) in
-      let H : List ℕ = header c (slotNumber q) d n in
-      let R : List ℕ = zeros n ++ spare (reserved c d n) in
-      let l : length (Z ++ H) ≡ 16 * d + 4 = simp (length-append, zeros-length, header-length) in
-      ap (λ bs. getD (put (owned row q) bs a) i 0) (sym (append-assoc Z H R))
-      ∙ zeros-put (owned row q) (Z ++ H) n (spare (reserved c d n)) a i (omega arith) (omega arith)
 
   -- a release writes zeros only
   release-zero : (P : Pool) (o : ℕ) (a : List ℕ) (j : ℕ) → getD a j 0 ≡ 0 → getD (written a (release row P o .changes)) j 0 ≡ 0
@@ -200,7 +196,7 @@ module _ (row : ℕ) (pos : 0 < row) where
           whole = block-whole P w a g p o b;
           cleared = λ _ i g.
               release-zero (poolOf q) (start row p) (put (start row q) bs x) i
-              (put-past (start row q) bs x i 0 (omega (arith, g .0)) ∙ framed q a i (omega (arith, g .0)) (omega (arith, g .1)));
+              (put-past (start row q) bs x i 0 (omega (arith, g .0)) ∙ framed row q a i (omega (arith, g .0)) (omega (arith, g .1)));
         }
 
     pub plan-kept : (c : Call) → Kept P c a (plan row P c)
@@ -215,7 +211,7 @@ module _ (row : ℕ) (pos : 0 < row) where
         (λ q h e. record {
           agrees = reserve-agrees P n q w h e a g;
           whole = refl;
-          cleared = λ z i g. framed q a i (g .0) (omega (arith, g .1, reserve-size row P n q w e));
+          cleared = λ z i g. framed row q a i (g .0) (omega (arith, g .1, reserve-size row P n q w e));
         })
     plan-kept (releases o) = release-kept P w a g o
     plan-kept (resizes o n) =
@@ -225,3 +221,7 @@ module _ (row : ℕ) (pos : 0 < row) where
         on-named row pos P (Kept P (measures o) a) (refused-kept P w a g (measures o)) o (measureAt row P)
         (λ p b. record { agrees = g; whole = block-whole P w a g p o b; cleared = λ z i g. absurd g })
     plan-kept reports = record { agrees = g; whole = refl; cleared = λ z i g. absurd g }
+    plan-kept (grantsList total cap places ns) =
+        let c : Call = grantsList total cap places ns in
+        on-list row (Kept P c a) P total cap places ns (refused-kept P w a g c)
+        (λ qs h e. record { agrees = list-agrees P ns qs w h e a g; whole = refl; cleared = λ z i x. list-clears row pos P ns qs w h e a i x })

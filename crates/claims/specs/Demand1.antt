@@ -1,24 +1,27 @@
 -- Demand 1: "Any arena bytes, table bytes, offset and size may be given. Every call ends with an answer of document 01's table. A
 -- refusal names its reason, in the fixed order, and changes no byte of arena or tables."
-use Prim.Native.Nat.{ℕ, _≤_}
+use Prim.Native.Nat.{ℕ, _*_, _≤_, _<_}
 use mathlib.Core.Path.{_≡_}
 use mathlib.Core.Bool.{Bool, not}
 use mathlib.Core.Logic.{_⊎_}
-use mathlib.Core.List.{List, [], _∷_}
+use mathlib.Core.Option.{some}
+use mathlib.Core.List.{List, [], _∷_, _++_}
 use lib.Dec.{T}
 use lib.ListN.{length}
 use Rattle.classes.specs.Classes.{classOf, tooLarge}
 use Rattle.model.specs.declared.Refusal.{Refusal}
-use Rattle.model.specs.declared.Refusal.the-variants.{BadArena, Unsound, TooLarge, NoSuchBlock, AlreadyFree, HeaderDamaged, Overrun, NoRoom}
+use Rattle.model.specs.declared.Refusal.the-variants.{BadArena, Unsound, TooLarge, NoSuchBlock, AlreadyFree, HeaderDamaged, Overrun, NoRoom, TooLong}
+use Rattle.model.specs.declared.Refusal.the-variants.{BadProposal}
 use Rattle.model.specs.State.{Pool, Place, isLive, granted, disp, size, poolOf, slotNumber, start}
 use Rattle.model.specs.Blocks.{headerRight, guardRight, ownedBytes}
 use Rattle.model.specs.Answers.{numberOf}
-use Rattle.model.specs.Plans.{Call, setsUp, grants, releases, resizes, measures, reports, inPlace, NoPlace}
+use Rattle.model.specs.Proposals.{entries, accepts}
+use Rattle.model.specs.Plans.{Call, setsUp, grants, releases, resizes, measures, reports, grantsList, inPlace, reserveAll, poolAfter, NoPlace}
 use Rattle.model.specs.Tables.{sound, view}
 use Rattle.model.specs.Calls.{call, setUpRight}
 
 -- "They are tested in this order, each where it applies: grant 2, 3, 8; release and measure 2, 4, 5, 6, 7; resize all of 2 to 8;
--- report 2."
+-- report 2." 02 §3: "Order: 2, 9, 17, 8."
 abbrev pub order : Call → List Refusal
 order setsUp = BadArena ∷ []
 order (grants n) = Unsound ∷ TooLarge ∷ NoRoom ∷ []
@@ -26,6 +29,7 @@ order (releases o) = Unsound ∷ NoSuchBlock ∷ AlreadyFree ∷ HeaderDamaged �
 order (resizes o n) = Unsound ∷ TooLarge ∷ NoSuchBlock ∷ AlreadyFree ∷ HeaderDamaged ∷ Overrun ∷ NoRoom ∷ []
 order (measures o) = Unsound ∷ NoSuchBlock ∷ AlreadyFree ∷ HeaderDamaged ∷ Overrun ∷ []
 order reports = Unsound ∷ []
+order (grantsList total cap places ns) = Unsound ∷ TooLong ∷ BadProposal ∷ NoRoom ∷ []
 
 -- what a call names
 abbrev pub sizeIn : Call → ℕ
@@ -35,6 +39,7 @@ sizeIn (releases o) = 0
 sizeIn (resizes o n) = n
 sizeIn (measures o) = 0
 sizeIn reports = 0
+sizeIn (grantsList total cap places ns) = 0
 
 abbrev pub offsetIn : Call → ℕ
 offsetIn setsUp = 0
@@ -43,6 +48,7 @@ offsetIn (releases o) = o
 offsetIn (resizes o n) = o
 offsetIn (measures o) = o
 offsetIn reports = 0
+offsetIn (grantsList total cap places ns) = 0
 
 -- k is the number of the first reason of a list that is due, or 0 if none is
 abbrev pub FirstDue : (Refusal → Type 0) → List Refusal → ℕ → Type 0
@@ -57,6 +63,34 @@ refusedValues (releases o) = 0 ∷ []
 refusedValues (resizes o n) = 0 ∷ []
 refusedValues (measures o) = 0 ∷ []
 refusedValues reports = 0 ∷ 0 ∷ 0 ∷ 0 ∷ 0 ∷ 0 ∷ []
+refusedValues (grantsList total cap places ns) = 0 ∷ []
+
+-- 02 §3: "Answer 9, list too long, is given exactly if L exceeds 17 times the cap, or the cap is out of its range, or the lent list has
+-- fewer than 17 places"
+pub data TooLongList (total cap places : ℕ) : Type 0 where
+  longer : entries * cap < total → TooLongList total cap places
+  no-cap : cap < 1 → TooLongList total cap places
+  large-cap : tooLarge ≤ cap → TooLongList total cap places
+  few-places : places < entries → TooLongList total cap places
+
+abbrev pub TooLongFor : Call → Type 0
+TooLongFor setsUp = ⊥
+TooLongFor (grants n) = ⊥
+TooLongFor (releases o) = ⊥
+TooLongFor (resizes o n) = ⊥
+TooLongFor (measures o) = ⊥
+TooLongFor reports = ⊥
+TooLongFor (grantsList total cap places ns) = TooLongList total cap places
+
+-- "Answer 17, bad proposal, exactly if the check refuses it."
+abbrev pub BadProposalFor : Call → Type 0
+BadProposalFor setsUp = ⊥
+BadProposalFor (grants n) = ⊥
+BadProposalFor (releases o) = ⊥
+BadProposalFor (resizes o n) = ⊥
+BadProposalFor (measures o) = ⊥
+BadProposalFor reports = ⊥
+BadProposalFor (grantsList total cap places ns) = T (not (accepts total cap ns))
 
 module _ (row : ℕ) where
   -- a granted slot of a pool, and the one whose last start an offset is
@@ -80,6 +114,16 @@ module _ (row : ℕ) where
   abbrev pub guardDue : List ℕ → Place → Bool
   guardDue a p = guardRight (p .cls) (disp (p .state)) (size (p .state)) (ownedBytes row a p)
 
+  -- "granting the accepted sizes in order would meet it": the sizes before it are granted, and then there is no place for one
+  pub record Meets (P : Pool) (ns : List ℕ) : Type 0 where
+    pub earlier : List ℕ
+    pub size : ℕ
+    pub later : List ℕ
+    pub split : ns ≡ earlier ++ (size ∷ later)
+    pub places : List Place
+    pub granted-before : reserveAll row P earlier ≡ some places
+    pub no-place : NoPlace row (poolAfter P places) (classOf size)
+
   -- no room: for a resize, of a block that is not changed in place
   abbrev pub NoRoomFor : Pool → Call → Type 0
   NoRoomFor P setsUp = ⊥
@@ -88,6 +132,7 @@ module _ (row : ℕ) where
   NoRoomFor P (resizes o n) = ((p : Place) → LiveAt P o p → T (not (inPlace p n))) × NoPlace row P (classOf n)
   NoRoomFor P (measures o) = ⊥
   NoRoomFor P reports = ⊥
+  NoRoomFor P (grantsList total cap places ns) = Meets P ns
 
   -- "Given exactly when", each by itself
   abbrev pub Due : List ℕ → List ℕ → Call → Refusal → Type 0
@@ -99,12 +144,15 @@ module _ (row : ℕ) where
   Due a t c HeaderDamaged = (p : Place) × LiveAt (view row t) (offsetIn c) p × T (not (headerDue a p))
   Due a t c Overrun = (p : Place) × LiveAt (view row t) (offsetIn c) p × T (headerDue a p) × T (not (guardDue a p))
   Due a t c NoRoom = NoRoomFor (view row t) c
+  Due a t c TooLong = TooLongFor c
+  Due a t c BadProposal = BadProposalFor c
 
-  -- DEMAND 1, of any bytes and any call
+  -- DEMAND 1, of any bytes and any call; 02 §3: "A refused list leaves arena, tables and lent list unchanged"
   pub record Answered (a t : List ℕ) (c : Call) : Type 0 where
     pub number : FirstDue (Due a t c) (order c) (call row a t c .answer .number)
     pub refused : (call row a t c .answer .number ≡ 0 → ⊥)
         → (call row a t c .arena ≡ a) × (call row a t c .room ≡ t) × (call row a t c .answer .values ≡ refusedValues c)
+        × (call row a t c .answer .lent ≡ [])
 
   abbrev pub Demand1 : Type 0
   Demand1 = (a t : List ℕ) (c : Call) → Answered a t c

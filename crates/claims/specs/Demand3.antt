@@ -4,6 +4,7 @@
 use Prim.Native.Nat.{ℕ, _+_, _/_, _≤_, _<_, min}
 use mathlib.Core.Path.{_≡_}
 use mathlib.Core.Bool.{Bool, _&&_, not}
+use mathlib.Core.Logic.{_⊎_}
 use mathlib.Core.Option.{Option, none, some}
 use mathlib.Core.List.{List, [], _∷_, map}
 use lib.Dec.{T, leb, ltb}
@@ -11,7 +12,7 @@ use lib.ListN.{length, getD, set}
 use Rattle.mem.specs.Lists.{any}
 use Rattle.model.specs.State.{Pool, Place, isLive, size, places, start}
 use Rattle.model.specs.Answers.{Answer, done, listed}
-use Rattle.model.specs.Plans.{Call, setsUp, grants, releases, resizes, measures, reports, plan, lookup, totals, freshPool}
+use Rattle.model.specs.Plans.{Call, setsUp, grants, releases, resizes, measures, reports, grantsList, plan, lookup, totals, freshPool}
 use Rattle.model.specs.Tables.{encode, roomFor}
 use Rattle.model.specs.Calls.{call, setUp, setUpRight}
 
@@ -88,22 +89,32 @@ module _ (row : ℕ) where
       SameOutside P a (u .arena)
       × EngineOnly (plan row P (u .asks) .pool) (call row (u .arena) t (u .asks) .arena) (call row (u .arena) t (u .asks) .room) us
 
-  -- the bytes that a block gains in an accepted call that gives the value v: a moved block gains those past its old size
+  -- the bytes that a block gains in an accepted call that answers r: a moved block gains those past its old size, and of a list each entry is
+  -- a grant
   abbrev pub sizeAt : Option Place → ℕ
   sizeAt none = 0
   sizeAt (some p) = size (p .state)
 
-  abbrev pub Gains : Pool → Call → ℕ → ℕ → Type 0
-  Gains P setsUp v i = ⊥
-  Gains P (grants n) v i = (v ≤ i) × (i < v + n)
-  Gains P (releases o) v i = ⊥
-  Gains P (resizes o n) v i = (v + min (sizeAt (lookup row P o)) n ≤ i) × (i < v + n)
-  Gains P (measures o) v i = ⊥
-  Gains P reports v i = ⊥
+  abbrev pub value : Answer → ℕ
+  value r = getD (r .values) 0 0
+
+  abbrev pub GainsEach : List ℕ → List ℕ → ℕ → Type 0
+  GainsEach [] ns i = ⊥
+  GainsEach (v ∷ vs) [] i = ⊥
+  GainsEach (v ∷ vs) (n ∷ ns) i = ((v ≤ i) × (i < v + n)) ⊎ GainsEach vs ns i
+
+  abbrev pub Gains : Pool → Call → Answer → ℕ → Type 0
+  Gains P setsUp r i = ⊥
+  Gains P (grants n) r i = (value r ≤ i) × (i < value r + n)
+  Gains P (releases o) r i = ⊥
+  Gains P (resizes o n) r i = (value r + min (sizeAt (lookup row P o)) n ≤ i) × (i < value r + n)
+  Gains P (measures o) r i = ⊥
+  Gains P reports r i = ⊥
+  Gains P (grantsList total cap places ns) r i = GainsEach (r .lent) ns i
 
   -- they are zero when the call ends
   unfoldable pub Cleared : Pool → Call → Answer → List ℕ → Type 0
-  Cleared P c r a = r .number ≡ 0 → (i : ℕ) → Gains P c (getD (r .values) 0 0) i → getD a i 0 ≡ 0
+  Cleared P c r a = r .number ≡ 0 → (i : ℕ) → Gains P c r i → getD a i 0 ≡ 0
 
   unfoldable pub AllCleared : Pool → List ℕ → List ℕ → List Turn → Type 0
   unfolding Cleared

@@ -13,6 +13,7 @@ use Rattle.claims.specs.Demand1.{Demand1}
 use Rattle.claims.specs.Demand2.{ReleasesExactly, MeasuresExactly, GrantsExactly, GrantsAsSaid, NeverShared, LeavesSound}
 use Rattle.claims.specs.AsSaid.{NeverAtZero, GuardsAsSaid, SetsUpAsSaid, ReadsOnly, ReportsAsSaid, ReleasesAsSaid, ResizesAsSaid}
 use Rattle.claims.specs.Demand3.{RoomFollows, SteersNothing, StoresAdmitted}
+use Rattle.claims.specs.Lists.{PlansAsSaid, ListsAsGrants, ListsExactly}
 use Rattle.claims.specs.History.{History}
 use Rattle.claims.specs.Traces.{LinesModelled, StoresSteerNothing, ReplaySteersNothing}
 
@@ -32,6 +33,10 @@ pub record Demands (row : ℕ) : Type 0 where
   pub never-at-zero : NeverAtZero row
   pub guards-as-said : GuardsAsSaid row
   pub never-shared : NeverShared row
+  -- gather lists: the planner's proposals are accepted, and a list is its grants, all of them or none
+  pub plans-as-said : PlansAsSaid
+  pub lists-as-grants : ListsAsGrants row
+  pub lists-exactly : ListsExactly row
   -- 3: packet contents steer nothing
   pub steers-nothing : SteersNothing row
   pub stores-admitted : StoresAdmitted row

@@ -9,7 +9,7 @@ use lib.ListN.{length, getD}
 use Rattle.mem.specs.Lists.{choose, sum}
 use Rattle.model.specs.declared.Totals.{Totals}
 use Rattle.model.specs.Answers.{Answer, done, listed}
-use Rattle.model.specs.Plans.{Call, setsUp, grants, releases, resizes, measures, reports}
+use Rattle.model.specs.Plans.{Call, setsUp, grants, releases, resizes, measures, reports, grantsList}
 use Rattle.model.specs.Calls.{call, setUp, setUpRight}
 
 -- a call over whatever arena bytes
@@ -36,18 +36,30 @@ abbrev pub without : ℕ → List Entry → List Entry
 without o [] = []
 without o (e ∷ es) = let rest : List Entry = e ∷ without o es in choose (eqb (e .start) o) es rest
 
--- the ledger after an accepted call that gave the value v; a resize is no grant and no release
-abbrev pub entered : Ledger → Call → ℕ → Ledger
-entered l setsUp v = opening
-entered l (grants n) v = record { granted = suc (l .granted); released = l .released; blocks = record { start = v; size = n } ∷ l .blocks }
-entered l (releases o) v = record { granted = l .granted; released = suc (l .released); blocks = without o (l .blocks) }
-entered l (resizes o n) v = record { granted = l .granted; released = l .released; blocks = record { start = v; size = n } ∷ without o (l .blocks) }
-entered l (measures o) v = l
-entered l reports v = l
+-- the ledger with one accepted grant more
+abbrev pub enteredGrant : Ledger → (start n : ℕ) → Ledger
+enteredGrant l v n = record { granted = suc (l .granted); released = l .released; blocks = record { start = v; size = n } ∷ l .blocks }
+
+-- 02 §3: "in 01's history each entry is a grant"
+abbrev pub enteredEach : Ledger → List ℕ → List ℕ → Ledger
+enteredEach l [] ns = l
+enteredEach l (v ∷ vs) [] = l
+enteredEach l (v ∷ vs) (n ∷ ns) = enteredEach (enteredGrant l v n) vs ns
+
+-- the ledger after an accepted call that answered r; a resize is no grant and no release
+abbrev pub entered : Ledger → Call → Answer → Ledger
+entered l setsUp r = opening
+entered l (grants n) r = enteredGrant l (getD (r .values) 0 0) n
+entered l (releases o) r = record { granted = l .granted; released = suc (l .released); blocks = without o (l .blocks) }
+entered l (resizes o n) r =
+    record { granted = l .granted; released = l .released; blocks = record { start = getD (r .values) 0 0; size = n } ∷ without o (l .blocks) }
+entered l (measures o) r = l
+entered l reports r = l
+entered l (grantsList total cap places ns) r = enteredEach l (r .lent) ns
 
 -- "a refused call" counts nothing
 abbrev pub booked : Ledger → Call → Answer → Ledger
-booked l c r = let e = entered l c (getD (r .values) 0 0) in choose (eqb (r .number) 0) e l
+booked l c r = let e = entered l c r in choose (eqb (r .number) 0) e l
 
 module _ (row : ℕ) where
   -- the ledger and the tables after calls; the tables are always lent as the last call left them

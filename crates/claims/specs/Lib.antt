@@ -4,6 +4,7 @@ pub mod Demand1
 pub mod Demand2
 pub mod AsSaid
 pub mod Demand3
+pub mod Lists
 pub mod History
 pub mod Alike
 pub mod Traces

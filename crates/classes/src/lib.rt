@@ -125,3 +125,25 @@ pub fn class_of(n: usize) -> usize
     }
     c
 }
+
+// A size with its class.
+pub struct Sized {
+    pub size: usize,
+    pub class: usize,
+}
+
+// A size with its class, where that of another size is at hand: the sizes of a list are often the same.
+pub fn with_class(n: usize, known: Sized) -> Sized
+    requires { ⌜ n < tooLarge ⌝ }
+    requires { ⌜ (known .class ≡ classOf (known .size)) × (known .class < 48) ⌝ }
+    ensures { λ r. ⌜ (r .size ≡ n) × (r .class ≡ classOf n) × (r .class < 48) ⌝ }
+{
+    if n == known.size {
+        return known;
+    }
+    let c = class_of(n);
+    Sized {
+        size: n,
+        class: c,
+    }
+}

@@ -316,13 +316,24 @@ module _ {ℓ} {A : Type ℓ} where
 -- ---- writes over and into what is there
 
 module _ {ℓ} {A : Type ℓ} where
-  -- a write over an earlier one of no more elements
-  pub put-over : (p : ℕ) (vs ws xs : List A) → length ws ≤ length vs → put p vs (put p ws xs) ≡ put p vs xs
-  put-over p vs ws [] h = refl
-  put-over zero vs [] (x ∷ xs) h = refl
-  put-over zero [] (w ∷ ws) (x ∷ xs) h = absurd (omega arith)
-  put-over zero (v ∷ vs) (w ∷ ws) (x ∷ xs) h = ap (λ (r : List A). v ∷ r) (put-over zero vs ws xs (omega arith))
-  put-over (suc p) vs ws (x ∷ xs) h = ap (λ (r : List A). x ∷ r) (put-over p vs ws xs h)
+  -- a write over a place that holds an earlier one
+  pub put-cover : (p q : ℕ) (vs ws xs : List A) → p ≤ q → q + length ws ≤ p + length vs → put p vs (put q ws xs) ≡ put p vs xs
+  put-cover p q vs ws [] l h = refl
+  put-cover zero zero [] [] (x ∷ xs) l h = refl
+  put-cover zero zero (v ∷ vs) [] (x ∷ xs) l h = refl
+  put-cover zero zero [] (w ∷ ws) (x ∷ xs) l h = absurd (omega arith)
+  put-cover zero zero (v ∷ vs) (w ∷ ws) (x ∷ xs) l h = ap (λ (r : List A). v ∷ r) (put-cover zero zero vs ws xs l (omega arith))
+  put-cover zero (suc q) [] ws (x ∷ xs) l h = absurd (omega arith)
+  put-cover zero (suc q) (v ∷ vs) ws (x ∷ xs) l h = ap (λ (r : List A). v ∷ r) (put-cover zero q vs ws xs (omega arith) (omega arith))
+  put-cover (suc p) zero vs ws (x ∷ xs) l h = absurd (omega arith)
+  put-cover (suc p) (suc q) vs ws (x ∷ xs) l h = ap (λ (r : List A). x ∷ r) (put-cover p q vs ws xs (omega arith) (omega arith))
+
+  -- a part written where it stands
+  pub put-same : (p k : ℕ) (xs : List A) → put p (part p k xs) xs ≡ xs
+  put-same p k [] = refl
+  put-same zero zero (x ∷ xs) = refl
+  put-same zero (suc k) (x ∷ xs) = ap (λ (r : List A). x ∷ r) (put-same zero k xs)
+  put-same (suc p) k (x ∷ xs) = ap (λ (r : List A). x ∷ r) (put-same p k xs)
 
   -- a write into the middle one of three lists
   pub put-middle : (p q : ℕ) (vs front mid back : List A) → length front ≡ p → q + length vs ≤ length mid

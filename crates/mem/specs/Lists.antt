@@ -10,6 +10,11 @@ unfoldable pub choose {ℓ} : {A : Type ℓ} → Bool → A → A → A
 choose true x y = x
 choose false x y = y
 
+-- whether there is one
+abbrev pub isSome {ℓ} : {A : Type ℓ} → Option A → Bool
+isSome none = false
+isSome (some x) = true
+
 module _ {ℓ} {A : Type ℓ} where
   abbrev pub every : (A → Bool) → List A → Bool
   every f [] = true

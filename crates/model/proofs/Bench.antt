@@ -5,6 +5,7 @@ use Rattle.mem.specs.Bytes.{zeros}
 use Rattle.classes.specs.Classes.{rowBytes, tooLarge, unitsOf, slotBytes, slotsOf, rowsOf, classOf}
 use Rattle.model.specs.State.{slotSound, spanSound, places}
 use Rattle.model.specs.Blocks.{header, guard, firstSpare, spare, frame, headerRight, guardRight, damageIn}
+use Rattle.model.specs.Proposals.{entries, capRight, sizeRight, accepts, plannable, fullCaps, planned}
 use Rattle.model.specs.Plans.{plan, opens, refill, grantSlot, inPlace}
 use Rattle.model.specs.Tables.{slotRecord, rowRecord, laterRecords, roomBytes, viewSlot, viewSlots, viewGroup, viewHolder, spanRecordsBy, encodeBy}
 use Rattle.model.specs.Tables.{viewRowsBy, viewBy, arenaRight, soundBy}
@@ -15,5 +16,5 @@ pub bench : T (every right sheet)
 unfolding right passes sheet choose zeros rowBytes tooLarge unitsOf slotBytes slotsOf rowsOf classOf slotSound spanSound places header guard firstSpare spare
     frame headerRight guardRight damageIn
     opens refill grantSlot inPlace plan slotRecord rowRecord laterRecords spanRecordsBy roomBytes viewSlot viewSlots viewGroup viewHolder viewRowsBy
-    encodeBy viewBy arenaRight soundBy callBy setUpBy setUpRightBy checkedBy carriedBy unless
+    encodeBy viewBy arenaRight soundBy entries capRight sizeRight accepts plannable fullCaps planned callBy setUpBy setUpRightBy checkedBy carriedBy unless
 bench = tt

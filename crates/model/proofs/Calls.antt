@@ -6,7 +6,7 @@ use Rattle.model.specs.declared.Damage.{Damage}
 use Rattle.model.specs.declared.Damage.the-variants.{Intact, Damaged}
 use Rattle.model.specs.State.{Pool, Place, isLive}
 use Rattle.model.specs.Answers.{refusal}
-use Rattle.model.specs.Plans.{Plan, Call, setsUp, grants, releases, resizes, measures, reports, plan, onBlock, lookup, measureAt, measure, report}
+use Rattle.model.specs.Plans.{Plan, Call, setsUp, grants, releases, resizes, measures, reports, grantsList, plan, onBlock, lookup, measureAt, measure, report}
 use Rattle.model.specs.Tables.{byMasks, encode, view, sound}
 use Rattle.model.specs.Calls.{Result, masked, call, checked, carried, applied, damaged, keeps, unsound, callBy, carriedBy, checkedBy, unless, written}
 use Rattle.model.proofs.Tables.{sound-facts}
@@ -19,6 +19,7 @@ Asks (releases o) = Unit {0}
 Asks (resizes o n) = Unit {0}
 Asks (measures o) = Unit {0}
 Asks reports = Unit {0}
+Asks (grantsList total cap places sizes) = Unit {0}
 
 module _ (row : ℕ) (a t : List ℕ) where
   call-checked : (c : Call) → Asks c → call row a t c ≡ checked row a t c
@@ -29,6 +30,7 @@ module _ (row : ℕ) (a t : List ℕ) where
   call-checked (resizes o n) k = refl
   call-checked (measures o) k = refl
   call-checked reports k = refl
+  call-checked (grantsList total cap places sizes) k = refl
 
   pub call-unsound : (c : Call) → Asks c → sound row (length a) t ≡ false → call row a t c ≡ keeps (unsound c) a t
   unfolding checkedBy

@@ -11,10 +11,12 @@ use Rattle.model.specs.declared.Refusal.the-variants.{NoSuchBlock, Alrea
 use Rattle.model.specs.State.{Pool, Place, group, isLive, count, disp, slotSound, spanSound, wellFormed, poolOf, become, rows, start}
 use Rattle.model.specs.Plans.{Plan, refused, reserve, grantAt, grant, lookup, vacant, onBlock, releaseAt, release, inPlace}
 use Rattle.model.specs.Plans.{resizeInPlace, moveTo, resizeMove, resizeAt, resize}
-use Rattle.model.specs.Plans.{measure, measureAt, report, freshPool, Call, setsUp, grants, releases, resizes, measures, reports, plan}
+use Rattle.model.specs.Plans.{measure, measureAt, report, freshPool, Call, setsUp, grants, releases, resizes, measures, reports, grantsList, plan}
+use Rattle.model.specs.Plans.{reserveAll, poolAfter, grantList}
 use Rattle.model.proofs.Rooms.{rows-append}
 use Rattle.model.proofs.Fresh.{fresh-formed, fresh-rows}
 use Rattle.model.proofs.Lookup.{Fits, fits, lookup-found}
+use Rattle.model.proofs.Lists.{small, by-grants, on-list}
 use Rattle.model.proofs.Reserve.{Granted, reserve-formed}
 
 -- an element in the middle of a list
@@ -189,6 +191,19 @@ module _ (row : ℕ) (pos : 0 < row) where
       (resize-in-place-formed row p n (subst (λ Q. T (wellFormed Q)) (sym q) w) l (leb-false tooLarge n e) (true-T (inPlace p n) t)))
       (λ t. resize-move-formed P p n w (leb-false tooLarge n e))))
 
+  -- a list of grants
+  list-formed : (P : Pool) (ns : List ℕ) (qs : List Place) → T (wellFormed P) → T (small ns) → reserveAll row P ns ≡ some qs → Formed row P (poolAfter P qs)
+  list-formed P ns qs w h e =
+      by-grants row (λ P ns qs. T (wellFormed P) → Formed row P (poolAfter P qs)) (λ P w. unchanged row P w)
+      (λ P n ns q qs w s r k v.
+      let g : Granted row P n q = reserve-formed row P n q w s r in
+      let m : Formed row (poolOf q) (poolAfter (poolOf q) qs) = k (g .formed) in
+      record { formed = m .formed; long = m .long ∙ g .long }) P ns qs w h e w
+
+  grant-list-formed : (P : Pool) (total cap places : ℕ) (ns : List ℕ) → T (wellFormed P) → Formed row P (grantList row P total cap places ns .pool)
+  grant-list-formed P total cap places ns w =
+      on-list row (λ (r : Plan). Formed row P (r .pool)) P total cap places ns (λ r. unchanged row P w) (λ qs h e. list-formed P ns qs w h e)
+
   measure-formed : (P : Pool) (o : ℕ) → T (wellFormed P) → Formed row P (measure row P o .pool)
   unfolding measure
   measure-formed P o w =
@@ -203,3 +218,4 @@ module _ (row : ℕ) (pos : 0 < row) where
   plan-formed P (resizes o n) w = resize-formed P o n w
   plan-formed P (measures o) w = measure-formed P o w
   plan-formed P reports w = unchanged row P w
+  plan-formed P (grantsList total cap places ns) w = grant-list-formed P total cap places ns w

@@ -9,7 +9,7 @@ use Rattle.model.specs.declared.Damage.{Damage}
 use Rattle.model.specs.declared.Damage.the-variants.{Intact, Damaged}
 use Rattle.model.specs.State.{Pool, rows}
 use Rattle.model.specs.Answers.{done, refusal}
-use Rattle.model.specs.Plans.{Plan, Write, writes, copies, Call, setsUp, grants, releases, resizes, measures, reports, plan, freshPool}
+use Rattle.model.specs.Plans.{Plan, Write, writes, copies, Call, setsUp, grants, releases, resizes, measures, reports, grantsList, plan, freshPool}
 use Rattle.model.specs.Tables.{Layout, LayoutLaws, encodeBy, arenaRight, roomBytes}
 use Rattle.model.specs.Calls.{Form, Outcome, Stands, FormLaws, formOf, keeps, written, unless, damaged, carriedBy, setUpRightBy}
 use Rattle.model.specs.Calls.{setUpBy, checkedBy, callBy}
@@ -62,6 +62,7 @@ module _ (row : ℕ) where
   step a P (resizes o n) = stepped a P (plan row P (resizes o n))
   step a P (measures o) = stepped a P (plan row P (measures o))
   step a P reports = stepped a P (plan row P reports)
+  step a P (grantsList total cap places sizes) = stepped a P (plan row P (grantsList total cap places sizes))
 
   -- an outcome with its state in the room
   abbrev pub inRoom : (F : Form) → Outcome Pool → Outcome (F .Room)
@@ -89,6 +90,7 @@ module _ (row : ℕ) where
     call-step (resizes o n) = checked-step (resizes o n)
     call-step (measures o) = checked-step (measures o)
     call-step reports = checked-step reports
+    call-step (grantsList total cap places sizes) = checked-step (grantsList total cap places sizes)
 
   -- the state after a step stands under the arena after it
   pub fresh-stands : (n : ℕ) → T (arenaRight row n) → Stands row n (freshPool (n / row))
@@ -126,3 +128,4 @@ module _ (row : ℕ) where
     step-stands (resizes o n) = stepped-stands (resizes o n)
     step-stands (measures o) = stepped-stands (measures o)
     step-stands reports = stepped-stands reports
+    step-stands (grantsList total cap places sizes) = stepped-stands (grantsList total cap places sizes)

@@ -5,6 +5,8 @@ pub mod Fresh
 pub mod Lookup
 pub mod Reserve
 pub mod Lowest
+pub mod Lists
+pub mod Proposals
 pub mod Blocks
 pub mod Formed
 pub mod Calls

@@ -4,26 +4,33 @@ use Prim.Native.Nat.{ℕ, zero, suc, _+_, _/_}
 use mathlib.Core.Bool.{Bool, true, false, _&&_}
 use mathlib.Core.List.{List, [], _∷_, _++_}
 use lib.Dec.{eqb}
-use lib.ListN.{length, set}
+use lib.ListN.{length, replicate, set}
 use Rattle.mem.specs.Lists.{choose}
-use Rattle.mem.specs.Bytes.{zeros, same, part}
+use Rattle.mem.specs.Bytes.{zeros, bit, same, part, put}
 use Rattle.classes.specs.Classes.{rowBytes, slotsOf, rowsOf, classOf}
-use Rattle.model.specs.Plans.{Call, grants, releases, resizes, measures, reports}
+use Rattle.model.specs.Plans.{Call, grants, releases, resizes, measures, reports, grantsList}
+use Rattle.model.specs.Proposals.{accepts, planned}
 use Rattle.model.specs.Tables.{roomBytes}
 use Rattle.model.specs.Calls.{call, setUp}
 
--- a line of the sheet: a call with the number and values due, bytes due from a place on, or a store into the arena
+-- a line of the sheet: a call with the number and values due; a list call that is done, with its value and the lent list before and after
+-- it; a call that is refused and leaves every byte of arena and tables, and writes nothing to a lent list; bytes due from a place on, or a
+-- store into the arena
 pub data Line : Type 0 where
   asks : Call → (number : ℕ) (values : List ℕ) → Line
+  lists : Call → (value : ℕ) (before after : List ℕ) → Line
+  leaves : Call → (number : ℕ) → Line
   shows : (at : ℕ) → List ℕ → Line
   stores : (at byte : ℕ) → Line
 
--- an entry of the sheet: lines over a fresh pool of some arena length, a size with its class, or a class with the slots and rows of its
--- groups
+-- an entry of the sheet: lines over a fresh pool of some arena length, a size with its class, a class with the slots and rows of its
+-- groups, a proposal with 1 if the check accepts it, or what the planner answers and proposes
 pub data Entry : Type 0 where
   fresh : (arena : ℕ) → List Line → Entry
   class : (n c : ℕ) → Entry
   groups : (c slots rows : ℕ) → Entry
+  checks : (total cap : ℕ) (sizes : List ℕ) (accepted : ℕ) → Entry
+  plans : (total cap number : ℕ) (sizes : List ℕ) → Entry
 
 -- a call that gives one value, and one that is refused
 abbrev pub gives : Call → ℕ → Line
@@ -39,6 +46,10 @@ bytes4 a b c d = a ∷ b ∷ c ∷ d ∷ []
 abbrev pub grants160 : ℕ → ℕ → List Line
 grants160 zero at = []
 grants160 (suc n) at = gives (grants 160) at ∷ grants160 n (at + 192)
+
+-- k entries of one byte
+abbrev pub ones : ℕ → List ℕ
+ones k = replicate k 1
 
 unfoldable pub sheet : List Entry
 sheet =
@@ -100,6 +111,30 @@ sheet =
     ∷ shows 16 (0 ∷ []) ∷ shows 175 (0 ∷ []) ∷ [])
     ∷ fresh 8192 (gives (grants 160) 16 ∷ stores 16 7 ∷ stores 155 5 ∷ stores 156 6 ∷ gives (resizes 16 140) 4112 ∷ shows 4112 (7 ∷ [])
     ∷ shows 4251 (5 ∷ 0 ∷ []) ∷ shows 155 (0 ∷ 0 ∷ []) ∷ [])
+    -- 02 §3, the check: any proposal of at most 17 sizes, each from 1 to the cap, whose sum is L; "L = 0 is the empty list"
+    ∷ checks 100 40 (40 ∷ 20 ∷ 40 ∷ []) 1 ∷ checks 17 1 (ones 17) 1 ∷ checks 131051 131051 (131051 ∷ []) 1 ∷ checks 0 1 [] 1
+    ∷ checks 18 2 (ones 18) 0 ∷ checks 40 40 (40 ∷ 0 ∷ []) 0 ∷ checks 41 40 (41 ∷ []) 0 ∷ checks 99 40 (40 ∷ 20 ∷ 40 ∷ []) 0 ∷ checks 0 40 (0 ∷ []) 0
+    ∷ checks 1 40 [] 0 ∷ checks 0 0 [] 0 ∷ checks 1 131052 (1 ∷ []) 0
+    -- the planner: full caps, then the rest; 9 where L exceeds 17 times the cap, or the cap is out of its range
+    ∷ plans 100 40 0 (40 ∷ 40 ∷ 20 ∷ []) ∷ plans 80 40 0 (40 ∷ 40 ∷ []) ∷ plans 0 1 0 [] ∷ plans 17 1 0 (ones 17)
+    ∷ plans 2227867 131051 0 (replicate 17 131051)
+    ∷ plans 18 1 9 [] ∷ plans 2227868 131051 9 [] ∷ plans 0 0 9 [] ∷ plans 1 131052 9 []
+    -- the list call: an accepted list of mixed classes, and a lent list of 20 places, whose later ones stay
+    ∷ fresh 4096 (lists (grantsList 44 30 20 (1 ∷ 13 ∷ 30 ∷ [])) 3 (replicate 20 7) (16 ∷ 528 ∷ 1552 ∷ replicate 17 7)
+    ∷ gives (measures 16) 1 ∷ gives (measures 528) 13 ∷ gives (measures 1552) 30 ∷ asks reports 0 (3 ∷ 44 ∷ 6 ∷ 2 ∷ 90 ∷ 0 ∷ []) ∷ [])
+    -- "L = 0 is the empty list"
+    ∷ fresh 512 (lists (grantsList 0 131051 17 []) 0 (replicate 17 7) (replicate 17 7) ∷ asks reports 0 (0 ∷ 0 ∷ 0 ∷ 1 ∷ 0 ∷ 0 ∷ []) ∷ [])
+    -- "answer 8 exactly if granting the accepted sizes in order would meet it": here the last meets it, after a refill and a new group.
+    -- "A refused list leaves arena, tables and lent list unchanged, use counts included."
+    ∷ fresh 8192 (grants160 21 16 ++ (gives (releases 16) 0 ∷ leaves (grantsList 373 200 17 (160 ∷ 13 ∷ 200 ∷ [])) 8
+    ∷ lists (grantsList 173 200 17 (160 ∷ 13 ∷ [])) 2 (replicate 17 7) (32 ∷ 4112 ∷ replicate 15 7) ∷ []))
+    -- "Answer 9, list too long, is given exactly if L exceeds 17 times the cap, or the cap is out of its range, or the lent list has fewer
+    -- than 17 places", and comes before 17
+    ∷ fresh 512 (leaves (grantsList 18 1 17 (ones 17)) 9 ∷ leaves (grantsList 0 0 17 []) 9 ∷ leaves (grantsList 1 131052 17 (1 ∷ [])) 9
+    ∷ leaves (grantsList 1 1 16 (1 ∷ [])) 9 ∷ leaves (grantsList 0 1 16 []) 9 ∷ [])
+    -- "Answer 17, bad proposal, exactly if the check refuses it", and before 8
+    ∷ fresh 512 (leaves (grantsList 18 2 17 (ones 18)) 17 ∷ leaves (grantsList 1 1 17 (1 ∷ 0 ∷ [])) 17 ∷ leaves (grantsList 13 12 17 (13 ∷ [])) 17
+    ∷ leaves (grantsList 14 14 17 (13 ∷ [])) 17 ∷ leaves (grantsList 13 13 17 (13 ∷ [])) 8 ∷ [])
     ∷ []
 
 -- the lines that are so, over an arena and a table room
@@ -110,6 +145,17 @@ passes a t (asks c k vs ∷ ls) =
     let rest = passes (r .arena) (r .room) ls in
     let right : Bool = eqb (r .answer .number) k && same (r .answer .values) vs in
     choose right rest false
+passes a t (lists c k l m ∷ ls) =
+    let r = call rowBytes a t c in
+    let rest = passes (r .arena) (r .room) ls in
+    let right : Bool = eqb (r .answer .number) 0 && same (r .answer .values) (k ∷ []) && same (put 0 (r .answer .lent) l) m in
+    choose right rest false
+passes a t (leaves c k ∷ ls) =
+    let r = call rowBytes a t c in
+    let rest = passes (r .arena) (r .room) ls in
+    let kept : Bool = same (r .arena) a && same (r .room) t && same (r .answer .lent) [] in
+    let right : Bool = eqb (r .answer .number) k && same (r .answer .values) (0 ∷ []) && kept in
+    choose right rest false
 passes a t (shows p bs ∷ ls) = let rest = passes a t ls in choose (same (part p (length bs) a) bs) rest false
 passes a t (stores p b ∷ ls) = passes (set a p b) t ls
 
@@ -119,3 +165,5 @@ right (fresh n ls) =
     eqb (r .answer .number) 0 && passes (r .arena) (r .room) ls
 right (class n c) = eqb (classOf n) c
 right (groups c s r) = eqb (slotsOf c) s && eqb (rowsOf rowBytes c) r
+right (checks total cap ns k) = eqb (bit (accepts total cap ns)) k
+right (plans total cap k ns) = eqb (planned total cap .number) k && same (planned total cap .lent) ns

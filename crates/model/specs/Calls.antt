@@ -15,7 +15,7 @@ use Rattle.model.specs.declared.Damage.the-variants.{Intact, Damaged}
 use Rattle.model.specs.State.{Pool, Place, wellFormed, rows}
 use Rattle.model.specs.Blocks.{damage}
 use Rattle.model.specs.Answers.{Answer, done, refusal, reportRefusal}
-use Rattle.model.specs.Plans.{Plan, Write, writes, copies, Call, setsUp, grants, releases, resizes, measures, reports, plan, freshPool}
+use Rattle.model.specs.Plans.{Plan, Write, writes, copies, Call, setsUp, grants, releases, resizes, measures, reports, grantsList, plan, freshPool}
 use Rattle.model.specs.Tables.{Layout, byMasks, encodeBy, viewBy, soundBy, arenaRight, roomBytes}
 
 -- A form of the tables: what stands in the room for a state, what a room says, whether a room is sound under an arena of n bytes,
@@ -62,6 +62,7 @@ unsound (releases o) = refusal Unsound
 unsound (resizes o n) = refusal Unsound
 unsound (measures o) = refusal Unsound
 unsound reports = reportRefusal Unsound
+unsound (grantsList total cap places sizes) = refusal Unsound
 
 -- what is done with a block that is intact, or else with the reason
 unfoldable pub unless : {A : Type 0} → Damage → A → (Refusal → A) → A
@@ -101,6 +102,7 @@ module _ (row : ℕ) where
     callBy a t (resizes o n) = checkedBy a t (resizes o n)
     callBy a t (measures o) = checkedBy a t (measures o)
     callBy a t reports = checkedBy a t reports
+    callBy a t (grantsList total cap places sizes) = checkedBy a t (grantsList total cap places sizes)
 
   -- a state that an arena of n bytes can have
   pub record Stands (n : ℕ) (P : Pool) : Type 0 where

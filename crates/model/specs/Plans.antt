@@ -12,12 +12,13 @@ use Rattle.classes.specs.Classes.{slotBytes, classOf, slotsOf, rowsOf, tooLarge
 use Rattle.model.specs.declared.Slot.{Slot}
 use Rattle.model.specs.declared.Slot.the-variants.{Fresh, Idle, Live}
 use Rattle.model.specs.declared.Refusal.{Refusal}
-use Rattle.model.specs.declared.Refusal.the-variants.{TooLarge, NoSuchBlock, AlreadyFree, NoRoom}
+use Rattle.model.specs.declared.Refusal.the-variants.{TooLarge, NoSuchBlock, AlreadyFree, NoRoom, TooLong, BadProposal}
 use Rattle.model.specs.declared.Totals.{Totals}
 use Rattle.model.specs.State.{Span, Pool, Place, free, group, isLive, isReady, isWaiting, count, disp, size}
 use Rattle.model.specs.State.{poolOf, become, slotNumber, places, rows, base, owned, start}
 use Rattle.model.specs.Blocks.{reserved, header, spare, frame}
-use Rattle.model.specs.Answers.{Answer, done, refusal, listed}
+use Rattle.model.specs.Answers.{Answer, done, listDone, refusal, listed}
+use Rattle.model.specs.Proposals.{entries, accepts, plannable}
 
 -- bytes written from a place on, or some bytes copied from one place to another
 pub data Write : Type 0 where
@@ -97,6 +98,20 @@ abbrev pub reserveIn : ℕ → ℕ → Option Site → Option Place
 reserveIn c n none = none
 reserveIn c n (some s) = some (grantIn c n s)
 
+-- the place of a grant, and those of the grants after it: none where one of them has none
+abbrev pub placed : Place → Option (List Place) → Option (List Place)
+placed q none = none
+placed q (some qs) = some (q ∷ qs)
+
+abbrev pub placedBy : Option Place → (Place → Option (List Place)) → Option (List Place)
+placedBy none f = none
+placedBy (some q) f = placed q (f q)
+
+-- the pool after grants, each place being in the pool that its grant makes
+abbrev pub poolAfter : Pool → List Place → Pool
+poolAfter P [] = P
+poolAfter P (q ∷ qs) = poolAfter (poolOf q) qs
+
 -- "The slot becomes waiting"
 abbrev pub vacant : Place → Slot
 vacant p = Idle false (count (p .state)) (disp (p .state))
@@ -162,6 +177,28 @@ module _ (row : ℕ) where
   unfoldable pub grant : Pool → ℕ → Plan
   unfolding reserve enframe
   grant P n = let g = grantAt P (reserve P n) in choose (leb tooLarge n) (refused TooLarge P) g
+
+  -- GRANT LIST (02 §3)
+
+  -- "grants its sizes in order": the places that the grants take, none where one of them would meet answer 8
+  unfoldable pub reserveAll : Pool → List ℕ → Option (List Place)
+  unfolding reserve
+  reserveAll P [] = some []
+  reserveAll P (n ∷ ns) = placedBy (reserve P n) (λ q. reserveAll (poolOf q) ns)
+
+  -- "answer 8 exactly if granting the accepted sizes in order would meet it"; "writes the starts to the front of a lent list, keeps its
+  -- later places and gives the number of entries"
+  abbrev pub grantAllAt : Pool → Option (List Place) → Plan
+  grantAllAt P none = refused NoRoom P
+  grantAllAt P (some qs) = record { checks = none; answer = listDone (map (start row) qs); pool = poolAfter P qs; changes = map enframe qs }
+
+  -- "Order: 2, 9, 17, 8." The lent list has so many places; "Answer 9 .. or the lent list has fewer than 17 places"
+  unfoldable pub grantList : Pool → (total cap places : ℕ) → List ℕ → Plan
+  unfolding reserveAll enframe
+  grantList P total cap places sizes =
+      let g = grantAllAt P (reserveAll P sizes) in
+      let c = choose (accepts total cap sizes) g (refused BadProposal P) in
+      choose (plannable total cap && leb entries places) c (refused TooLong P)
 
   -- BLOCKS BY THEIR OFFSET
 
@@ -280,14 +317,17 @@ pub data Call : Type 0 where
   resizes : (offset n : ℕ) → Call
   measures : (offset : ℕ) → Call
   reports : Call
+  -- of the list that it is lent, a list call is told the number of places
+  grantsList : (total cap places : ℕ) (sizes : List ℕ) → Call
 
 module _ (row : ℕ) where
   -- "Every call steps on that state and its arguments alone"
   unfoldable pub plan : Pool → Call → Plan
-  unfolding grant release resize measure report
+  unfolding grant grantList release resize measure report
   plan P setsUp = setUpAgain row P
   plan P (grants n) = grant row P n
   plan P (releases o) = release row P o
   plan P (resizes o n) = resize row P o n
   plan P (measures o) = measure row P o
   plan P reports = report row P
+  plan P (grantsList total cap places sizes) = grantList row P total cap places sizes

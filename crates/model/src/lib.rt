@@ -32,6 +32,8 @@ pub enum Refusal {
     HeaderDamaged,
     Overrun,
     NoRoom,
+    TooLong,
+    BadProposal,
 }
 
 // Whether the header and the guard of a block are those due, or why a call on it is refused.
@@ -40,8 +42,8 @@ pub enum Damage {
     Damaged(Refusal),
 }
 
-// What a call answers: its value, or why it is refused. Grant and resize give the block's start, measure its requested size, set up
-// and release 0.
+// What a call answers: its value, or why it is refused. Grant and resize give the block's start, measure its requested size, grant list and
+// its planner the number of entries, set up and release 0.
 pub enum Reply {
     Done(usize),
     Refused(Refusal),

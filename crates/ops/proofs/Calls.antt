@@ -29,7 +29,7 @@ use Rattle.ops.proofs.Moves.{reserved-place, reserved-none, reserve-lea
 
 module _ {row : ℕ} {t : List ℕ} (a : List ℕ) (r : Lent byMasks row (length a) t) where
   -- a plan that refuses, carried out on sound tables, keeps every byte
-  kept : (x : Refusal) → carried row a t (refused x (view row t)) ≡ keeps (refusal x) a t
+  pub kept : (x : Refusal) → carried row a t (refused x (view row t)) ≡ keeps (refusal x) a t
   kept x = carried-whole row a t (refused x (view row t)) refl ∙ ap (keeps (refusal x) a) (same-room row a t (r .sound))
 
   -- ---- grant

@@ -4,7 +4,7 @@ ghost use mathlib.Core.Bool.{true};
 ghost use Prim.Native.Nat.{_+_, _*_, _≤_, _<_, min};
 ghost use lib.ListN.{length};
 ghost use Rattle.mem.specs.Bytes.{put, part};
-ghost use Rattle.classes.specs.Classes.{Lawful, slotBytes, tooLarge};
+ghost use Rattle.classes.specs.Classes.{Lawful, slotBytes, classOf, tooLarge};
 ghost use Rattle.model.specs.State.{Place, poolOf};
 ghost use Rattle.model.specs.Blocks.{damageIn, frame};
 ghost use Rattle.model.specs.Plans.{site, reserve, lookup, releaseAt, resizeInPlace, resizeMove, resizeAt};
@@ -103,6 +103,20 @@ fn site_for(row: usize, len: usize, room: &mut [u8], c: usize) -> Found
     Found::At(i)
 }
 
+// Reserves a slot for n bytes, whose class is c.
+pub fn reserve_in(row: usize, len: usize, room: &mut [u8], c: usize, n: usize) -> Reserved
+    requires { ⌜ sound row len (now room) ≡ true ⌝ }
+    requires { ⌜ (n < tooLarge) × (c ≡ classOf n) × (c < 48) ⌝ }
+    requires { ⌜ Lawful row ⌝ }
+    ensures { λ r. ⌜ r ≡ reservedAs row (reserve row (view row (now (room .entry))) n) ⌝ }
+    ensures { λ r. ⌜ now (room .exit) ≡ roomAfter row (now (room .entry)) (reserve row (view row (now (room .entry))) n) ⌝ }
+{
+    let Found::At(i) = site_for(row, len, room, c) else {
+        return Reserved::NoRoom;
+    };
+    Reserved::Taken(changes::take_slot(room, i, c, n))
+}
+
 // Reserves a slot for n bytes.
 pub fn reserve_slot(row: usize, len: usize, room: &mut [u8], n: usize) -> Reserved
     requires { ⌜ sound row len (now room) ≡ true ⌝ }
@@ -111,11 +125,7 @@ pub fn reserve_slot(row: usize, len: usize, room: &mut [u8], n: usize) -> Reserv
     ensures { λ r. ⌜ r ≡ reservedAs row (reserve row (view row (now (room .entry))) n) ⌝ }
     ensures { λ r. ⌜ now (room .exit) ≡ roomAfter row (now (room .entry)) (reserve row (view row (now (room .entry))) n) ⌝ }
 {
-    let c = classes::class_of(n);
-    let Found::At(i) = site_for(row, len, room, c) else {
-        return Reserved::NoRoom;
-    };
-    Reserved::Taken(changes::take_slot(room, i, c, n))
+    reserve_in(row, len, room, classes::class_of(n), n)
 }
 
 // The block at an offset, if it is live and undamaged.

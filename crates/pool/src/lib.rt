@@ -3,12 +3,14 @@
 // Each is a paragraph of document 01. It says with equations what it answers and what it leaves in arena and room, for any
 // bytes, offset and size.
 ghost use mathlib.Core.Path.{_≡_};
+ghost use mathlib.Core.Bool.{true};
 ghost use Prim.Native.Nat.{_≤_, _<_};
 ghost use lib.ListN.{length};
 ghost use Rattle.mem.specs.Bytes.{zeros, low, put};
 ghost use Rattle.classes.specs.Classes.{rowBytes};
 ghost use Rattle.model.specs.Answers.{replyAnswer, reportAnswer};
-ghost use Rattle.model.specs.Plans.{setsUp, grants, releases, resizes, measures, reports};
+ghost use Rattle.model.specs.Proposals.{accepts, planned};
+ghost use Rattle.model.specs.Plans.{setsUp, grants, releases, resizes, measures, reports, grantsList};
 ghost use Rattle.model.specs.Tables.{roomFor};
 ghost use Rattle.model.specs.Calls.{call};
 use model::Refusal;
@@ -142,4 +144,66 @@ pub fn report(arena: &[u8], room: &[u8]) -> Report
     }
     let counted = totals::count(classes::ROW, len, room);
     Report::Counted(counted)
+}
+
+// Check list: whether a proposal for a list of total bytes is accepted.
+pub fn check_list(total: usize, cap: usize, sizes: &[usize]) -> bool
+    ensures { λ r. ⌜ r ≡ accepts «total» cap (now (sizes .entry)) ⌝ }
+{
+    proposals::accepts(total, cap, sizes)
+}
+
+// Plan list: a proposal, which the check accepts, to the front of a lent array; the value is the number of its sizes.
+pub fn plan_list(total: usize, cap: usize, sizes: &mut [usize; 17]) -> Reply
+    ensures { λ r. ⌜ replyAnswer r .number ≡ planned «total» cap .number ⌝ }
+    ensures { λ r. ⌜ replyAnswer r .values ≡ planned «total» cap .values ⌝ }
+    ensures { λ r. ⌜ now (sizes .exit) ≡ put 0 (planned «total» cap .lent) (now (sizes .entry)) ⌝ }
+    ensures { λ r. ⌜ (replyAnswer r .number ≡ 0 → accepts «total» cap (planned «total» cap .lent) ≡ true) ⌝ }
+{
+    if !proposals::plannable(total, cap) {
+        return Reply::Refused(Refusal::TooLong);
+    }
+    let count = proposals::full_caps(total, cap, sizes);
+    Reply::Done(count)
+}
+
+// Grant list: the sizes of an accepted proposal, all granted or none; the starts to the front of a lent list, and the value is their number.
+// It is found first whether all of them fit; only then is anything written.
+pub fn grant_list(
+    arena: &mut [u8],
+    room: &mut [u8],
+    total: usize,
+    cap: usize,
+    sizes: &[usize],
+    starts: &mut [usize],
+) -> Reply
+    ensures { λ r. ⌜ replyAnswer r .number ≡ call rowBytes (now (arena .entry)) (now (room .entry))
+        (grantsList «total» cap (length (now (starts .entry))) (now (sizes .entry))) .answer .number ⌝ }
+    ensures { λ r. ⌜ replyAnswer r .values ≡ call rowBytes (now (arena .entry)) (now (room .entry))
+        (grantsList «total» cap (length (now (starts .entry))) (now (sizes .entry))) .answer .values ⌝ }
+    ensures { λ r. ⌜ now (starts .exit) ≡ put 0 (call rowBytes (now (arena .entry)) (now (room .entry))
+        (grantsList «total» cap (length (now (starts .entry))) (now (sizes .entry))) .answer .lent) (now (starts .entry)) ⌝ }
+    ensures { λ r. ⌜ now (arena .exit) ≡ call rowBytes (now (arena .entry)) (now (room .entry))
+        (grantsList «total» cap (length (now (starts .entry))) (now (sizes .entry))) .arena ⌝ }
+    ensures { λ r. ⌜ now (room .exit) ≡ call rowBytes (now (arena .entry)) (now (room .entry))
+        (grantsList «total» cap (length (now (starts .entry))) (now (sizes .entry))) .room ⌝ }
+{
+    let len = arena.len();
+    if !soundness::sound(classes::ROW, len, room) {
+        return Reply::Refused(Refusal::Unsound);
+    }
+    if !proposals::plannable(total, cap) {
+        return Reply::Refused(Refusal::TooLong);
+    }
+    if starts.len() < proposals::ENTRIES {
+        return Reply::Refused(Refusal::TooLong);
+    }
+    if !proposals::accepts(total, cap, sizes) {
+        return Reply::Refused(Refusal::BadProposal);
+    }
+    if !survey::fits(classes::ROW, len, room, sizes) {
+        return Reply::Refused(Refusal::NoRoom);
+    }
+    lists::grant_all(classes::ROW, arena, room, sizes, starts);
+    Reply::Done(sizes.len())
 }

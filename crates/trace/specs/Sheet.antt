@@ -24,7 +24,7 @@ abbrev pub gives : ℕ → Line
 gives v = told (done (v ∷ []))
 
 abbrev pub refuses : ℕ → Line
-refuses k = told (record { number = k; values = 0 ∷ [] })
+refuses k = told (record { number = k; values = 0 ∷ []; lent = [] })
 
 unfoldable pub sheet : List Entry
 sheet =

@@ -14,6 +14,9 @@ const UNITS: [usize; 48] = [
 const ROW: usize = 512;
 pub const TOO_LARGE: usize = 131_052;
 
+/// The most entries of a list, and the fewest places lent for one.
+pub const ENTRIES: usize = 17;
+
 /// Bytes of a slot of a class.
 pub fn slot_bytes(class: usize) -> usize {
     16 * UNITS[class]
@@ -175,6 +178,30 @@ fn slot_rule(class: usize, s: &Slot) -> bool {
     }
 }
 
+fn cap_in_range(cap: usize) -> bool {
+    (1..TOO_LARGE).contains(&cap)
+}
+
+/// Whether no 17 entries can hold the bytes.
+fn too_long(length: usize, cap: usize) -> bool {
+    !cap_in_range(cap) || length.div_ceil(cap) > ENTRIES
+}
+
+/// Whether a proposal for a list is accepted.
+pub fn check_list(length: usize, cap: usize, sizes: &[usize]) -> bool {
+    let together: u128 = sizes.iter().map(|&n| n as u128).sum();
+    cap_in_range(cap) && sizes.len() <= ENTRIES && sizes.iter().all(|n| (1..=cap).contains(n)) && together == length as u128
+}
+
+/// A proposal for a list: as few sizes as will do, no two of them more than a byte apart.
+pub fn plan_list(length: usize, cap: usize) -> Result<Vec<usize>, Refusal> {
+    if too_long(length, cap) {
+        return Err(Refusal::TooLong);
+    }
+    let count = length.div_ceil(cap);
+    Ok((0..count).map(|i| (length + i) / count).collect())
+}
+
 /// A pool with its arena.
 #[derive(Clone, Debug, PartialEq, Eq)]
 pub struct Reference {
@@ -235,6 +262,21 @@ impl Reference {
         self.arena[begin - 4..begin - 4 + s].fill(0);
         self.mark(At { group, slot: i });
         Ok(begin + 16 * d)
+    }
+
+    /// Grants the sizes of a proposal on a copy of the pool, which is kept if all of them were granted.
+    pub fn grant_list(&mut self, length: usize, cap: usize, sizes: &[usize], starts: &mut [usize]) -> Result<usize, Refusal> {
+        if too_long(length, cap) || starts.len() < ENTRIES {
+            return Err(Refusal::TooLong);
+        }
+        if !check_list(length, cap, sizes) {
+            return Err(Refusal::BadProposal);
+        }
+        let mut copy = self.clone();
+        let granted = sizes.iter().map(|&n| copy.grant(n)).collect::<Result<Vec<usize>, Refusal>>()?;
+        starts[..granted.len()].copy_from_slice(&granted);
+        *self = copy;
+        Ok(granted.len())
     }
 
     fn make_group(&mut self, class: usize) -> Result<usize, Refusal> {

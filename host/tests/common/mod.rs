@@ -2,11 +2,52 @@
 
 use slotpool::{room_len, Pool, Refusal, Totals};
 use slotpool_reference::Reference;
+use std::fmt;
+
+/// A gather list that is asked for: a proposal, and how many places are lent for the starts.
+#[derive(Clone, Copy, PartialEq)]
+pub struct List {
+    pub length: usize,
+    pub cap: usize,
+    sizes: [usize; List::MOST],
+    count: usize,
+    pub places: usize,
+}
+
+impl List {
+    /// The most sizes that a proposal has here.
+    pub const MOST: usize = 20;
+
+    pub fn new(length: usize, cap: usize, sizes: &[usize], places: usize) -> List {
+        let mut list = List { length, cap, sizes: [0; List::MOST], count: sizes.len(), places };
+        list.sizes[..sizes.len()].copy_from_slice(sizes);
+        list
+    }
+
+    pub fn sizes(&self) -> &[usize] {
+        &self.sizes[..self.count]
+    }
+}
+
+impl fmt::Debug for List {
+    fn fmt(&self, f: &mut fmt::Formatter<'_>) -> fmt::Result {
+        write!(f, "List::new({}, {}, &{:?}, {})", self.length, self.cap, self.sizes(), self.places)
+    }
+}
+
+/// What stands in a lent list.
+pub type Lent = [usize; 40];
+
+/// A lent list before a call: no two places are the same, and none is a start or a size.
+pub fn lent<const N: usize>() -> [usize; N] {
+    std::array::from_fn(|i| 1_000_001 + i)
+}
 
 #[derive(Clone, Copy, Debug, PartialEq)]
 pub enum Call {
     SetUp,
     Grant(usize),
+    GrantList(List),
     Release(usize),
     Resize(usize, usize),
     Measure(usize),
@@ -31,12 +72,21 @@ fn unit(r: Result<(), Refusal>) -> Answer {
     r.map_or_else(Answer::Refused, |()| Answer::Done)
 }
 
+/// How many places of a lent list a call writes.
+fn entries(call: Call, answer: Answer) -> usize {
+    match (call, answer) {
+        (Call::GrantList(_), Answer::Value(entries)) => entries,
+        _ => 0,
+    }
+}
+
 /// The library's answer to a call.
-pub fn library(arena: &mut [u8], room: &mut [u8], call: Call) -> Answer {
+pub fn library(arena: &mut [u8], room: &mut [u8], lent: &mut Lent, call: Call) -> Answer {
     let mut pool = Pool::over(arena, room);
     match call {
         Call::SetUp => unit(Pool::set_up(arena, room).map(drop)),
         Call::Grant(n) => value(pool.grant(n)),
+        Call::GrantList(l) => value(pool.grant_list(l.length, l.cap, l.sizes(), &mut lent[..l.places])),
         Call::Release(o) => unit(pool.release(o)),
         Call::Resize(o, n) => value(pool.resize(o, n)),
         Call::Measure(o) => value(pool.measure(o)),
@@ -49,13 +99,14 @@ pub fn library(arena: &mut [u8], room: &mut [u8], call: Call) -> Answer {
 }
 
 /// The second implementation's answer to a call.
-fn second(pool: &mut Reference, call: Call) -> Answer {
+fn second(pool: &mut Reference, lent: &mut Lent, call: Call) -> Answer {
     match call {
         Call::SetUp => {
             *pool = Reference::set_up(pool.arena.len());
             Answer::Done
         }
         Call::Grant(n) => value(pool.grant(n)),
+        Call::GrantList(l) => value(pool.grant_list(l.length, l.cap, l.sizes(), &mut lent[..l.places])),
         Call::Release(o) => unit(pool.release(o)),
         Call::Resize(o, n) => value(pool.resize(o, n)),
         Call::Measure(o) => value(pool.measure(o)),
@@ -71,24 +122,34 @@ fn second(pool: &mut Reference, call: Call) -> Answer {
 pub struct Both {
     pub arena: Vec<u8>,
     pub room: Vec<u8>,
+    /// The lent list after the last call, in each.
+    pub lent: [Lent; 2],
     pub second: Reference,
 }
 
 impl Both {
     /// A fresh pool, set up over old bytes.
     pub fn new(arena_len: usize, old: u8) -> Both {
-        let mut both = Both { arena: vec![old; arena_len], room: vec![!old; room_len(arena_len)], second: Reference::set_up(arena_len) };
+        let mut both = Both::over(&vec![old; arena_len], &vec![!old; room_len(arena_len)], Reference::set_up(arena_len));
         both.call(Call::SetUp).expect("a lawful arena");
         both
     }
 
-    /// Makes a call in both and gives the two answers.
-    pub fn make(&mut self, call: Call) -> (Answer, Answer) {
-        (library(&mut self.arena, &mut self.room, call), second(&mut self.second, call))
+    /// A copy of an arena and a room, beside a pool of the second implementation.
+    pub fn over(arena: &[u8], room: &[u8], second: Reference) -> Both {
+        Both { arena: arena.to_vec(), room: room.to_vec(), lent: [lent(); 2], second }
     }
 
-    /// Makes a call in both and gives its answer, or says where they differ.
+    /// Makes a call in both and gives the two answers.
+    pub fn make(&mut self, call: Call) -> (Answer, Answer) {
+        self.lent = [lent(); 2];
+        let first = library(&mut self.arena, &mut self.room, &mut self.lent[0], call);
+        (first, second(&mut self.second, &mut self.lent[1], call))
+    }
+
+    /// Makes a call in both and gives its answer, or says where they differ or what should not have changed.
     pub fn call(&mut self, call: Call) -> Result<Answer, String> {
+        let before = (self.arena.clone(), self.room.clone());
         let (first, second) = self.make(call);
         if first != second {
             return Err(format!("{call:?}: the library answers {first:?}, the second implementation {second:?}"));
@@ -100,7 +161,15 @@ impl Both {
         if self.room != self.second.tables().write() {
             return Err(format!("{call:?}: the tables differ"));
         }
-        let totals = library(&mut self.arena, &mut self.room, Call::Report);
+        if matches!(first, Answer::Refused(_)) && (&self.arena, &self.room) != (&before.0, &before.1) {
+            return Err(format!("{call:?}: refused, and something changed"));
+        }
+        let (before, [after, due]): (Lent, _) = (lent(), self.lent);
+        let written = entries(call, first);
+        if after != due || after[written..] != before[written..] {
+            return Err(format!("{call:?}: {first:?}: the lent list is {after:?} and should be {due:?}"));
+        }
+        let totals = library(&mut self.arena, &mut self.room, &mut lent(), Call::Report);
         if totals != Answer::Totals(self.second.report()) {
             return Err(format!("{call:?}: report gives {totals:?} and should give {:?}", self.second.report()));
         }

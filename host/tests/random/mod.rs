@@ -1,6 +1,9 @@
 //! Random calls on a pool, drawn with what the second implementation knows of it.
 
+pub mod lists;
+
 use crate::common::{Answer, Both, Call};
+use lists::{fault, list};
 use slotpool_reference::{rows_of, slot_bytes, TOO_LARGE};
 use std::collections::{BTreeMap, BTreeSet};
 
@@ -71,6 +74,9 @@ pub type Engine = fn(&mut Numbers, &Both) -> Option<Call>;
 
 /// The next call on a pool, or a store of its engine.
 pub fn next_call(numbers: &mut Numbers, both: &Both, engine: Engine) -> Call {
+    if numbers.one_in(10) {
+        return Call::GrantList(list(numbers, both));
+    }
     let live = both.second.live();
     let totals = both.second.report();
     let crowded = totals.rows_free == 0 && totals.ready_slots == 0;
@@ -105,7 +111,7 @@ pub fn next_call(numbers: &mut Numbers, both: &Both, engine: Engine) -> Call {
 /// How often each kind of call had each answer.
 pub type Seen = BTreeMap<String, usize>;
 
-/// A call and its answer's number; for a resize that is done, how.
+/// A call and its answer's number; for a resize that is done, how, and for a list, what is wrong with it.
 pub fn kind(call: Call, answer: &Answer) -> String {
     let told = match answer {
         Answer::Refused(r) => *r as usize,
@@ -114,6 +120,7 @@ pub fn kind(call: Call, answer: &Answer) -> String {
     match (call, answer) {
         (Call::SetUp, _) => format!("set up {told}"),
         (Call::Grant(_), _) => format!("grant {told}"),
+        (Call::GrantList(list), _) => format!("list {told}{}", fault(&list).map_or(String::new(), |what| format!(" by {what}"))),
         (Call::Release(_), _) => format!("release {told}"),
         (Call::Resize(o, _), Answer::Value(v)) => format!("resize {}", if o == *v { "in place" } else { "by a move" }),
         (Call::Resize(..), _) => format!("resize {told}"),
@@ -123,11 +130,21 @@ pub fn kind(call: Call, answer: &Answer) -> String {
     }
 }
 
-/// Every answer of every call but set up while no block is damaged.
-const UNDAMAGED: [&str; 16] = [
+/// Every answer of every call but set up while no block is damaged, and every cause of a list's 9 and 17.
+const UNDAMAGED: [&str; 26] = [
     "grant 0",
     "grant 3",
     "grant 8",
+    "list 0",
+    "list 8",
+    "list 9 by few places",
+    "list 9 by the cap",
+    "list 9 by the length",
+    "list 17 by many sizes",
+    "list 17 by a size of 0",
+    "list 17 by a sum that wraps",
+    "list 17 by a size over the cap",
+    "list 17 by another sum",
     "release 0",
     "release 4",
     "release 5",

@@ -10,7 +10,7 @@ use Rattle.player.proofs.put_line.Statement.{statement}
 use Rattle.player.proofs.put_line.Tie as tie
 
 abbrev answer : ℕ → List ℕ → Answer
-answer n vs = record { number = n; values = vs }
+answer n vs = record { number = n; values = vs; lent = [] }
 
 -- an answer with one value is its number and that value
 of-reply : (r : Reply) (n v : ℕ) → n ≡ replyAnswer r .number → v ≡ getD (replyAnswer r .values) 0 0 → answer n (v ∷ []) ≡ replyAnswer r

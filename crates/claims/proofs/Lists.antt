@@ -1,0 +1,164 @@
+-- Gather lists: the planner's proposals are accepted, and a list is its grants, all of them or none.
+use Rattle.mem.proofs.Prelude.{_∙_, _≡_, sym, ap, refl, subst, true, Bool, false, _&&_, _||_, some, none, Option, List, [], _∷_, map, ℕ, _<_, arith, T, eqb, leb}
+use Rattle.mem.proofs.Prelude.{_≤_, _*_}
+use Rattle.mem.proofs.Prelude.{lt-leb, le→leb, length, length-map}
+use mathlib.Core.Logic.{_↔_}
+use Rattle.mem.specs.Lists.{any}
+use Rattle.mem.proofs.Tests.{T-true, true-T, and-both, choose-true, choose-false, choose-case}
+use Rattle.mem.proofs.Laws.{put-length}
+use Rattle.classes.specs.Classes.{tooLarge}
+use Rattle.model.specs.declared.Refusal.the-variants.{NoRoom, TooLong}
+use Rattle.model.specs.State.{Pool, Place, disp, size, poolOf, slotNumber, rows, owned, start}
+use Rattle.model.specs.Blocks.{frame}
+use Rattle.model.specs.Answers.{Answer, done, listDone, refusal}
+use Rattle.model.specs.Proposals.{entries, accepts, plannable, fullCaps, planned}
+use Rattle.model.specs.Plans.{Plan, reserve, enframe, grantAt, grant, placed, placedBy, reserveAll, poolAfter, grantAllAt, grantList, grants, grantsList, plan}
+use Rattle.model.specs.Tables.{byMasks, arenaRight, encode, view, sound}
+use Rattle.model.specs.Calls.{Result, masked, applied, carried, call, write, written}
+use Rattle.model.proofs.Tables.{masks-laws, sound-facts, encode-sound, view-encode}
+use Rattle.model.proofs.Reserve.{Granted, reserve-formed}
+use Rattle.model.proofs.Calls.{call-sound, carried-whole}
+use Rattle.model.proofs.Lists.{small, small-first, small-rest, accepts-small, places-counted, on-list}
+use Rattle.model.proofs.Proposals.{planned-accepted, accepts-plannable, planned-fewest}
+use Rattle.claims.specs.Lists.{PlansAccepted, PlansAsSaid, granting, AsGrants, ListsAsGrants, ListsExactly}
+use Rattle.claims.proofs.Cases.{refuses}
+use Rattle.claims.proofs.Demand2.{Accepted, accepted}
+
+-- ---- the planner
+
+pub plans-as-said : PlansAsSaid
+unfolding planned
+plans-as-said total cap = record {
+  found = λ t. ap (λ (r : Answer). r .number) (can t);
+  accepted = λ t. subst (λ (r : Answer). T (accepts total cap (r .lent))) (sym (can t)) (planned-accepted total cap t);
+  too-long = λ n. let e = cannot (plannable total cap) refl n in (ap (λ (r : Answer). r .number) e, ap (λ (r : Answer). r .lent) e);
+  counted = choose-case (λ (r : Answer). r .values ≡ length (r .lent) ∷ []) (plannable total cap) (listDone (fullCaps entries total cap))
+        (refusal TooLong) (λ _. refl) (λ _. refl);
+  fewest = λ ns t. subst (λ (r : Answer). length (r .lent) ≤ length ns) (sym (can (accepts-plannable total cap ns t))) (planned-fewest total cap ns t);
+  only-plannable = λ ns t. accepts-plannable total cap ns t;
+}
+  where
+    can : T (plannable total cap) → planned total cap ≡ listDone (fullCaps entries total cap)
+    can t = choose-true (plannable total cap) _ _ (T-true (plannable total cap) t)
+
+    cannot : (b : Bool) → plannable total cap ≡ b → (T (plannable total cap) → ⊥) → planned total cap ≡ refusal TooLong
+    cannot true e n = absurd (n (true-T (plannable total cap) e))
+    cannot false e n = choose-false (plannable total cap) _ _ e
+
+-- ---- the list as grants
+
+-- whether an answer is 8
+abbrev eight : Answer → Bool
+eight r = eqb (r .number) 8
+
+none-eight : (vs : List ℕ) → T (any eight (map (λ s. done (s ∷ [])) vs)) → ⊥
+none-eight [] t = t
+none-eight (v ∷ vs) t = none-eight vs t
+
+module _ (row : ℕ) where
+  -- what grants one after the other come to from a pool P, by the places that they take
+  abbrev Granting : Pool → List ℕ → List ℕ → List ℕ → Option (List Place) → Type 0
+  Granting P a t ns none = T (any eight (granting row a t ns .answers))
+  Granting P a t ns (some qs) =
+      (granting row a t ns .answers ≡ map (λ s. done (s ∷ [])) (map (start row) qs))
+      × (granting row a t ns .arena ≡ written a (map (enframe row) qs)) × (granting row a t ns .room ≡ encode row (poolAfter P qs))
+
+  module _ (a t : List ℕ) (n : ℕ) (s : sound row (length a) t ≡ true) (h : n < tooLarge) where
+    granted-call : (o : Option Place) → reserve row (view row t) n ≡ o → call row a t (grants n) ≡ carried row a t (grantAt row (view row t) o)
+    unfolding plan grant
+    granted-call o e =
+        call-sound row a t s (grants n) tt
+        ∙ ap (carried row a t) (choose-false (leb tooLarge n) _ _ (lt-leb tooLarge n h) ∙ ap (grantAt row (view row t)) e)
+
+    taken-call : (q : Place) → reserve row (view row t) n ≡ some q → call row a t (grants n) ≡ applied (masked row) a (grantAt row (view row t) (some q))
+    taken-call q e = granted-call (some q) e ∙ carried-whole row a t (grantAt row (view row t) (some q)) refl
+
+    full-call : reserve row (view row t) n ≡ none → call row a t (grants n) .answer ≡ refusal NoRoom
+    full-call e = ap (λ (r : Result). r .answer) (granted-call none e ∙ carried-whole row a t (grantAt row (view row t) none) refl)
+
+  module _ (pos : 0 < row) where
+    grantings : (P : Pool) (a t ns : List ℕ) → view row t ≡ P → sound row (length a) t ≡ true → T (small ns) → Granting P a t ns (reserveAll row P ns)
+    unfolding granting reserveAll enframe
+    grantings P a t [] v s h = (refl, refl, sound-facts byMasks row (length a) t (true-T (sound row (length a) t) s) .form ∙ ap (encode row) v)
+    grantings P a t (n ∷ ns) v s h = go (reserve row P n) refl (λ Q b u. grantings Q b u ns)
+      where
+        small-n : n < tooLarge
+        small-n = small-first n ns h
+
+        Later : Type 0
+        Later = (Q : Pool) (b u : List ℕ) → view row u ≡ Q → sound row (length b) u ≡ true → T (small ns) → Granting Q b u ns (reserveAll row Q ns)
+
+        lift : (q : Place) → call row a t (grants n) ≡ applied (masked row) a (grantAt row (view row t) (some q))
+            → (o : Option (List Place)) → Granting (poolOf q) (write a (enframe row q)) (encode row (poolOf q)) ns o → Granting P a t (n ∷ ns) (placed q o)
+        lift q c none k =
+            subst (λ (r : Result). T (eight (r .answer) || any eight (granting row (r .arena) (r .room) ns .answers))) (sym c) k
+        lift q c (some qs) k = (
+          ap (λ (r : Result). r .answer ∷ granting row (r .arena) (r .room) ns .answers) c ∙ ap (λ l. done (start row q ∷ []) ∷ l) (k .0),
+          ap (λ (r : Result). granting row (r .arena) (r .room) ns .arena) c ∙ k .1,
+          ap (λ (r : Result). granting row (r .arena) (r .room) ns .room) c ∙ k .2,
+        )
+
+        next : (q : Place) → reserve row P n ≡ some q → Later → Granting P a t (n ∷ ns) (placed q (reserveAll row (poolOf q) ns))
+        next q e k =
+            let f = sound-facts byMasks row (length a) t (true-T (sound row (length a) t) s) in
+            let r : reserve row (view row t) n ≡ some q = ap (λ P. reserve row P n) v ∙ e in
+            let g : Granted row (view row t) n q = reserve-formed row (view row t) n q (f .formed) small-n r in
+            let b : List ℕ = write a (enframe row q) in
+            let l : length b ≡ length a = put-length (owned row q) (frame (q .cls) (slotNumber q) (disp (q .state)) (size (q .state))) a in
+            let m : length b ≡ row * rows row (poolOf q) = l ∙ f .long ∙ ap (λ k. row * k) (sym (g .long)) in
+            let u : T (sound row (length b) (encode row (poolOf q))) =
+            encode-sound masks-laws row pos (poolOf q) (length b) (g .formed) (subst (λ k. T (arenaRight row k)) (sym l) (f .lawful)) m in
+            lift q (taken-call a t n s small-n q r) (reserveAll row (poolOf q) ns)
+            (k (poolOf q) b (encode row (poolOf q)) (view-encode masks-laws row pos (poolOf q) (g .formed)) (T-true _ u) (small-rest n ns h))
+
+        go : (o : Option Place) → reserve row P n ≡ o → Later → Granting P a t (n ∷ ns) (placedBy o (λ q. reserveAll row (poolOf q) ns))
+        go none e k =
+            subst (λ (r : Answer). T (eight r || any eight (granting row (call row a t (grants n) .arena) (call row a t (grants n) .room) ns .answers)))
+            (sym (full-call a t n s small-n (ap (λ P. reserve row P n) v ∙ e))) tt
+        go (some q) e k = next q e k
+
+    pub lists-as-grants : ListsAsGrants row
+    unfolding plan
+    lists-as-grants a t total cap places ns z =
+        let c = grantsList total cap places ns in
+        let y : Accepted row pos a t c = accepted row pos a t c tt z in
+        let M : Plan → Type 0 = λ p. p .answer .number ≡ 0 → AsGrants row ns (applied (masked row) a p) (granting row a t ns) in
+        subst (λ (r : Result). AsGrants row ns r (granting row a t ns)) (sym (y .left))
+        (on-list row M (view row t) total cap places ns (λ r e. absurd (refuses r e))
+        (λ qs h e _.
+        let s = T-true (sound row (length a) t) (y .sound-tables) in
+        let g = subst (Granting (view row t) a t ns) e (grantings (view row t) a t ns refl s h) in
+        let w = sound-facts byMasks row (length a) t (y .sound-tables) .formed in
+        record {
+          entries = ap (λ k. k ∷ []) (places-counted row (view row t) ns qs w h e);
+          starts = g .0;
+          arena = sym (g .1);
+          room = sym (g .2);
+        })
+        (ap (λ (r : Result). r .answer .number) (sym (y .left)) ∙ z))
+
+    pub lists-exactly : ListsExactly row
+    unfolding plan grantList
+    lists-exactly a t total cap places ns s p l k = by-places (reserveAll row P ns) refl
+      where
+        P : Pool
+        P = view row t
+
+        whole : (o : Option (List Place)) → reserveAll row P ns ≡ o
+            → call row a t (grantsList total cap places ns) ≡ carried row a t (grantAllAt row P o)
+        whole o e =
+            call-sound row a t (T-true (sound row (length a) t) s) (grantsList total cap places ns) tt
+            ∙ ap (carried row a t)
+            (choose-true (plannable total cap && leb entries places) _ _ (T-true _ (and-both (plannable total cap) (leb entries places) p (le→leb entries places l)))
+            ∙ choose-true (accepts total cap ns) _ _ (T-true (accepts total cap ns) k) ∙ ap (grantAllAt row P) e)
+
+        by-places : (o : Option (List Place)) → reserveAll row P ns ≡ o
+            → (call row a t (grantsList total cap places ns) .answer .number ≡ 8) ↔ T (any eight (granting row a t ns .answers))
+        by-places none e =
+            let n = ap (λ (r : Result). r .answer .number) (whole none e ∙ carried-whole row a t (grantAllAt row P none) refl) in
+            let g = subst (Granting P a t ns) e (grantings P a t ns refl (T-true (sound row (length a) t) s) (accepts-small total cap ns k)) in
+            ((λ _. g), λ _. n)
+        by-places (some qs) e =
+            let n = ap (λ (r : Result). r .answer .number) (whole (some qs) e ∙ carried-whole row a t (grantAllAt row P (some qs)) refl) in
+            let g = subst (Granting P a t ns) e (grantings P a t ns refl (T-true (sound row (length a) t) s) (accepts-small total cap ns k)) in
+            ((λ x. absurd (omega (arith, n, x))), λ x. absurd (none-eight (map (start row) qs) (subst (λ l. T (any eight l)) (g .0) x)))

@@ -1,0 +1,55 @@
+-- Gather lists (02 §3): the planner's proposals, and that a list is its grants, all of them or none.
+use Prim.Native.Nat.{ℕ, _≤_}
+use mathlib.Core.Path.{_≡_}
+use mathlib.Core.Logic.{_↔_}
+use mathlib.Core.List.{List, [], _∷_, map}
+use lib.Dec.{T, eqb}
+use lib.ListN.{length}
+use Rattle.mem.specs.Lists.{any}
+use Rattle.model.specs.Answers.{done}
+use Rattle.model.specs.Proposals.{entries, accepts, plannable, planned}
+use Rattle.model.specs.Plans.{grants, grantsList}
+use Rattle.model.specs.Tables.{sound}
+use Rattle.model.specs.Calls.{Result, call}
+use Rattle.claims.specs.Demand3.{Ended}
+
+-- THE PLANNER: "answers 9 where L or the cap makes it due, else always finds an accepted proposal"; of all that are accepted it has the
+-- lowest number of entries
+pub record PlansAccepted (total cap : ℕ) : Type 0 where
+  pub found : T (plannable total cap) → planned total cap .number ≡ 0
+  pub accepted : T (plannable total cap) → T (accepts total cap (planned total cap .lent))
+  pub too-long : (T (plannable total cap) → ⊥) → (planned total cap .number ≡ 9) × (planned total cap .lent ≡ [])
+  pub counted : planned total cap .values ≡ length (planned total cap .lent) ∷ []
+  pub fewest : (ns : List ℕ) → T (accepts total cap ns) → length (planned total cap .lent) ≤ length ns
+  -- what is accepted could be planned: so a list call with answer 17 or 8 has not passed over a 9 that its proposal shows
+  pub only-plannable : (ns : List ℕ) → T (accepts total cap ns) → T (plannable total cap)
+
+abbrev pub PlansAsSaid : Type 0
+PlansAsSaid = (total cap : ℕ) → PlansAccepted total cap
+
+module _ (row : ℕ) where
+  -- the same grants one after another: the answers, and the arena and the room that they leave
+  unfoldable pub granting : List ℕ → List ℕ → List ℕ → Ended
+  granting a t [] = record { answers = []; arena = a; room = t }
+  granting a t (n ∷ ns) =
+      let r = call row a t (grants n) in
+      let g = granting (r .arena) (r .room) ns in
+      record { answers = r .answer ∷ g .answers; arena = g .arena; room = g .room }
+
+  -- "grants its sizes in order, writes the starts to the front of a lent list .. and gives the number of entries": a list that is done
+  -- leaves what the grants leave, and its starts are theirs
+  pub record AsGrants (ns : List ℕ) (r : Result) (g : Ended) : Type 0 where
+    pub entries : r .answer .values ≡ length ns ∷ []
+    pub starts : g .answers ≡ map (λ s. done (s ∷ [])) (r .answer .lent)
+    pub arena : r .arena ≡ g .arena
+    pub room : r .room ≡ g .room
+
+  abbrev pub ListsAsGrants : Type 0
+  ListsAsGrants = (a t : List ℕ) (total cap places : ℕ) (ns : List ℕ) → call row a t (grantsList total cap places ns) .answer .number ≡ 0
+      → AsGrants ns (call row a t (grantsList total cap places ns)) (granting a t ns)
+
+  -- "answer 8 exactly if granting the accepted sizes in order would meet it"
+  abbrev pub ListsExactly : Type 0
+  ListsExactly = (a t : List ℕ) (total cap places : ℕ) (ns : List ℕ)
+      → T (sound row (length a) t) → T (plannable total cap) → entries ≤ places → T (accepts total cap ns)
+      → (call row a t (grantsList total cap places ns) .answer .number ≡ 8) ↔ T (any (λ r. eqb (r .number) 8) (granting a t ns .answers))

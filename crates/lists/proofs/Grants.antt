@@ -1,0 +1,105 @@
+-- The grants of a list, one after the other.
+use Rattle.mem.proofs.Prelude.{_∙_, _≡_, sym, ap, refl, subst, true, false, some, none, Option, List, [], _∷_, map, _+_, ℕ, _<_, _≤_, suc, add-one, arith}
+use Rattle.mem.proofs.Prelude.{length, drop, getD, set}
+use Rattle.mem.specs.Lists.{isSome}
+use Rattle.mem.specs.Bytes.{put}
+use Rattle.mem.proofs.Laws.{put-nil, put-cons}
+use Rattle.classes.specs.Classes.{tooLarge}
+use Rattle.model.specs.State.{Place, poolOf, start}
+use Rattle.model.specs.Blocks.{frame}
+use Rattle.model.specs.Plans.{reserve, enframe, placed, placedBy, reserveAll, poolAfter}
+use Rattle.model.specs.Tables.{byMasks, encode, view}
+use Rattle.model.specs.Calls.{written}
+use Rattle.model.proofs.Tables.{masks-laws, view-encode}
+use Rattle.model.proofs.Reserve.{reserve-formed}
+use Rattle.model.proofs.Lists.{small, small-at, all-placed, next-placed}
+use Rattle.rows.specs.declared.Block.{Block}
+use Rattle.rows.specs.Rows.{Lent, blockOf, ownedAt, startAt}
+use Rattle.rows.proofs.Rooms.{facts}
+use Rattle.ops.specs.declared.Reserved.the-variants.{Taken}
+use Rattle.ops.specs.Blocks.{Standing, reservedAs, roomAfter}
+use Rattle.ops.proofs.Moves.{reserve-leaves, reserved-place}
+use Rattle.lists.specs.Grants.{granted, startOr, arenaAfter}
+
+-- one grant
+module _ {row len : ℕ} {t : List ℕ} (r : Lent byMasks row len t) (n : ℕ) (h : n < tooLarge) where
+  pub record GrantedOne (a : List ℕ) (b : Block) : Type 0 where
+    pub stands : Standing row len b
+    pub start : startAt row b ≡ startOr row (reserve row (view row t) n)
+    pub arena : put (ownedAt row b) (frame (b .class) (b .slot) (b .alloc .disp) (b .alloc .size)) a ≡ arenaAfter row a (reserve row (view row t) n)
+
+  pub granted-one : (a : List ℕ) (b : Block) → reservedAs row (reserve row (view row t) n) ≡ Taken b → GrantedOne a b
+  unfolding enframe
+  granted-one a b e =
+      let (q, f, k) = reserved-place row (reserve row (view row t) n) b e in
+      subst (GrantedOne a) k (record {
+        stands = reserve-leaves r n h q f .stands;
+        start = sym (ap (startOr row) f);
+        arena = sym (ap (arenaAfter row a) f);
+      })
+
+-- the places of a list that fits
+granted-next : (q : Place) (o w : Option (List Place)) → placed q o ≡ w → isSome w ≡ true → (granted w ≡ q ∷ granted o) × (isSome o ≡ true)
+granted-next q none w e h = let z : false ≡ true = ap isSome e ∙ h in let y : _≡_ {A = ℕ} 0 1 = cc in absurd (omega arith)
+granted-next q (some qs) w e h = (sym (ap granted e), refl)
+
+module _ (row : ℕ) (ns A U L : List ℕ) where
+  -- what is left to do: from arena a, room t and list l on, the sizes from place i on make arena A, room U and list L
+  pub record ToGo (i : ℕ) (a t l : List ℕ) : Type 0 where
+    pub lent : Lent byMasks row (length a) t
+    pub fits : isSome (reserveAll row (view row t) (drop i ns)) ≡ true
+    pub arena : written a (map (enframe row) (granted (reserveAll row (view row t) (drop i ns)))) ≡ A
+    pub room : encode row (poolAfter (view row t) (granted (reserveAll row (view row t) (drop i ns)))) ≡ U
+    pub list : put i (map (start row) (granted (reserveAll row (view row t) (drop i ns)))) l ≡ L
+
+  -- nothing is left
+  pub all-done : (i : ℕ) (a t l : List ℕ) → length ns ≤ i → ToGo i a t l → (a ≡ A) × (t ≡ U) × (l ≡ L)
+  all-done i a t l h g =
+      let e : reserveAll row (view row t) (drop i ns) ≡ some [] = all-placed row (view row t) ns i h in (
+        sym (ap (λ o. written a (map (enframe row) (granted o))) e) ∙ g .arena,
+        facts (g .lent) .form ∙ sym (ap (λ o. encode row (poolAfter (view row t) (granted o))) e) ∙ g .room,
+        sym (put-nil i l) ∙ sym (ap (λ o. put i (map (start row) (granted o)) l) e) ∙ g .list,
+      )
+
+  -- one grant further
+  pub one-further : small ns ≡ true → (i : ℕ) (a t l : List ℕ) → i < length ns → ToGo i a t l → (b u : List ℕ) (k : ℕ)
+      → k ≡ startOr row (reserve row (view row t) (getD ns i 0)) → b ≡ arenaAfter row a (reserve row (view row t) (getD ns i 0))
+      → u ≡ roomAfter row t (reserve row (view row t) (getD ns i 0)) → length b ≡ length a → ToGo (i + 1) b u (set l i k)
+  one-further s i a t l h g b u k ek eb eu el = go (reserve row (view row t) n) refl
+    where
+      n : ℕ
+      n = getD ns i 0
+
+      whole : (o : Option Place) → reserve row (view row t) n ≡ o
+          → placedBy o (λ q. reserveAll row (poolOf q) (drop (i + 1) ns)) ≡ reserveAll row (view row t) (drop i ns)
+      whole o r =
+          sym (next-placed row (view row t) ns i h ∙ ap (λ o. placedBy o (λ q. reserveAll row (poolOf q) (drop (i + 1) ns))) r)
+
+      next : (q : Place) → reserve row (view row t) n ≡ some q → ToGo (i + 1) b u (set l i k)
+      next q r =
+          let e : u ≡ encode row (poolOf q) = eu ∙ ap (roomAfter row t) r in
+          let w = reserve-formed row (view row t) n q (facts (g .lent) .formed) (small-at ns i s h) r in
+          let says : view row u ≡ poolOf q = ap (view row) e ∙ view-encode masks-laws row (g .lent .pos) (poolOf q) (w .formed) in
+          let qs : List Place = granted (reserveAll row (poolOf q) (drop (i + 1) ns)) in
+          let m : (granted (reserveAll row (view row t) (drop i ns)) ≡ q ∷ qs) × (isSome (reserveAll row (poolOf q) (drop (i + 1) ns)) ≡ true) =
+          granted-next q (reserveAll row (poolOf q) (drop (i + 1) ns)) (reserveAll row (view row t) (drop i ns)) (whole (some q) r) (g .fits) in
+          record {
+            lent = rw (e, el) (reserve-leaves (g .lent) n (small-at ns i s h) q r .room);
+            fits = rw says (m .1);
+            arena =
+                rw says
+                (ap (λ z. written z (map (enframe row) qs)) (eb ∙ ap (arenaAfter row a) r)
+                ∙ sym (ap (λ z. written a (map (enframe row) z)) (m .0)) ∙ g .arena);
+            room = rw says (sym (ap (λ z. encode row (poolAfter (view row t) z)) (m .0)) ∙ g .room);
+            list =
+                rw says
+                (ap (λ z. put z (map (start row) qs) (set l i k)) (add-one i)
+                ∙ ap (λ z. put (suc i) (map (start row) qs) (set l i z)) (ek ∙ ap (startOr row) r)
+                ∙ sym (put-cons i (start row q) (map (start row) qs) l) ∙ sym (ap (λ z. put i (map (start row) z) l) (m .0)) ∙ g .list);
+          }
+
+      go : (o : Option Place) → reserve row (view row t) n ≡ o → ToGo (i + 1) b u (set l i k)
+      go (some q) r = next q r
+      go none r =
+          let z : false ≡ true = ap isSome (whole none r) ∙ g .fits in
+          let y : _≡_ {A = ℕ} 0 1 = cc in absurd (omega arith)
