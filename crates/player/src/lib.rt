@@ -1,5 +1,6 @@
 // What the records of a trace do over a lent pool, and the text of their lines (02 §2).
 ghost use mathlib.Core.Path.{_≡_};
+ghost use mathlib.Core.List.{[]};
 ghost use Prim.Native.Nat.{_+_, _*_, _≤_};
 ghost use lib.Dec.{leb};
 ghost use lib.ListN.{length};
@@ -95,8 +96,8 @@ fn put_fields(out: &mut [u8], at: usize, values: &[usize]) -> usize
 // Writes the line of an answer's number and values.
 fn put_answer(out: &mut [u8], at: usize, number: u32, values: &[usize]) -> usize
     requires { ⌜ at + (21 + 21 * length (now values)) ≤ length (now out) ⌝ }
-    ensures { λ r. ⌜ r ≡ at + length (lineText (Line.told (record { number = number; values = now (values .entry) }))) ⌝ }
-    ensures { λ r. ⌜ now (out .exit) ≡ put at (lineText (Line.told (record { number = number; values = now (values .entry) }))) (now (out .entry)) ⌝ }
+    ensures { λ r. ⌜ r ≡ at + length (lineText (Line.told (record { number = number; values = now (values .entry); lent = [] }))) ⌝ }
+    ensures { λ r. ⌜ now (out .exit) ≡ put at (lineText (Line.told (record { number = number; values = now (values .entry); lent = [] }))) (now (out .entry)) ⌝ }
     ensures small { λ r. ⌜ r ≤ at + (21 + 21 * length (now (values .entry))) ⌝ }
 {
     let told = text::put_decimal(out, at, number as u64);

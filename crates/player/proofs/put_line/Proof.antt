@@ -2,7 +2,8 @@
 use Rattle.mem.proofs.Prelude.{_∙_, _≡_, sym, ap, ap₂, subst, List, [], _∷_, ℕ, _+_, _≤_, arith, now, needs, length, getD}
 use Rattle.mem.specs.Bytes.{put}
 use Rattle.model.specs.declared.Reply.{Reply}
-use Rattle.model.specs.Answers.{Answer, replyAnswer}
+use Rattle.model.specs.declared.Report.{Report}
+use Rattle.model.specs.Answers.{Answer, replyAnswer, reportAnswer}
 use Rattle.trace.specs.Replay.{Line, lineOf}
 use Rattle.player.specs.declared.Told.{Told}
 use Rattle.player.specs.Printed.{lineText, answerOf, Short}
@@ -16,6 +17,11 @@ answer n vs = record { number = n; values = vs; lent = [] }
 of-reply : (r : Reply) (n v : ℕ) → n ≡ replyAnswer r .number → v ≡ getD (replyAnswer r .values) 0 0 → answer n (v ∷ []) ≡ replyAnswer r
 of-reply (Reply.Done x) n v e f = ap₂ (λ k w. answer k (w ∷ [])) e f
 of-reply (Reply.Refused x) n v e f = ap₂ (λ k w. answer k (w ∷ [])) e f
+
+-- and a report's is its number and its six
+of-report : (r : Report) (n : ℕ) (vs : List ℕ) → n ≡ reportAnswer r .number → vs ≡ reportAnswer r .values → answer n vs ≡ reportAnswer r
+of-report (Report.Counted t) n vs e f = ap₂ answer e f
+of-report (Report.Refused x) n vs e f = ap₂ answer e f
 
 -- what is promised of one line is promised of the same line
 abbrev Writes : ℕ → List ℕ → ℕ → List ℕ → Line → Type 0
@@ -38,7 +44,7 @@ returns-2 c =
     let a = start .args in
     let e = p .put-answer2 .ensures in
     let o = p .before .before .before .before .before .before .told2 .given in
-    let q = ap₂ answer (p .before .before .report-number .ensures) (p .before .before .before .before .report-values .ensures) in
+    let q = of-report (o .0 .0) _ _ (p .before .before .report-number .ensures) (p .before .before .before .before .report-values .ensures) in
     let b = subst Short (o .1) (start .pre .1) in
     subst (Writes (a .at) (now (a .out)) (p .put-answer2 .result) _) (ap Line.told q ∙ ap (λ (t : Told). lineOf (a .count) (answerOf t)) (sym (o .1)))
     (e .0, (e .1 .0, omega (arith, e .0, ap (λ (r : Answer). length (lineText (Line.told r))) q, b)))
