@@ -1,31 +1,36 @@
 -- The grants of a list, one after the other.
-use Rattle.mem.proofs.Prelude.{_∙_, _≡_, sym, ap, refl, subst, true, false, some, none, Option, List, [], _∷_, map, _+_, ℕ, _<_, _≤_, suc, add-one, arith}
-use Rattle.mem.proofs.Prelude.{length, drop, getD, set}
-use Rattle.mem.specs.Lists.{isSome}
+use Rattle.mem.proofs.Prelude.{_∙_, _≡_, sym, ap, refl, subst, true, false, some, none, Option, List, [], _∷_, _++_, map, _+_, ℕ, _<_, _≤_, suc, add-one, arith}
+use Rattle.mem.proofs.Prelude.{eqb, eqb-true, length, drop, getD, set}
+use Rattle.mem.specs.Lists.{choose, isSome}
 use Rattle.mem.specs.Bytes.{put}
+use Rattle.mem.proofs.Tests.{choose-case}
 use Rattle.mem.proofs.Laws.{put-nil, put-cons}
-use Rattle.classes.specs.Classes.{tooLarge}
-use Rattle.model.specs.State.{Place, poolOf, start}
+use Rattle.classes.specs.Classes.{classOf, tooLarge}
+use Rattle.model.specs.State.{Pool, Place, group, poolOf, start}
 use Rattle.model.specs.Blocks.{frame}
-use Rattle.model.specs.Plans.{reserve, enframe, placed, placedBy, reserveAll, poolAfter}
+use Rattle.model.specs.Plans.{openFrom, reserve, enframe, placed, placedBy, reserveAll, poolAfter}
 use Rattle.model.specs.Tables.{byMasks, encode, view}
 use Rattle.model.specs.Calls.{written}
 use Rattle.model.proofs.Tables.{masks-laws, view-encode}
 use Rattle.model.proofs.Reserve.{reserve-formed}
+use Rattle.model.proofs.Lowest.{pass-shut, grant-shut}
 use Rattle.model.proofs.Lists.{small, small-at, all-placed, next-placed}
 use Rattle.rows.specs.declared.Block.{Block}
 use Rattle.rows.specs.Rows.{Lent, blockOf, ownedAt, startAt}
 use Rattle.rows.proofs.Rooms.{facts}
+use Rattle.search.specs.Found.{Passed}
+use Rattle.search.proofs.Steps.{open-start}
 use Rattle.ops.specs.declared.Reserved.the-variants.{Taken}
 use Rattle.ops.specs.Blocks.{Standing, reservedAs, roomAfter}
 use Rattle.ops.proofs.Moves.{reserve-leaves, reserved-place}
-use Rattle.lists.specs.Grants.{granted, startOr, arenaAfter}
+use Rattle.lists.specs.Grants.{granted, startOr, firstOr, arenaAfter}
 
 -- one grant
 module _ {row len : ℕ} {t : List ℕ} (r : Lent byMasks row len t) (n : ℕ) (h : n < tooLarge) where
   pub record GrantedOne (a : List ℕ) (b : Block) : Type 0 where
     pub stands : Standing row len b
     pub start : startAt row b ≡ startOr row (reserve row (view row t) n)
+    pub first : b .first ≡ firstOr row (reserve row (view row t) n)
     pub arena : put (ownedAt row b) (frame (b .class) (b .slot) (b .alloc .disp) (b .alloc .size)) a ≡ arenaAfter row a (reserve row (view row t) n)
 
   pub granted-one : (a : List ℕ) (b : Block) → reservedAs row (reserve row (view row t) n) ≡ Taken b → GrantedOne a b
@@ -35,8 +40,14 @@ module _ {row len : ℕ} {t : List ℕ} (r : Lent byMasks row len t) (n : ℕ) (
       subst (GrantedOne a) k (record {
         stands = reserve-leaves r n h q f .stands;
         start = sym (ap (startOr row) f);
+        first = sym (ap (firstOr row) f);
         arena = sym (ap (arenaAfter row a) f);
       })
+
+-- where the search begins
+pub begins : {row : ℕ} {t : List ℕ} (c last from : ℕ) → Passed row t last from → Passed row t c (choose (eqb c last) from 0)
+begins {row} {t} c last from p =
+    choose-case (Passed row t c) (eqb c last) from 0 (λ e. subst (λ k. Passed row t k from) (sym (eqb-true c last e)) p) (λ e. open-start row t c)
 
 -- the places of a list that fits
 granted-next : (q : Place) (o w : Option (List Place)) → placed q o ≡ w → isSome w ≡ true → (granted w ≡ q ∷ granted o) × (isSome o ≡ true)
@@ -61,21 +72,29 @@ module _ (row : ℕ) (ns A U L : List ℕ) where
         sym (put-nil i l) ∙ sym (ap (λ o. put i (map (start row) (granted o)) l) e) ∙ g .list,
       )
 
-  -- one grant further
+  -- one grant further; the search for its class goes on where its group is
   pub one-further : small ns ≡ true → (i : ℕ) (a t l : List ℕ) → i < length ns → ToGo i a t l → (b u : List ℕ) (k : ℕ)
       → k ≡ startOr row (reserve row (view row t) (getD ns i 0)) → b ≡ arenaAfter row a (reserve row (view row t) (getD ns i 0))
-      → u ≡ roomAfter row t (reserve row (view row t) (getD ns i 0)) → length b ≡ length a → ToGo (i + 1) b u (set l i k)
-  one-further s i a t l h g b u k ek eb eu el = go (reserve row (view row t) n) refl
+      → u ≡ roomAfter row t (reserve row (view row t) (getD ns i 0)) → length b ≡ length a
+      → (f : ℕ) → f ≡ firstOr row (reserve row (view row t) (getD ns i 0)) → ToGo (i + 1) b u (set l i k) × Passed row u (classOf (getD ns i 0)) f
+  one-further s i a t l h g b u k ek eb eu el f ef = go (reserve row (view row t) n) refl
     where
       n : ℕ
       n = getD ns i 0
+
+      -- the group of a place, and what lies after it
+      behind : Place → Pool
+      behind q = group (q .cls) (q .lower ++ (q .state ∷ q .upper)) ∷ q .after
 
       whole : (o : Option Place) → reserve row (view row t) n ≡ o
           → placedBy o (λ q. reserveAll row (poolOf q) (drop (i + 1) ns)) ≡ reserveAll row (view row t) (drop i ns)
       whole o r =
           sym (next-placed row (view row t) ns i h ∙ ap (λ o. placedBy o (λ q. reserveAll row (poolOf q) (drop (i + 1) ns))) r)
 
-      next : (q : Place) → reserve row (view row t) n ≡ some q → ToGo (i + 1) b u (set l i k)
+      Further : Type 0
+      Further = ToGo (i + 1) b u (set l i k) × Passed row u (classOf n) f
+
+      next : (q : Place) → reserve row (view row t) n ≡ some q → Further
       next q r =
           let e : u ≡ encode row (poolOf q) = eu ∙ ap (roomAfter row t) r in
           let w = reserve-formed row (view row t) n q (facts (g .lent) .formed) (small-at ns i s h) r in
@@ -83,7 +102,7 @@ module _ (row : ℕ) (ns A U L : List ℕ) where
           let qs : List Place = granted (reserveAll row (poolOf q) (drop (i + 1) ns)) in
           let m : (granted (reserveAll row (view row t) (drop i ns)) ≡ q ∷ qs) × (isSome (reserveAll row (poolOf q) (drop (i + 1) ns)) ≡ true) =
           granted-next q (reserveAll row (poolOf q) (drop (i + 1) ns)) (reserveAll row (view row t) (drop i ns)) (whole (some q) r) (g .fits) in
-          record {
+          (record {
             lent = rw (e, el) (reserve-leaves (g .lent) n (small-at ns i s h) q r .room);
             fits = rw says (m .1);
             arena =
@@ -96,9 +115,17 @@ module _ (row : ℕ) (ns A U L : List ℕ) where
                 (ap (λ z. put z (map (start row) qs) (set l i k)) (add-one i)
                 ∙ ap (λ z. put (suc i) (map (start row) qs) (set l i z)) (ek ∙ ap (startOr row) r)
                 ∙ sym (put-cons i (start row q) (map (start row) qs) l) ∙ sym (ap (λ z. put i (map (start row) z) l) (m .0)) ∙ g .list);
-          }
+          },
+          record {
+            before = q .before;
+            after = behind q;
+            split = says;
+            count = sym (ef ∙ ap (firstOr row) r);
+            same = ap (openFrom [] (classOf n)) says
+                ∙ pass-shut (classOf n) [] (q .before) (behind q) (grant-shut row (view row t) n q (facts (g .lent) .formed) r);
+          })
 
-      go : (o : Option Place) → reserve row (view row t) n ≡ o → ToGo (i + 1) b u (set l i k)
+      go : (o : Option Place) → reserve row (view row t) n ≡ o → Further
       go (some q) r = next q r
       go none r =
           let z : false ≡ true = ap isSome (whole none r) ∙ g .fits in

@@ -2,7 +2,7 @@
 use Prim.Native.Nat.{ℕ}
 use mathlib.Core.Option.{Option, none, some}
 use mathlib.Core.List.{List, []}
-use Rattle.model.specs.State.{Place, start}
+use Rattle.model.specs.State.{Place, start, rows}
 use Rattle.model.specs.Plans.{enframe}
 use Rattle.model.specs.Calls.{write}
 
@@ -12,10 +12,14 @@ granted none = []
 granted (some qs) = qs
 
 module _ (row : ℕ) where
-  -- one grant: its start, and the arena after it
+  -- one grant: its start, its group's first row, and the arena after it
   abbrev pub startOr : Option Place → ℕ
   startOr none = 0
   startOr (some q) = start row q
+
+  abbrev pub firstOr : Option Place → ℕ
+  firstOr none = 0
+  firstOr (some q) = rows row (q .before)
 
   abbrev pub arenaAfter : List ℕ → Option Place → List ℕ
   arenaAfter a none = a

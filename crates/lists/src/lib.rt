@@ -3,38 +3,65 @@ ghost use mathlib.Core.Path.{_≡_};
 ghost use mathlib.Core.Bool.{true};
 ghost use mathlib.Core.List.{map};
 ghost use Prim.Native.Nat.{_≤_, _<_};
-ghost use lib.Dec.{ltb};
+ghost use lib.Dec.{eqb, ltb};
 ghost use lib.ListN.{length};
-ghost use Rattle.mem.specs.Lists.{every, isSome};
+ghost use Rattle.mem.specs.Lists.{choose, every, isSome};
 ghost use Rattle.mem.specs.Bytes.{put};
 ghost use Rattle.classes.specs.Classes.{Lawful, classOf, tooLarge};
 ghost use Rattle.model.specs.State.{start};
 ghost use Rattle.model.specs.Plans.{reserve, enframe, reserveAll, poolAfter};
 ghost use Rattle.model.specs.Tables.{sound, view, encode};
 ghost use Rattle.model.specs.Calls.{written};
+ghost use Rattle.search.specs.Found.{Passed};
 ghost use Rattle.ops.specs.Blocks.{roomAfter};
-ghost use Rattle.lists.specs.Grants.{granted, startOr, arenaAfter};
+ghost use Rattle.lists.specs.Grants.{granted, startOr, firstOr, arenaAfter};
 use classes::Sized;
 use ops::Reserved;
 
-// Grants a block: its start, or 0 where there is no room.
-fn grant_one(row: usize, arena: &mut [u8], room: &mut [u8], s: Sized) -> usize
+// Where a granted block is: its start, and the first row of its group.
+pub struct Placed {
+    pub start: usize,
+    pub first: usize,
+}
+
+// Grants a block; zeros where there is no room. No group of its class before row `from` serves.
+fn grant_one(row: usize, arena: &mut [u8], room: &mut [u8], s: Sized, from: usize) -> Placed
     requires { ⌜ sound row (length (now arena)) (now room) ≡ true ⌝ }
-    requires { ⌜ (s .size < tooLarge) × (s .class ≡ classOf (s .size)) × (s .class < 48) ⌝ }
+    requires { ⌜ (s .size < tooLarge) × (s .class ≡ classOf (s .size)) × (s .class < 48) × Passed row (now room) (s .class) from ⌝ }
     requires { ⌜ Lawful row ⌝ }
-    ensures { λ r. ⌜ r ≡ startOr row (reserve row (view row (now (room .entry))) (s .size)) ⌝ }
+    ensures { λ r. ⌜ (r .start ≡ startOr row (reserve row (view row (now (room .entry))) (s .size)))
+        × (r .first ≡ firstOr row (reserve row (view row (now (room .entry))) (s .size))) ⌝ }
     ensures { λ r. ⌜ now (arena .exit) ≡ arenaAfter row (now (arena .entry)) (reserve row (view row (now (room .entry))) (s .size)) ⌝ }
     ensures { λ r. ⌜ now (room .exit) ≡ roomAfter row (now (room .entry)) (reserve row (view row (now (room .entry))) (s .size)) ⌝ }
 {
-    let Reserved::Taken(b) = ops::reserve_in(row, arena.len(), room, s.class, s.size) else {
-        return 0;
+    let Reserved::Taken(b) = ops::reserve_in(row, arena.len(), room, s.class, s.size, from) else {
+        return Placed {
+            start: 0,
+            first: 0,
+        };
     };
-    ops::lay_out(row, arena, b);
-    ops::start_of(row, b)
+    let start = ops::lay_out(row, arena, b);
+    Placed {
+        start: start,
+        first: b.first,
+    }
+}
+
+// Where the search for a class begins: where the last one ended, if it was for the same class.
+fn begin(c: usize, last: usize, from: usize) -> usize
+    ensures { λ r. ⌜ r ≡ choose (eqb c last) from 0 ⌝ }
+{
+    if c == last { from } else { 0 }
 }
 
 // Grants sizes that fit, and writes the starts to the front of a list.
-pub fn grant_all(row: usize, arena: &mut [u8], room: &mut [u8], sizes: &[usize], starts: &mut [usize])
+pub fn grant_all(
+    row: usize,
+    arena: &mut [u8],
+    room: &mut [u8],
+    sizes: &[usize],
+    starts: &mut [usize],
+)
     requires { ⌜ sound row (length (now arena)) (now room) ≡ true ⌝ }
     requires { ⌜ (every (λ n. ltb n tooLarge) (now sizes) ≡ true) × (length (now sizes) ≤ length (now starts)) ⌝ }
     requires { ⌜ isSome (reserveAll row (view row (now room)) (now sizes)) ≡ true ⌝ }
@@ -50,10 +77,20 @@ pub fn grant_all(row: usize, arena: &mut [u8], room: &mut [u8], sizes: &[usize],
         size: 0,
         class: 0,
     };
+    let mut from = 0;
     let mut i = 0;
     while i < sizes.len() {
-        last = classes::with_class(sizes[i], last);
-        starts[i] = grant_one(row, arena, room, last);
+        let s = classes::with_class(sizes[i], last);
+        let p = grant_one(
+            row,
+            arena,
+            room,
+            s,
+            begin(s.class, last.class, from),
+        );
+        starts[i] = p.start;
+        from = p.first;
+        last = s;
         i += 1;
     }
 }

@@ -3,15 +3,15 @@ use Rattle.mem.proofs.Prelude.{_∙_, _≡_, sym, ap, refl, subst, true, Bool, 
 use Rattle.mem.proofs.Prelude.{List, [], _∷_, _++_, append-assoc, append-nil, _+_, ℕ, _<_, _≤_, suc, zero, arith, T, eqb, eqb-refl, length, drop}
 use Rattle.mem.proofs.Prelude.{replicate}
 use Rattle.mem.specs.Lists.{choose, every, any, first}
-use Rattle.mem.proofs.Tests.{T-true}
+use Rattle.mem.proofs.Tests.{T-true, and-left, and-right, and-both, every-left, choose-false}
 use Rattle.classes.specs.Classes.{classOf, slotsOf, rowsOf}
 use Rattle.classes.proofs.Laws.{rows-pos}
 use Rattle.model.specs.declared.Slot.{Slot}
 use Rattle.model.specs.declared.Slot.the-variants.{Fresh, Idle, Live}
-use Rattle.model.specs.State.{Span, Pool, Place, free, group, isLive, isReady, rowsIn, rows}
-use Rattle.model.specs.Plans.{Site, slotsIn, opens, openFrom, run, runFrom, siteOr, site, reserveIn, reserve, freshPool, AllLive, NoPlace}
+use Rattle.model.specs.State.{Span, Pool, Place, free, group, isLive, isReady, wellFormed, rowsIn, rows}
+use Rattle.model.specs.Plans.{Site, slotsIn, opens, openFrom, run, runFrom, siteOr, site, reserveIn, reserve, grantIn, freshPool, AllLive, NoPlace}
 use Rattle.model.proofs.Rooms.{rows-append}
-use Rattle.model.proofs.Reserve.{Open, open-found, New, run-found, site-found}
+use Rattle.model.proofs.Reserve.{Open, open-found, New, run-found, site-found, Served, served}
 
 all-live : (ss : List Slot) → any (λ x. not (isLive x)) ss ≡ false → T (every isLive ss)
 all-live [] e = tt
@@ -178,3 +178,68 @@ module _ (row : ℕ) where
       go : (o : Option Site) → site row P (classOf n) ≡ o → reserveIn (classOf n) n o ≡ some q → NoPlace row P (classOf n) → ⊥
       go none h e = let z : _≡_ {A = ℕ} 0 1 = cc in absurd (omega arith)
       go (some s) h e = site-some P (classOf n) s h
+
+-- ---- the search goes on where the last one ended
+
+-- spans none of which serves class c
+abbrev pub Shut : ℕ → Pool → Type 0
+Shut c R = T (every (λ s. not (opens c s)) R)
+
+module _ (c : ℕ) where
+  pub pass-shut : (X R Y : Pool) → Shut c R → openFrom X c (R ++ Y) ≡ openFrom (X ++ R) c Y
+  pass-shut X [] Y h = ap (λ Z. openFrom Z c Y) (sym (append-nil X))
+  pass-shut X (s ∷ R) Y h =
+      choose-false (opens c s) _ _ (shut (opens c s) (and-left (not (opens c s)) (every (λ s. not (opens c s)) R) h))
+      ∙ pass-shut (X ++ (s ∷ [])) R Y (and-right (not (opens c s)) (every (λ s. not (opens c s)) R) h)
+      ∙ ap (λ Z. openFrom Z c Y) (append-assoc X (s ∷ []) R)
+    where
+      shut : (b : Bool) → T (not b) → b ≡ false
+      shut true t = absurd t
+      shut false t = refl
+
+  none-shut : (X Y : Pool) → openFrom X c Y ≡ none → Shut c Y
+  unfolding choose
+  none-shut X [] e = tt
+  none-shut X (y ∷ Y) e = go (opens c y) refl e (λ e. none-shut (X ++ (y ∷ [])) Y e)
+    where
+      go : (b : Bool) → opens c y ≡ b → choose b (some (record { before = X; slots = slotsIn y; after = Y })) (openFrom (X ++ (y ∷ [])) c Y) ≡ none
+          → (openFrom (X ++ (y ∷ [])) c Y ≡ none → Shut c Y) → Shut c (y ∷ Y)
+      go true h e k = let z : _≡_ {A = ℕ} 0 1 = cc in absurd (omega arith)
+      go false h e k = and-both (not (opens c y)) (every (λ s. not (opens c s)) Y) (rw h tt) (k e)
+
+  some-shut : (X Y : Pool) (g : Site) → openFrom X c Y ≡ some g → (R : Pool) × (g .before ≡ X ++ R) × Shut c R
+  unfolding choose
+  some-shut X [] g e = let z : _≡_ {A = ℕ} 0 1 = cc in absurd (omega arith)
+  some-shut X (y ∷ Y) g e = go (opens c y) refl e (λ e. some-shut (X ++ (y ∷ [])) Y g e)
+    where
+      here : Site
+      here = record { before = X; slots = slotsIn y; after = Y }
+
+      go : (b : Bool) → opens c y ≡ b → choose b (some here) (openFrom (X ++ (y ∷ [])) c Y) ≡ some g
+          → (openFrom (X ++ (y ∷ [])) c Y ≡ some g → (R : Pool) × (g .before ≡ (X ++ (y ∷ [])) ++ R) × Shut c R)
+          → (R : Pool) × (g .before ≡ X ++ R) × Shut c R
+      go true h e k = let z : here ≡ g = cc in ([], sym (ap (λ s. s .before) z) ∙ sym (append-nil X), tt)
+      go false h e k =
+          let (R, f, t) = k e in
+          (y ∷ R, f ∙ append-assoc X (y ∷ []) R, and-both (not (opens c y)) (every (λ s. not (opens c s)) R) (rw h tt) t)
+
+module _ (row : ℕ) where
+  -- no group before that of a grant serves its class
+  site-shut : (P : Pool) (c : ℕ) (g : Site) → site row P c ≡ some g → Shut c (g .before)
+  unfolding site
+  site-shut P c g e = go (openFrom [] c P) refl e
+    where
+      go : (o : Option Site) → openFrom [] c P ≡ o → siteOr o (runFrom row [] c P) ≡ some g → Shut c (g .before)
+      go none f e =
+          let m : New row P c g = run-found row [] P c g e in
+          every-left (λ s. not (opens c s)) (g .before) (freshPool (rowsOf row c) ++ g .after) (subst (Shut c) (m .split) (none-shut c [] P f))
+      go (some h) f e =
+          let z : h ≡ g = cc in
+          let (R, k, t) = some-shut c [] P g (f ∙ ap some z) in
+          subst (Shut c) (sym k) t
+
+  pub grant-shut : (P : Pool) (n : ℕ) (q : Place) → T (wellFormed P) → reserve row P n ≡ some q → Shut (classOf n) (q .before)
+  unfolding grantIn
+  grant-shut P n q w e =
+      let v : Served row P n q = served row P n q w e in
+      subst (Shut (classOf n)) (sym (ap (λ p. p .before) (v .place))) (site-shut P (classOf n) (v .at) (v .found))

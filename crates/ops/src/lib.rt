@@ -11,6 +11,7 @@ ghost use Rattle.model.specs.Plans.{site, reserve, lookup, releaseAt, resizeInP
 ghost use Rattle.model.specs.Tables.{byMasks, sound, view, encode};
 ghost use Rattle.model.specs.Calls.{written};
 ghost use Rattle.rows.specs.Rows.{ownedAt, startAt, siteFound, Holds};
+ghost use Rattle.search.specs.Found.{Passed};
 ghost use Rattle.ops.specs.Blocks.{Standing, located, siteRoom, reservedAs, roomAfter, staysIn, CarriedOut};
 use changes::Left;
 use model::Damage;
@@ -69,31 +70,28 @@ fn inspect(row: usize, arena: &[u8], b: Block) -> Damage
     )
 }
 
-// Writes zero over a block's slot, then its header and guard (mallocng's enframe).
-pub fn lay_out(row: usize, arena: &mut [u8], b: Block)
+// Writes zero over a block's slot, then its header and guard (mallocng's enframe). Gives the block's start.
+pub fn lay_out(row: usize, arena: &mut [u8], b: Block) -> usize
     requires { ⌜ Standing row (length (now arena)) b ⌝ }
     requires { ⌜ Lawful row ⌝ }
+    ensures { λ r. ⌜ r ≡ startAt row b ⌝ }
     ensures { λ _. ⌜ now (arena .exit) ≡ put (ownedAt row b) (frame (b .class) (b .slot) (b .alloc .disp) (b .alloc .size)) (now (arena .entry)) ⌝ }
 {
-    blocks::enframe_at(
-        arena,
-        owned_of(row, b),
-        b.class,
-        b.slot,
-        b.alloc.disp,
-        b.alloc.size,
-    );
+    let at = owned_of(row, b);
+    blocks::enframe_at(arena, at, b.class, b.slot, b.alloc.disp, b.alloc.size);
+    at + 4 + 16 * b.alloc.disp
 }
 
-// The group in which a slot of class c is taken: the lowest with a slot that is not live, or a new one at the lowest run of free rows.
-fn site_for(row: usize, len: usize, room: &mut [u8], c: usize) -> Found
+// The group in which a slot of class c is taken: the lowest with a slot that is not live, or a new one at the lowest run of free rows. No
+// group before row `from` serves.
+fn site_for(row: usize, len: usize, room: &mut [u8], c: usize, from: usize) -> Found
     requires { ⌜ sound row len (now room) ≡ true ⌝ }
-    requires { ⌜ c < 48 ⌝ }
+    requires { ⌜ (c < 48) × Passed row (now room) c from ⌝ }
     requires { ⌜ Lawful row ⌝ }
     ensures { λ r. ⌜ r ≡ siteFound row (site row (view row (now (room .entry))) c) ⌝ }
     ensures { λ r. ⌜ now (room .exit) ≡ siteRoom row c (now (room .entry)) (site row (view row (now (room .entry))) c) ⌝ }
 {
-    if let Found::At(i) = search::find_open(row, len, room, c) {
+    if let Found::At(i) = search::find_open(row, len, room, c, from) {
         return Found::At(i);
     }
     let Found::At(i) = rows::find_run(row, len, room, c) else {
@@ -103,15 +101,22 @@ fn site_for(row: usize, len: usize, room: &mut [u8], c: usize) -> Found
     Found::At(i)
 }
 
-// Reserves a slot for n bytes, whose class is c.
-pub fn reserve_in(row: usize, len: usize, room: &mut [u8], c: usize, n: usize) -> Reserved
+// Reserves a slot for n bytes, whose class is c. No group of the class before row `from` serves.
+pub fn reserve_in(
+    row: usize,
+    len: usize,
+    room: &mut [u8],
+    c: usize,
+    n: usize,
+    from: usize,
+) -> Reserved
     requires { ⌜ sound row len (now room) ≡ true ⌝ }
-    requires { ⌜ (n < tooLarge) × (c ≡ classOf n) × (c < 48) ⌝ }
+    requires { ⌜ (n < tooLarge) × (c ≡ classOf n) × (c < 48) × Passed row (now room) c from ⌝ }
     requires { ⌜ Lawful row ⌝ }
     ensures { λ r. ⌜ r ≡ reservedAs row (reserve row (view row (now (room .entry))) n) ⌝ }
     ensures { λ r. ⌜ now (room .exit) ≡ roomAfter row (now (room .entry)) (reserve row (view row (now (room .entry))) n) ⌝ }
 {
-    let Found::At(i) = site_for(row, len, room, c) else {
+    let Found::At(i) = site_for(row, len, room, c, from) else {
         return Reserved::NoRoom;
     };
     Reserved::Taken(changes::take_slot(room, i, c, n))
@@ -125,7 +130,7 @@ pub fn reserve_slot(row: usize, len: usize, room: &mut [u8], n: usize) -> Reserv
     ensures { λ r. ⌜ r ≡ reservedAs row (reserve row (view row (now (room .entry))) n) ⌝ }
     ensures { λ r. ⌜ now (room .exit) ≡ roomAfter row (now (room .entry)) (reserve row (view row (now (room .entry))) n) ⌝ }
 {
-    reserve_in(row, len, room, classes::class_of(n), n)
+    reserve_in(row, len, room, classes::class_of(n), n, 0)
 }
 
 // The block at an offset, if it is live and undamaged.
@@ -207,8 +212,7 @@ fn resize_by_move(row: usize, arena: &mut [u8], room: &mut [u8], b: Block, n: us
     let Reserved::Taken(q) = reserve_slot(row, arena.len(), room, n) else {
         return Reply::Refused(Refusal::NoRoom);
     };
-    let start = start_of(row, q);
-    lay_out(row, arena, q);
+    let start = lay_out(row, arena, q);
     mem::copy_within(arena, start_of(row, b), start, lesser(b.alloc.size, n));
     discard(row, arena, room, b);
     Reply::Done(start)

@@ -80,8 +80,7 @@ pub fn grant(arena: &mut [u8], room: &mut [u8], n: usize) -> Reply
     let Reserved::Taken(b) = ops::reserve_slot(classes::ROW, len, room, n) else {
         return Reply::Refused(Refusal::NoRoom);
     };
-    ops::lay_out(classes::ROW, arena, b);
-    let start = ops::start_of(classes::ROW, b);
+    let start = ops::lay_out(classes::ROW, arena, b);
     Reply::Done(start)
 }
 

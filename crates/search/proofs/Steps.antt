@@ -18,7 +18,7 @@ use Rattle.rows.specs.Rows.{Lent, siteFound, rowsHeld, classHeld}
 use Rattle.rows.proofs.Rooms.{holderOf, held-class, held-rows, some-rows, span-sound, span-from, span-holder}
 use Rattle.records.specs.Records.{masksIn}
 use Rattle.records.proofs.Laws.{masks-read-span}
-use Rattle.search.specs.Found.{holderOpens, opensIn}
+use Rattle.search.specs.Found.{holderOpens, opensIn, Passed}
 
 -- a slot that is not live is ready or waiting
 not-live : (ss : List Slot) → (any isReady ss || any isWaiting ss) ≡ any (λ x. not (isLive x)) ss
@@ -36,22 +36,14 @@ mask-any f ss = ap not (mask-zero (map f ss)) ∙ twice (any (λ b. b) (map f ss
     twice false = refl
 
 module _ (row : ℕ) (t : List ℕ) (c : ℕ) where
-  -- the spans of the first i rows, none of which serves
-  pub record Passed (i : ℕ) : Type 0 where
-    pub before : Pool
-    pub after : Pool
-    pub split : view row t ≡ before ++ after
-    pub count : rows row before ≡ i
-    pub same : openFrom [] c (view row t) ≡ openFrom before c after
-
-  pub open-start : Passed 0
+  pub open-start : Passed row t c 0
   open-start = record { before = []; after = view row t; split = refl; count = refl; same = refl }
 
   -- what the span that begins at row i says
   pub record OpenStep (i : ℕ) : Type 0 where
     pub class : classHeld (viewHolder (drop (rowAt i) t)) < 48
     pub hit : opensIn c (drop (rowAt i) t) ≡ true → siteFound row (openFrom [] c (view row t)) ≡ At i
-    pub miss : opensIn c (drop (rowAt i) t) ≡ false → Passed (i + rowsHeld row (viewHolder (drop (rowAt i) t)))
+    pub miss : opensIn c (drop (rowAt i) t) ≡ false → Passed row t c (i + rowsHeld row (viewHolder (drop (rowAt i) t)))
 
 module _ {row n : ℕ} {t : List ℕ} (r : Lent byMasks row n t) (c : ℕ) where
   -- the first row of a span opens as the span does

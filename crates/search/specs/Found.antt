@@ -1,7 +1,8 @@
 -- What the searches make of a group's first row, and what they give of what the definitions find.
 use Prim.Native.Nat.{ℕ, _*_, _-_, _/_, _%_}
+use mathlib.Core.Path.{_≡_}
 use mathlib.Core.Bool.{Bool, false, _&&_, _||_, not}
-use mathlib.Core.List.{List}
+use mathlib.Core.List.{List, [], _++_}
 use mathlib.Core.Option.{Option, none, some}
 use lib.Dec.{ltb, leb, eqb}
 use Rattle.mem.specs.Lists.{choose}
@@ -11,8 +12,9 @@ use Rattle.model.specs.declared.Holder.{Holder}
 use Rattle.model.specs.declared.Holder.the-variants.{Free, First, Later}
 use Rattle.model.specs.declared.Slot.{Slot}
 use Rattle.model.specs.declared.Slot.the-variants.{Fresh, Idle, Live}
-use Rattle.model.specs.State.{Place, isLive, disp}
-use Rattle.model.specs.Tables.{viewHolder}
+use Rattle.model.specs.State.{Pool, Place, isLive, disp, rows}
+use Rattle.model.specs.Plans.{openFrom}
+use Rattle.model.specs.Tables.{view, viewHolder}
 use Rattle.rows.specs.Rows.{blockOf}
 use Rattle.records.specs.Records.{masksIn}
 use Rattle.search.specs.declared.Looked.{Looked}
@@ -26,6 +28,14 @@ holderOpens c m (Later k) = false
 
 unfoldable pub opensIn : ℕ → List ℕ → Bool
 opensIn c t = holderOpens c (masksIn t) (viewHolder t)
+
+-- the spans of the first i rows, none of which serves: the search goes on behind them
+pub record Passed (row : ℕ) (t : List ℕ) (c i : ℕ) : Type 0 where
+  pub before : Pool
+  pub after : Pool
+  pub split : view row t ≡ before ++ after
+  pub count : rows row before ≡ i
+  pub same : openFrom [] c (view row t) ≡ openFrom before c after
 
 -- a displacement of two bytes
 abbrev pub dispSmall : Slot → Bool

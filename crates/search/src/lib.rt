@@ -9,7 +9,7 @@ ghost use Rattle.model.specs.Tables.{rowAt, rowRecordBytes, sound, view};
 ghost use Rattle.model.specs.Plans.{openFrom, lookup};
 ghost use Rattle.rows.specs.Rows.{siteFound};
 ghost use Rattle.records.specs.Records.{slotsHere};
-ghost use Rattle.search.specs.Found.{opensIn, looked, slotLooked, groupLooked, dispSmall};
+ghost use Rattle.search.specs.Found.{opensIn, Passed, looked, slotLooked, groupLooked, dispSmall};
 use model::Holder;
 use model::Slot;
 use rows::Block;
@@ -41,15 +41,15 @@ fn opens_at(room: &[u8], i: usize, c: usize) -> bool
     m.waiting != 0
 }
 
-// The lowest group of a class with a slot that is not live.
-pub fn find_open(row: usize, len: usize, room: &[u8], c: usize) -> Found
+// The lowest group of a class with a slot that is not live, looked for from a row on before which there is none.
+pub fn find_open(row: usize, len: usize, room: &[u8], c: usize, from: usize) -> Found
     requires { ⌜ sound row len (now room) ≡ true ⌝ }
-    requires { ⌜ c < 48 ⌝ }
+    requires { ⌜ (c < 48) × Passed row (now room) c from ⌝ }
     requires { ⌜ Lawful row ⌝ }
     ensures { λ r. ⌜ r ≡ siteFound row (openFrom [] c (view row (now (room .entry)))) ⌝ }
 {
     let n = len / row;
-    let mut i = 0;
+    let mut i = from;
     while i < n {
         if opens_at(room, i, c) {
             return Found::At(i);

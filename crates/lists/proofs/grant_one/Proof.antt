@@ -1,11 +1,11 @@
 -- By what is reserved.
-use Rattle.mem.proofs.Prelude.{_∙_, sym, ap, arith, now, needs, length}
+use Rattle.mem.proofs.Prelude.{_∙_, sym, ap, now, needs, length}
 use Rattle.model.specs.Plans.{reserve}
 use Rattle.model.specs.Tables.{byMasks, view}
 use Rattle.rows.specs.Rows.{Lent}
 use Rattle.rows.proofs.Rooms.{by-masks}
 use Rattle.ops.proofs.Moves.{reserved-none}
-use Rattle.lists.specs.Grants.{startOr, arenaAfter}
+use Rattle.lists.specs.Grants.{startOr, firstOr, arenaAfter}
 use Rattle.lists.proofs.Grants.{GrantedOne, granted-one}
 use Rattle.lists.proofs.grant_one.Statement.{statement}
 use Rattle.lists.proofs.grant_one.Tie as tie
@@ -19,7 +19,7 @@ returns c =
     let a = d .before .before .before .before .args in
     let r = reserved-none (a .row) (reserve (a .row) (view (a .row) (now (a .room))) (a .s .size))
     (sym (d .reserve-in .ensures .0) ∙ c .enum-told .given .1) in
-    (sym (ap (startOr (a .row)) r), (sym (ap (arenaAfter (a .row) (now (a .arena))) r), d .reserve-in .ensures .1))
+    ((sym (ap (startOr (a .row)) r), sym (ap (firstOr (a .row)) r)), (sym (ap (arenaAfter (a .row) (now (a .arena))) r), d .reserve-in .ensures .1))
 
 -- the block that is granted
 block : (c : tie.After-known-told) → (let s = c .before .before .before .before .before .before .before .before .before in
@@ -34,21 +34,15 @@ lay-out-requires : tie.Need-lay-out-requires
 lay-out-requires c κs =
     let s = c .before .before .before .before .before .before .before .before .before .before in (block (c .before) .stands, s .pre .1 .1)
 
-start-of-requires : tie.Need-start-of-requires
-start-of-requires c κs =
-    let k = c .before .before .before .before in
-    let s = k .before .before .before .before .before .before .before .before .before in
-    let h = block k .stands in
-    ((h .class, h .slot, omega (arith, h .few)), (omega (arith, h .bytes), s .pre .1 .1))
-
 returns-2 : tie.Need-returns-2
 returns-2 c =
-    let k = c .before .before .before .before .before in
+    let k = c .before .before .before .before in
     let g = block k in
     let d = k .before .before .before .before .before in
-    (c .start-of .ensures ∙ g .start, (c .before .before .before .lay-out .ensures ∙ g .arena, d .reserve-in .ensures .1))
+    let l = c .before .before .lay-out .ensures in
+    ((l .0 ∙ g .start, g .first), (l .1 ∙ g .arena, d .reserve-in .ensures .1))
 
 pub grant-one-spec : {M : Type 1} → statement M
 grant-one-spec =
-    tie.close (tie.spec (λ c κs. search needs) (λ c. search needs) (λ c. search needs) (λ c. search needs) returns lay-out-requires start-of-requires
+    tie.close (tie.spec (λ c κs. search needs) (λ c. search needs) (λ c. search needs) (λ c. search needs) returns lay-out-requires
     (λ c. search needs) (λ c. search needs) returns-2)

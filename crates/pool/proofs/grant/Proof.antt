@@ -1,5 +1,5 @@
 -- By what is reserved.
-use Rattle.mem.proofs.Prelude.{_∙_, sym, ap, [], _∷_, _<_, arith, now, needs, not-false, not-true, lit≤, length}
+use Rattle.mem.proofs.Prelude.{_∙_, sym, ap, [], _∷_, _<_, now, needs, not-false, not-true, lit≤, length}
 use Rattle.classes.specs.Classes.{rowBytes, tooLarge}
 use Rattle.model.specs.Answers.{done}
 use Rattle.model.specs.Plans.{grants}
@@ -63,22 +63,17 @@ lay-out-requires : tie.Need-lay-out-requires
 unfolding rowBytes tooLarge
 lay-out-requires c κs = (block (c .before) .stands, (lit≤ tt, lit≤ tt))
 
-start-of-requires : tie.Need-start-of-requires
-unfolding rowBytes tooLarge
-start-of-requires c κs =
-    let h = block (c .before .before .before .before) .stands in
-    ((h .class, h .slot, omega (arith, h .few)), (omega (arith, h .bytes), (lit≤ tt, lit≤ tt)))
-
 returns-4 : tie.Need-returns-4
 unfolding rowBytes tooLarge
 returns-4 c =
-    let k = c .before .before .before .before .before in
+    let k = c .before .before .before .before in
+    let x = c .before .before .lay-out in
     let p = parts (sym (block k .result)) in (
-      ap (λ k. done (k ∷ [])) (c .start-of .ensures) ∙ p .0,
-      (c .before .before .before .lay-out .ensures ∙ p .1 .0, k .before .before .before .before .before .reserve-slot .ensures .1 ∙ p .1 .1),
+      ap (λ k. done (k ∷ [])) (x .ensures .0) ∙ p .0,
+      (x .ensures .1 ∙ p .1 .0, k .before .before .before .before .before .reserve-slot .ensures .1 ∙ p .1 .1),
     )
 
 pub grant-spec : {M : Type 1} → statement M
 grant-spec =
     tie.close (tie.spec (λ c κs. search needs) (λ c. search needs) returns (λ c. search needs) returns-2 reserve-slot-requires (λ c. search needs)
-    (λ c. search needs) (λ c. search needs) returns-3 lay-out-requires start-of-requires (λ c. search needs) (λ c. search needs) returns-4)
+    (λ c. search needs) (λ c. search needs) returns-3 lay-out-requires (λ c. search needs) (λ c. search needs) returns-4)

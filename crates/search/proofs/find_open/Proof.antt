@@ -3,18 +3,19 @@ use Rattle.mem.proofs.Prelude.{_∙_, sym, _+_, _<_, _≤_, _-_, arith, now, ne
 use Rattle.model.specs.Tables.{rowAt, byMasks, rowRecordBytes}
 use Rattle.rows.specs.Rows.{Lent}
 use Rattle.rows.proofs.Rooms.{by-masks, row-inside, row-below, row-past}
-use Rattle.search.proofs.Steps.{Passed, open-start, OpenStep, open-step, open-end}
+use Rattle.search.specs.Found.{Passed}
+use Rattle.search.proofs.Steps.{OpenStep, open-step, open-end}
 use Rattle.search.proofs.find_open.Statement.{statement}
 use Rattle.search.proofs.find_open.Tie as tie
 
 abbrev Inv-loop : tie.InvT-loop
-Inv-loop row len room c n i₀ i = Passed row room c i
+Inv-loop row len room c from n i₀ i = Passed row room c i
 
 abbrev μ-loop : tie.MeasureT-loop
-μ-loop row len room c n i₀ i = n - i
+μ-loop row len room c from n i₀ i = n - i
 
 loop-holds : tie.Need-loop-holds Inv-loop μ-loop
-loop-holds c = open-start (c .before .args .row) (now (c .before .args .room)) (c .before .args .c)
+loop-holds c = c .before .pre .1 .0 .1
 
 room : (s : tie.Start Inv-loop μ-loop) → Lent byMasks (s .args .row) (s .args .len) (now (s .args .room))
 room s = by-masks (s .pre .0) (s .pre .1 .1)
