@@ -1,5 +1,5 @@
 -- What a list of grants does to the arena: it leaves the requested bytes of live blocks, and those of its own blocks are zero when it ends.
-use Rattle.mem.proofs.Prelude.{_∙_, _≡_, sym, ap, subst, ⊎-elim, inl, inr, some, List, [], _∷_, _++_, append-assoc, map, _+_, ℕ, _<_, _≤_, _*_, refl, arith, T}
+use Rattle.mem.proofs.Prelude.{_∙_, _≡_, sym, ap, subst, ⊎-elim, inl, inr, some, List, _∷_, _++_, append-assoc, map, _+_, ℕ, _<_, _≤_, _*_, refl, arith, T}
 use Rattle.mem.proofs.Prelude.{length, getD, length-append}
 use Rattle.mem.specs.Bytes.{zeros, put}
 use Rattle.mem.proofs.Laws.{zeros-length, zeros-put, put-before, put-past}

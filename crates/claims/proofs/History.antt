@@ -1,7 +1,7 @@
 -- The history of report: what the tables count to is what the calls since the last set up come to.
 use Rattle.mem.proofs.Prelude.{_∙_, _≡_, sym, ap, refl, ap₂, subst, true, Bool, false, _&&_, not, true≢false, some, List, [], _∷_, _++_, append-assoc, map, _+_}
 use Rattle.mem.proofs.Prelude.{ℕ, _<_, _≤_, _*_, suc, _/_, zero, add-zero, zero-add, add-assoc, mul-div-cancel-left, arith, eqb-false, eqb-true, T, eqb, eqb→eq}
-use Rattle.mem.proofs.Prelude.{eqb-refl, length, getD, length-append, replicate}
+use Rattle.mem.proofs.Prelude.{eqb-refl, length, length-append, replicate}
 use Rattle.mem.specs.Lists.{choose, any, sum}
 use Rattle.mem.specs.Bytes.{bit}
 use Rattle.mem.proofs.Tests.{T-true, true-T, choose-true, choose-case, and-right, eq→eqb}

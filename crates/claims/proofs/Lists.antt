@@ -1,7 +1,7 @@
 -- Gather lists: the planner's proposals are accepted, and a list is its grants, all of them or none.
-use Rattle.mem.proofs.Prelude.{_∙_, _≡_, sym, ap, refl, subst, true, Bool, false, _&&_, _||_, some, none, Option, List, [], _∷_, map, ℕ, _<_, arith, T, eqb, leb}
-use Rattle.mem.proofs.Prelude.{_≤_, _*_}
-use Rattle.mem.proofs.Prelude.{lt-leb, le→leb, length, length-map}
+use Rattle.mem.proofs.Prelude.{_∙_, _≡_, sym, ap, refl, subst, true, Bool, false, _&&_, _||_, some, none, Option, List, [], _∷_, map, ℕ, _<_, _≤_, _*_}
+use Rattle.mem.proofs.Prelude.{arith, T, eqb, leb}
+use Rattle.mem.proofs.Prelude.{lt-leb, le→leb, length}
 use mathlib.Core.Logic.{_↔_}
 use Rattle.mem.specs.Lists.{any}
 use Rattle.mem.proofs.Tests.{T-true, true-T, and-both, choose-true, choose-false, choose-case}
@@ -20,7 +20,7 @@ use Rattle.model.proofs.Reserve.{Granted, reserve-formed}
 use Rattle.model.proofs.Calls.{call-sound, carried-whole}
 use Rattle.model.proofs.Lists.{small, small-first, small-rest, accepts-small, places-counted, on-list}
 use Rattle.model.proofs.Proposals.{planned-accepted, accepts-plannable, planned-fewest}
-use Rattle.claims.specs.Lists.{PlansAccepted, PlansAsSaid, granting, AsGrants, ListsAsGrants, ListsExactly}
+use Rattle.claims.specs.Lists.{PlansAsSaid, granting, AsGrants, ListsAsGrants, ListsExactly}
 use Rattle.claims.proofs.Cases.{refuses}
 use Rattle.claims.proofs.Demand2.{Accepted, accepted}
 
@@ -33,7 +33,7 @@ plans-as-said total cap = record {
   accepted = λ t. subst (λ (r : Answer). T (accepts total cap (r .lent))) (sym (can t)) (planned-accepted total cap t);
   too-long = λ n. let e = cannot (plannable total cap) refl n in (ap (λ (r : Answer). r .number) e, ap (λ (r : Answer). r .lent) e);
   counted = choose-case (λ (r : Answer). r .values ≡ length (r .lent) ∷ []) (plannable total cap) (listDone (fullCaps entries total cap))
-        (refusal TooLong) (λ _. refl) (λ _. refl);
+      (refusal TooLong) (λ _. refl) (λ _. refl);
   fewest = λ ns t. subst (λ (r : Answer). length (r .lent) ≤ length ns) (sym (can (accepts-plannable total cap ns t))) (planned-fewest total cap ns t);
   only-plannable = λ ns t. accepts-plannable total cap ns t;
 }
@@ -149,7 +149,8 @@ module _ (row : ℕ) where
         whole o e =
             call-sound row a t (T-true (sound row (length a) t) s) (grantsList total cap places ns) tt
             ∙ ap (carried row a t)
-            (choose-true (plannable total cap && leb entries places) _ _ (T-true _ (and-both (plannable total cap) (leb entries places) p (le→leb entries places l)))
+            (choose-true (plannable total cap && leb entries places) _ _
+            (T-true _ (and-both (plannable total cap) (leb entries places) p (le→leb entries places l)))
             ∙ choose-true (accepts total cap ns) _ _ (T-true (accepts total cap ns) k) ∙ ap (grantAllAt row P) e)
 
         by-places : (o : Option (List Place)) → reserveAll row P ns ≡ o

@@ -1,5 +1,5 @@
 -- Where a list call's reasons are due: the list is too long, or a size finds no place once those before it are granted.
-use Rattle.mem.proofs.Prelude.{_∙_, _≡_, sym, ap, refl, subst, true, false, Bool, _&&_, some, none, Option, List, [], _∷_, _++_, ℕ, _<_, _≤_, _*_, arith}
+use Rattle.mem.proofs.Prelude.{_∙_, _≡_, sym, ap, refl, subst, true, false, Bool, _&&_, some, none, Option, List, [], _∷_, _++_, ℕ, _<_, _*_, arith}
 use Rattle.mem.proofs.Prelude.{T, leb, ltb, leb→le, leb-false, ltb→lt}
 use borrow.Author.Tests.{ltb-false}
 use Rattle.mem.proofs.Tests.{and-left, and-right, true-T}

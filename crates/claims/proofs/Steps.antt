@@ -1,6 +1,6 @@
 -- Every call keeps tables and arena in agreement, finds no damage, and leaves zeros where a block gains bytes.
-use Rattle.mem.proofs.Prelude.{_∙_, _≡_, sym, ap, refl, subst, some, List, [], _∷_, _++_, append-assoc, map, _+_, ℕ, _<_, _≤_, _*_, _-_, suc, zero, min, arith}
-use Rattle.mem.proofs.Prelude.{T, leb, leb→le, length, drop, getD, length-append, replicate}
+use Rattle.mem.proofs.Prelude.{_∙_, _≡_, sym, ap, refl, subst, some, List, [], _∷_, _++_, map, _+_, ℕ, _<_, _≤_, _*_, _-_, suc, zero, min, arith}
+use Rattle.mem.proofs.Prelude.{T, leb, leb→le, length, drop, getD, replicate}
 use native.Mathlib.Nat.{zero-mul}
 use lib.ListN.{length-take}
 use Rattle.mem.specs.Lists.{choose, every, any}
@@ -14,16 +14,15 @@ use Rattle.model.specs.declared.Slot.the-variants.{Fresh, Idle, Live}
 use Rattle.model.specs.declared.Refusal.{Refusal}
 use Rattle.model.specs.declared.Damage.the-variants.{Intact}
 use Rattle.model.specs.State.{Pool, Place, group, isLive, disp, size, slotSound, wellFormed, poolOf, become, slotNumber, rows, base, start, owned}
-use Rattle.model.specs.Blocks.{reserved, header, spare, frame}
+use Rattle.model.specs.Blocks.{reserved, header, spare}
 use Rattle.model.specs.Plans.{Plan, refused, turnReady, refill, grantIn, reserve, enframe, vacant, releaseAt, release, inPlace, resizeInPlace, moveTo}
 use Rattle.model.specs.Plans.{measureAt, measure, report, freshPool, Call, setsUp, grants, releases, resizes, measures, reports, grantsList, plan, lookup}
-use Rattle.model.specs.Plans.{reserveAll, poolAfter, grantAllAt}
+use Rattle.model.specs.Plans.{reserveAll, poolAfter}
 use Rattle.model.proofs.Lists.{small, by-grants, on-list}
 use Rattle.model.specs.Calls.{write, written, damaged}
 use Rattle.model.proofs.Lookup.{Fits, fits, disp-inside}
 use Rattle.model.proofs.Reserve.{Served, served, reserve-formed, refill-sound, reserve-size}
 use Rattle.model.proofs.Formed.{become-fits, vacant-sound}
-use Rattle.model.proofs.Blocks.{header-length}
 use Rattle.claims.specs.Demand3.{sizeAt, Cleared}
 use Rattle.claims.proofs.Cases.{release-parts, Named, on-named, on-grant, on-resize, reserve-live, taken-same, refuses}
 use Rattle.claims.proofs.Gathers.{framed, list-clears}

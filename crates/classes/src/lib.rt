@@ -142,8 +142,5 @@ pub fn with_class(n: usize, known: Sized) -> Sized
         return known;
     }
     let c = class_of(n);
-    Sized {
-        size: n,
-        class: c,
-    }
+    Sized { size: n, class: c }
 }

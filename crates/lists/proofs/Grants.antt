@@ -16,7 +16,7 @@ use Rattle.model.proofs.Reserve.{reserve-formed}
 use Rattle.model.proofs.Lowest.{pass-shut, grant-shut}
 use Rattle.model.proofs.Lists.{small, small-at, all-placed, next-placed}
 use Rattle.rows.specs.declared.Block.{Block}
-use Rattle.rows.specs.Rows.{Lent, blockOf, ownedAt, startAt}
+use Rattle.rows.specs.Rows.{Lent, ownedAt, startAt}
 use Rattle.rows.proofs.Rooms.{facts}
 use Rattle.search.specs.Found.{Passed}
 use Rattle.search.proofs.Steps.{open-start}
@@ -101,29 +101,30 @@ module _ (row : ℕ) (ns A U L : List ℕ) where
           let says : view row u ≡ poolOf q = ap (view row) e ∙ view-encode masks-laws row (g .lent .pos) (poolOf q) (w .formed) in
           let qs : List Place = granted (reserveAll row (poolOf q) (drop (i + 1) ns)) in
           let m : (granted (reserveAll row (view row t) (drop i ns)) ≡ q ∷ qs) × (isSome (reserveAll row (poolOf q) (drop (i + 1) ns)) ≡ true) =
-          granted-next q (reserveAll row (poolOf q) (drop (i + 1) ns)) (reserveAll row (view row t) (drop i ns)) (whole (some q) r) (g .fits) in
-          (record {
-            lent = rw (e, el) (reserve-leaves (g .lent) n (small-at ns i s h) q r .room);
-            fits = rw says (m .1);
-            arena =
-                rw says
-                (ap (λ z. written z (map (enframe row) qs)) (eb ∙ ap (arenaAfter row a) r)
-                ∙ sym (ap (λ z. written a (map (enframe row) z)) (m .0)) ∙ g .arena);
-            room = rw says (sym (ap (λ z. encode row (poolAfter (view row t) z)) (m .0)) ∙ g .room);
-            list =
-                rw says
-                (ap (λ z. put z (map (start row) qs) (set l i k)) (add-one i)
-                ∙ ap (λ z. put (suc i) (map (start row) qs) (set l i z)) (ek ∙ ap (startOr row) r)
-                ∙ sym (put-cons i (start row q) (map (start row) qs) l) ∙ sym (ap (λ z. put i (map (start row) z) l) (m .0)) ∙ g .list);
-          },
-          record {
-            before = q .before;
-            after = behind q;
-            split = says;
-            count = sym (ef ∙ ap (firstOr row) r);
-            same = ap (openFrom [] (classOf n)) says
-                ∙ pass-shut (classOf n) [] (q .before) (behind q) (grant-shut row (view row t) n q (facts (g .lent) .formed) r);
-          })
+          granted-next q (reserveAll row (poolOf q) (drop (i + 1) ns)) (reserveAll row (view row t) (drop i ns)) (whole (some q) r) (g .fits) in (
+            record {
+              lent = rw (e, el) (reserve-leaves (g .lent) n (small-at ns i s h) q r .room);
+              fits = rw says (m .1);
+              arena =
+                  rw says
+                  (ap (λ z. written z (map (enframe row) qs)) (eb ∙ ap (arenaAfter row a) r)
+                  ∙ sym (ap (λ z. written a (map (enframe row) z)) (m .0)) ∙ g .arena);
+              room = rw says (sym (ap (λ z. encode row (poolAfter (view row t) z)) (m .0)) ∙ g .room);
+              list =
+                  rw says
+                  (ap (λ z. put z (map (start row) qs) (set l i k)) (add-one i)
+                  ∙ ap (λ z. put (suc i) (map (start row) qs) (set l i z)) (ek ∙ ap (startOr row) r)
+                  ∙ sym (put-cons i (start row q) (map (start row) qs) l) ∙ sym (ap (λ z. put i (map (start row) z) l) (m .0)) ∙ g .list);
+            },
+            record {
+              before = q .before;
+              after = behind q;
+              split = says;
+              count = sym (ef ∙ ap (firstOr row) r);
+              same = ap (openFrom [] (classOf n)) says
+                  ∙ pass-shut (classOf n) [] (q .before) (behind q) (grant-shut row (view row t) n q (facts (g .lent) .formed) r);
+            },
+          )
 
       go : (o : Option Place) → reserve row (view row t) n ≡ o → Further
       go (some q) r = next q r

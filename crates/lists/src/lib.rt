@@ -35,10 +35,7 @@ fn grant_one(row: usize, arena: &mut [u8], room: &mut [u8], s: Sized, from: usiz
     ensures { λ r. ⌜ now (room .exit) ≡ roomAfter row (now (room .entry)) (reserve row (view row (now (room .entry))) (s .size)) ⌝ }
 {
     let Reserved::Taken(b) = ops::reserve_in(row, arena.len(), room, s.class, s.size, from) else {
-        return Placed {
-            start: 0,
-            first: 0,
-        };
+        return Placed { start: 0, first: 0 };
     };
     let start = ops::lay_out(row, arena, b);
     Placed {
@@ -73,21 +70,12 @@ pub fn grant_all(
     ensures { λ _. ⌜ now (starts .exit)
         ≡ put 0 (map (start row) (granted (reserveAll row (view row (now (room .entry))) (now (sizes .entry))))) (now (starts .entry)) ⌝ }
 {
-    let mut last = Sized {
-        size: 0,
-        class: 0,
-    };
+    let mut last = Sized { size: 0, class: 0 };
     let mut from = 0;
     let mut i = 0;
     while i < sizes.len() {
         let s = classes::with_class(sizes[i], last);
-        let p = grant_one(
-            row,
-            arena,
-            room,
-            s,
-            begin(s.class, last.class, from),
-        );
+        let p = grant_one(row, arena, room, s, begin(s.class, last.class, from));
         starts[i] = p.start;
         from = p.first;
         last = s;

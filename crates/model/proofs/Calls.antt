@@ -6,7 +6,8 @@ use Rattle.model.specs.declared.Damage.{Damage}
 use Rattle.model.specs.declared.Damage.the-variants.{Intact, Damaged}
 use Rattle.model.specs.State.{Pool, Place, isLive}
 use Rattle.model.specs.Answers.{refusal}
-use Rattle.model.specs.Plans.{Plan, Call, setsUp, grants, releases, resizes, measures, reports, grantsList, plan, onBlock, lookup, measureAt, measure, report}
+use Rattle.model.specs.Plans.{Plan, Call, setsUp, grants, releases, resizes, measures, reports, grantsList, plan, onBlock, lookup, measureAt}
+use Rattle.model.specs.Plans.{measure, report}
 use Rattle.model.specs.Tables.{byMasks, encode, view, sound}
 use Rattle.model.specs.Calls.{Result, masked, call, checked, carried, applied, damaged, keeps, unsound, callBy, carriedBy, checkedBy, unless, written}
 use Rattle.model.proofs.Tables.{sound-facts}

@@ -1,5 +1,5 @@
 -- A list that is granted is its grants, one after the other; the sizes of an accepted one are small.
-use Rattle.mem.proofs.Prelude.{_∙_, _≡_, ap, refl, subst, Bool, _&&_, some, none, Option, List, [], _∷_, map, ℕ, _<_, arith, T, eqb, leb, ltb, leb→le, ltb→lt}
+use Rattle.mem.proofs.Prelude.{_≡_, ap, refl, subst, Bool, _&&_, some, none, Option, List, [], _∷_, map, ℕ, _<_, arith, T, eqb, leb, ltb, leb→le, ltb→lt}
 use Rattle.mem.proofs.Prelude.{_+_, _≤_, suc, true, add-one, lt→ltb, length, getD, drop, drop-cons}
 use lib.ListN.{drop-of-length-le}
 use Rattle.mem.specs.Lists.{isSome, every, sum}

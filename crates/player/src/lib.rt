@@ -97,7 +97,8 @@ fn put_fields(out: &mut [u8], at: usize, values: &[usize]) -> usize
 fn put_answer(out: &mut [u8], at: usize, number: u32, values: &[usize]) -> usize
     requires { ⌜ at + (21 + 21 * length (now values)) ≤ length (now out) ⌝ }
     ensures { λ r. ⌜ r ≡ at + length (lineText (Line.told (record { number = number; values = now (values .entry); lent = [] }))) ⌝ }
-    ensures { λ r. ⌜ now (out .exit) ≡ put at (lineText (Line.told (record { number = number; values = now (values .entry); lent = [] }))) (now (out .entry)) ⌝ }
+    ensures { λ r. ⌜ now (out .exit)
+        ≡ put at (lineText (Line.told (record { number = number; values = now (values .entry); lent = [] }))) (now (out .entry)) ⌝ }
     ensures small { λ r. ⌜ r ≤ at + (21 + 21 * length (now (values .entry))) ⌝ }
 {
     let told = text::put_decimal(out, at, number as u64);

@@ -1,15 +1,15 @@
 -- The list call by the tests of the code, in their order; and the planner.
-use Rattle.mem.proofs.Prelude.{_∙_, _≡_, sym, ap, refl, subst, true, Bool, false, _&&_, some, none, Option, List, [], _∷_, map, _+_, ℕ, _≤_, arith, T, leb, length, take}
+use Rattle.mem.proofs.Prelude.{_∙_, _≡_, sym, ap, refl, true, false, _&&_, some, none, Option, List, [], _∷_, map, ℕ, arith, leb, length}
 use Rattle.mem.specs.Lists.{choose, isSome}
 use Rattle.mem.specs.Bytes.{put}
 use Rattle.mem.proofs.Tests.{choose-true, choose-false, T-true, true-T}
 use Rattle.mem.proofs.Laws.{put-nil}
 use Rattle.model.specs.declared.Refusal.{Refusal}
 use Rattle.model.specs.declared.Refusal.the-variants.{NoRoom, TooLong, BadProposal}
-use Rattle.model.specs.State.{Pool, Place, start}
+use Rattle.model.specs.State.{Place, start}
 use Rattle.model.specs.Answers.{Answer, numberOf, listDone, refusal}
 use Rattle.model.specs.Proposals.{entries, accepts, plannable, fullCaps, planned}
-use Rattle.model.specs.Plans.{Call, grantsList, plan, refused, reserveAll, poolAfter, enframe, grantAllAt, grantList}
+use Rattle.model.specs.Plans.{grantsList, plan, refused, reserveAll, poolAfter, enframe, grantAllAt, grantList}
 use Rattle.model.specs.Tables.{byMasks, view, encode}
 use Rattle.model.specs.Calls.{Result, masked, applied, call, carried, keeps, written}
 use Rattle.model.proofs.Calls.{call-sound, carried-whole}
@@ -78,7 +78,8 @@ module _ {row : ℕ} {t : List ℕ} (a : List ℕ) (r : Lent byMasks row (length
   too-long e = asks ∙ ap (carried row a t) (choose-false (plannable total cap && leb entries places) _ (refused TooLong (view row t)) e) ∙ kept a r TooLong
 
   module _ (h : (plannable total cap && leb entries places) ≡ true) where
-    short : asked ≡ carried row a t (choose (accepts total cap ns) (grantAllAt row (view row t) (reserveAll row (view row t) ns)) (refused BadProposal (view row t)))
+    short : asked
+        ≡ carried row a t (choose (accepts total cap ns) (grantAllAt row (view row t) (reserveAll row (view row t) ns)) (refused BadProposal (view row t)))
     unfolding grantList
     short = asks ∙ ap (carried row a t) (choose-true (plannable total cap && leb entries places) _ (refused TooLong (view row t)) h)
 

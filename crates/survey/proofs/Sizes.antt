@@ -1,12 +1,10 @@
 -- One size of a list, and the sizes after it.
-use Rattle.mem.proofs.Prelude.{_∙_, _≡_, sym, ap, refl, Bool, true, false, not, not-true, not-false, some, none, Option, List, [], _+_, ℕ, _<_, _≤_, add-one}
-use Rattle.mem.proofs.Prelude.{arith, ltb, ltb→lt, length, drop, getD, drop-cons}
-use lib.ListN.{drop-of-length-le}
+use Rattle.mem.proofs.Prelude.{_∙_, _≡_, sym, ap, refl, Bool, true, false, not, not-true, not-false, some, none, Option, List, _+_, ℕ, _<_, _≤_}
+use Rattle.mem.proofs.Prelude.{arith, ltb, length, drop, getD}
 use Rattle.mem.specs.Lists.{choose, every, isSome}
-use Rattle.mem.proofs.Tests.{true-T, every-in}
 use Rattle.classes.specs.Classes.{classOf, tooLarge}
 use Rattle.model.specs.State.{Pool, Place, poolOf}
-use Rattle.model.specs.Plans.{reserve, placed, placedBy, reserveAll}
+use Rattle.model.specs.Plans.{reserve, placedBy, reserveAll}
 use Rattle.model.proofs.Lists.{small-at, some-placed, all-placed, next-placed}
 use Rattle.survey.specs.Survey.{Tells, Serves}
 

@@ -117,5 +117,5 @@ returns c =
 
 pub grant-all-spec : {M : Type 1} → statement M
 grant-all-spec =
-    tie.close (tie.spec Inv-loop μ-loop loop-holds mul-with-class (λ c. search needs) with-class-requires (λ c κs. search needs) grant-one-requires mul-starts slice-write-starts
-    add-i loop-less loop-again (λ c. search needs) (λ c. search needs) (λ c. search needs) returns)
+    tie.close (tie.spec Inv-loop μ-loop loop-holds mul-with-class (λ c. search needs) with-class-requires (λ c κs. search needs) grant-one-requires
+    mul-starts slice-write-starts add-i loop-less loop-again (λ c. search needs) (λ c. search needs) (λ c. search needs) returns)

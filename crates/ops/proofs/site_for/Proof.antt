@@ -52,5 +52,5 @@ returns-3 c =
 pub site-for-spec : {M : Type 1} → statement M
 site-for-spec =
     tie.close (tie.spec (λ c κs. search needs) (λ c. search needs) (λ c. search needs) returns (λ c. search needs)
-    (λ c κs. let s = c .before .before .before .before .before .before in ((byMasks, room s), (s .pre .1 .0 .0, s .pre .1 .1))) (λ c. search needs) (λ c. search needs)
-    (λ c. search needs) returns-2 make-group-requires (λ c. search needs) returns-3)
+    (λ c κs. let s = c .before .before .before .before .before .before in ((byMasks, room s), (s .pre .1 .0 .0, s .pre .1 .1))) (λ c. search needs)
+    (λ c. search needs) (λ c. search needs) returns-2 make-group-requires (λ c. search needs) returns-3)

@@ -12,7 +12,7 @@ use Rattle.model.proofs.Calls.{call-unsound}
 use Rattle.model.proofs.Lists.{small, accepts-small, accepts-few}
 use Rattle.rows.specs.Rows.{Lent}
 use Rattle.rows.proofs.Rooms.{by-masks}
-use Rattle.pool.proofs.Lists.{refused-parts, too-long, bad-proposal, no-room, Whole, whole}
+use Rattle.pool.proofs.Lists.{refused-parts, too-long, bad-proposal, no-room, whole}
 use Rattle.pool.proofs.grant_list.Statement.{statement}
 use Rattle.pool.proofs.grant_list.Tie as tie
 
@@ -97,7 +97,8 @@ returns-5 c =
     (sym (w .ensures) ∙ not-true (w .result) (c .if5 .taken)))
 
 -- all of it fits
-fit : (c : tie.Else5) → (let a = c .before .before .before .before .before .before .before .before .before .before .before .before .before .before .before .args in
+fit : (c : tie.Else5) → (let d = c .before .before .before in
+    let a = d .before .before .before .before .before .before .before .before .before .before .before .before .args in
     isSome (reserveAll rowBytes (view rowBytes (now (a .room))) (now (a .sizes))) ≡ true)
 unfolding rowBytes
 fit c = let w = c .before .fits2 in sym (w .ensures) ∙ not-false (w .result) (c .if5 .left)
@@ -111,9 +112,10 @@ grant-all-requires c κs =
     let s = k .before .before .before in
     let a = s .before .before .before .before .before .before .before .args in
     let t = true-T _ (right d) in
-    let f = accepts-few (a .total) (a .cap) (now (a .sizes)) t in
-    (lent s .sound,
-    ((T-true (small (now (a .sizes))) (accepts-small (a .total) (a .cap) (now (a .sizes)) t), omega (arith, f, k .if3 .left)), (fit e, (lit≤ tt, lit≤ tt))))
+    let f = accepts-few (a .total) (a .cap) (now (a .sizes)) t in (
+      lent s .sound,
+      ((T-true (small (now (a .sizes))) (accepts-small (a .total) (a .cap) (now (a .sizes)) t), omega (arith, f, k .if3 .left)), (fit e, (lit≤ tt, lit≤ tt))),
+    )
 
 returns-6 : tie.Need-returns-6
 unfolding rowBytes
