@@ -36,32 +36,62 @@ full-cons c y Y h f [] Z ss e =
     all-live ss (rw (T-true (eqb c c) (eqb-refl c)) at (subst (λ s. opens c s ≡ false) q h))
 full-cons c y Y h f (w ∷ W) Z ss e = let q : Y ≡ W ++ (group c ss ∷ Z) = cc in f W Z ss q
 
+-- spans none of which serves class c
+abbrev pub Shut : ℕ → Pool → Type 0
+Shut c R = T (every (λ s. not (opens c s)) R)
+
+not-opens : (b : Bool) → T (not b) → b ≡ false
+not-opens true t = absurd t
+not-opens false t = refl
+
+module _ (c : ℕ) where
+  -- a search passes them by
+  pub pass-shut : (X R Y : Pool) → Shut c R → openFrom X c (R ++ Y) ≡ openFrom (X ++ R) c Y
+  pass-shut X [] Y h = ap (λ Z. openFrom Z c Y) (sym (append-nil X))
+  pass-shut X (s ∷ R) Y h =
+      choose-false (opens c s) _ _ (not-opens (opens c s) (and-left (not (opens c s)) (every (λ s. not (opens c s)) R) h))
+      ∙ pass-shut (X ++ (s ∷ [])) R Y (and-right (not (opens c s)) (every (λ s. not (opens c s)) R) h)
+      ∙ ap (λ Z. openFrom Z c Y) (append-assoc X (s ∷ []) R)
+
+  none-shut : (X Y : Pool) → openFrom X c Y ≡ none → Shut c Y
+  unfolding choose
+  none-shut X [] e = tt
+  none-shut X (y ∷ Y) e = go (opens c y) refl e (λ e. none-shut (X ++ (y ∷ [])) Y e)
+    where
+      go : (b : Bool) → opens c y ≡ b → choose b (some (record { before = X; slots = slotsIn y; after = Y })) (openFrom (X ++ (y ∷ [])) c Y) ≡ none
+          → (openFrom (X ++ (y ∷ [])) c Y ≡ none → Shut c Y) → Shut c (y ∷ Y)
+      go true h e k = let z : _≡_ {A = ℕ} 0 1 = cc in absurd (omega arith)
+      go false h e k = and-both (not (opens c y)) (every (λ s. not (opens c s)) Y) (rw h tt) (k e)
+
+  some-shut : (X Y : Pool) (g : Site) → openFrom X c Y ≡ some g → (R : Pool) × (g .before ≡ X ++ R) × Shut c R
+  unfolding choose
+  some-shut X [] g e = let z : _≡_ {A = ℕ} 0 1 = cc in absurd (omega arith)
+  some-shut X (y ∷ Y) g e = go (opens c y) refl e (λ e. some-shut (X ++ (y ∷ [])) Y g e)
+    where
+      here : Site
+      here = record { before = X; slots = slotsIn y; after = Y }
+
+      go : (b : Bool) → opens c y ≡ b → choose b (some here) (openFrom (X ++ (y ∷ [])) c Y) ≡ some g
+          → (openFrom (X ++ (y ∷ [])) c Y ≡ some g → (R : Pool) × (g .before ≡ (X ++ (y ∷ [])) ++ R) × Shut c R)
+          → (R : Pool) × (g .before ≡ X ++ R) × Shut c R
+      go true h e k = let z : here ≡ g = cc in ([], sym (ap (λ s. s .before) z) ∙ sym (append-nil X), tt)
+      go false h e k =
+          let (R, f, t) = k e in
+          (y ∷ R, f ∙ append-assoc X (y ∷ []) R, and-both (not (opens c y)) (every (λ s. not (opens c s)) R) (rw h tt) t)
+
+  -- their groups of the class are full
+  shut-full : (R : Pool) → Shut c R → AllLive R c
+  shut-full [] h = full-nil c
+  shut-full (s ∷ R) h =
+      full-cons c s R (not-opens (opens c s) (and-left (not (opens c s)) (every (λ s. not (opens c s)) R) h))
+      (shut-full R (and-right (not (opens c s)) (every (λ s. not (opens c s)) R) h))
+
 pub open-none : (X Y : Pool) (c : ℕ) → openFrom X c Y ≡ none → AllLive Y c
-unfolding choose
-open-none X [] c e = full-nil c
-open-none X (y ∷ Y) c e = go (opens c y) refl e (λ e. open-none (X ++ (y ∷ [])) Y c e)
-  where
-    go : (b : Bool) → opens c y ≡ b → choose b (some (record { before = X; slots = slotsIn y; after = Y })) (openFrom (X ++ (y ∷ [])) c Y) ≡ none
-        → (openFrom (X ++ (y ∷ [])) c Y ≡ none → AllLive Y c) → AllLive (y ∷ Y) c
-    go true h e r = let z : _≡_ {A = ℕ} 0 1 = cc in absurd (omega arith)
-    go false h e r = full-cons c y Y h (r e)
+open-none X Y c e = shut-full c Y (none-shut c X Y e)
 
 -- the groups that the search passed by are full
 pub open-lowest : (X Y : Pool) (c : ℕ) (s : Site) → openFrom X c Y ≡ some s → (R : Pool) × (s .before ≡ X ++ R) × AllLive R c
-unfolding choose
-open-lowest X [] c s e = let z : _≡_ {A = ℕ} 0 1 = cc in absurd (omega arith)
-open-lowest X (y ∷ Y) c s e = go (opens c y) refl e (λ e. open-lowest (X ++ (y ∷ [])) Y c s e)
-  where
-    here : Site
-    here = record { before = X; slots = slotsIn y; after = Y }
-
-    go : (b : Bool) → opens c y ≡ b → choose b (some here) (openFrom (X ++ (y ∷ [])) c Y) ≡ some s
-        → (openFrom (X ++ (y ∷ [])) c Y ≡ some s → (R : Pool) × (s .before ≡ (X ++ (y ∷ [])) ++ R) × AllLive R c) → (R : Pool) × (s .before ≡ X ++ R)
-        × AllLive R c
-    go true h e r =
-        let p : here ≡ s = cc in
-        ([], ap (λ q. q .before) (sym p) ∙ sym (append-nil X), full-nil c)
-    go false h e r = let (R, a, f) = r e in (y ∷ R, a ∙ append-assoc X (y ∷ []) R, full-cons c y R h f)
+open-lowest X Y c s e = let (R, f, h) = some-shut c X Y s e in (R, f, shut-full c R h)
 
 run-there : (k : ℕ) (P Y : Pool) → P ≡ freshPool k ++ Y → T (run k P)
 run-there zero P Y e = tt
@@ -180,48 +210,6 @@ module _ (row : ℕ) where
       go (some s) h e = site-some P (classOf n) s h
 
 -- ---- the search goes on where the last one ended
-
--- spans none of which serves class c
-abbrev pub Shut : ℕ → Pool → Type 0
-Shut c R = T (every (λ s. not (opens c s)) R)
-
-module _ (c : ℕ) where
-  pub pass-shut : (X R Y : Pool) → Shut c R → openFrom X c (R ++ Y) ≡ openFrom (X ++ R) c Y
-  pass-shut X [] Y h = ap (λ Z. openFrom Z c Y) (sym (append-nil X))
-  pass-shut X (s ∷ R) Y h =
-      choose-false (opens c s) _ _ (shut (opens c s) (and-left (not (opens c s)) (every (λ s. not (opens c s)) R) h))
-      ∙ pass-shut (X ++ (s ∷ [])) R Y (and-right (not (opens c s)) (every (λ s. not (opens c s)) R) h)
-      ∙ ap (λ Z. openFrom Z c Y) (append-assoc X (s ∷ []) R)
-    where
-      shut : (b : Bool) → T (not b) → b ≡ false
-      shut true t = absurd t
-      shut false t = refl
-
-  none-shut : (X Y : Pool) → openFrom X c Y ≡ none → Shut c Y
-  unfolding choose
-  none-shut X [] e = tt
-  none-shut X (y ∷ Y) e = go (opens c y) refl e (λ e. none-shut (X ++ (y ∷ [])) Y e)
-    where
-      go : (b : Bool) → opens c y ≡ b → choose b (some (record { before = X; slots = slotsIn y; after = Y })) (openFrom (X ++ (y ∷ [])) c Y) ≡ none
-          → (openFrom (X ++ (y ∷ [])) c Y ≡ none → Shut c Y) → Shut c (y ∷ Y)
-      go true h e k = let z : _≡_ {A = ℕ} 0 1 = cc in absurd (omega arith)
-      go false h e k = and-both (not (opens c y)) (every (λ s. not (opens c s)) Y) (rw h tt) (k e)
-
-  some-shut : (X Y : Pool) (g : Site) → openFrom X c Y ≡ some g → (R : Pool) × (g .before ≡ X ++ R) × Shut c R
-  unfolding choose
-  some-shut X [] g e = let z : _≡_ {A = ℕ} 0 1 = cc in absurd (omega arith)
-  some-shut X (y ∷ Y) g e = go (opens c y) refl e (λ e. some-shut (X ++ (y ∷ [])) Y g e)
-    where
-      here : Site
-      here = record { before = X; slots = slotsIn y; after = Y }
-
-      go : (b : Bool) → opens c y ≡ b → choose b (some here) (openFrom (X ++ (y ∷ [])) c Y) ≡ some g
-          → (openFrom (X ++ (y ∷ [])) c Y ≡ some g → (R : Pool) × (g .before ≡ (X ++ (y ∷ [])) ++ R) × Shut c R)
-          → (R : Pool) × (g .before ≡ X ++ R) × Shut c R
-      go true h e k = let z : here ≡ g = cc in ([], sym (ap (λ s. s .before) z) ∙ sym (append-nil X), tt)
-      go false h e k =
-          let (R, f, t) = k e in
-          (y ∷ R, f ∙ append-assoc X (y ∷ []) R, and-both (not (opens c y)) (every (λ s. not (opens c s)) R) (rw h tt) t)
 
 module _ (row : ℕ) where
   -- no group before that of a grant serves its class
