@@ -3,38 +3,73 @@
 // The owned bytes of a slot of class c: 16d bytes before the header, 4 of header, n requested, and the reserved ones, which begin with
 // a zero and end in the guard.
 ghost use mathlib.Core.Path.{_≡_};
-ghost use mathlib.Core.List.{_++_};
-ghost use Prim.Native.Nat.{_+_, _*_, _-_, _≤_, _<_};
+ghost use mathlib.Core.List.{_∷_, _++_};
+ghost use Prim.Native.Nat.{_+_, _*_, _-_, _≤_, _<_, min};
 ghost use lib.ListN.{length};
-ghost use Rattle.mem.specs.Bytes.{zeros, put, part};
-ghost use Rattle.classes.specs.Classes.{slotBytes};
+ghost use Rattle.mem.specs.Bytes.{zeros, low, put, part};
+ghost use Rattle.classes.specs.Classes.{unitsOf, slotBytes};
 ghost use Rattle.model.specs.Blocks.{reserved, header, guard, spare, frame, guardRight, damageIn};
 use model::Damage;
 use model::Refusal;
 
-// The bytes between the requested bytes and the block's end.
-fn reserved(c: usize, d: usize, n: usize) -> usize
-    requires { ⌜ (c < 48) × (16 * d + n + 4 ≤ slotBytes c) ⌝ }
-    ensures { λ r. ⌜ r ≡ reserved c d n ⌝ }
+// The bytes between the requested bytes and the end of a slot of so many bytes.
+fn reserved(bytes: usize, d: usize, n: usize) -> usize
+    requires { ⌜ (16 * d + n + 4 ≤ bytes) × (bytes < 131072) ⌝ }
+    ensures { λ r. ⌜ r ≡ bytes - 4 - 16 * d - n ⌝ }
     ensures small { λ r. ⌜ r < 131072 ⌝ }
 {
-    16 * classes::units(c) - 4 - 16 * d - n
+    bytes - 4 - 16 * d - n
 }
 
-fn header(c: usize, i: usize, d: usize, n: usize) -> [u8; 4]
-    requires { ⌜ (c < 48) × (16 * d + n + 4 ≤ slotBytes c) ⌝ }
+// The header's second byte: the slot number, and the reserved count up to 5.
+fn mark(i: usize, spare: usize) -> usize
     requires { ⌜ i < 32 ⌝ }
-    ensures { λ r. ⌜ r ≡ header c i d n ⌝ }
+    ensures { λ r. ⌜ r ≡ i + 32 * min 5 spare ⌝ }
+    ensures small { λ r. ⌜ r < 256 ⌝ }
 {
-    let spare = reserved(c, d, n);
     let five = if spare < 5 { spare } else { 5 };
-    let place = i * classes::units(c) + d;
+    i + 32 * five
+}
+
+// What the header's last two bytes hold: the units from the group's first slot to the header.
+fn units_to(c: usize, i: usize, d: usize) -> usize
+    requires { ⌜ (c < 48) × (16 * d + 4 ≤ slotBytes c) ⌝ }
+    requires { ⌜ i < 32 ⌝ }
+    ensures { λ r. ⌜ r ≡ i * unitsOf c + d ⌝ }
+{
+    i * classes::units(c) + d
+}
+
+// The header of a block with so many reserved bytes.
+fn header(c: usize, i: usize, d: usize, spare: usize) -> [u8; 4]
+    requires { ⌜ (c < 48) × (16 * d + 4 ≤ slotBytes c) ⌝ }
+    requires { ⌜ i < 32 ⌝ }
+    ensures { λ r. ⌜ r ≡ 0 ∷ (i + 32 * min 5 spare) ∷ low 2 (i * unitsOf c + d) ⌝ }
+{
+    let second = mark(i, spare);
+    let place = units_to(c, i, d);
     [
         0,
-        (i + 32 * five) as u8,
+        second as u8,
         (place % 256) as u8,
         (place / 256 % 256) as u8,
     ]
+}
+
+// Writes the header, byte by byte.
+fn write_header(slot: &mut [u8], c: usize, i: usize, d: usize, spare: usize)
+    requires { ⌜ (c < 48) × (16 * d + 4 ≤ slotBytes c) ⌝ }
+    requires { ⌜ (i < 32) × (length (now slot) ≡ slotBytes c) ⌝ }
+    ensures { λ _. ⌜ now (slot .exit)
+        ≡ put (16 * d) (0 ∷ (i + 32 * min 5 spare) ∷ low 2 (i * unitsOf c + d)) (now (slot .entry)) ⌝ }
+{
+    let second = mark(i, spare);
+    let place = units_to(c, i, d);
+    let at = 16 * d;
+    slot[at] = 0;
+    slot[at + 1] = second as u8;
+    slot[at + 2] = (place % 256) as u8;
+    slot[at + 3] = (place / 256 % 256) as u8;
 }
 
 // The guard of five reserved bytes or more.
@@ -57,11 +92,11 @@ fn guard_right(slot: &[u8], c: usize, d: usize, n: usize) -> bool
     requires { ⌜ length (now slot) ≡ slotBytes c ⌝ }
     ensures { λ r. ⌜ r ≡ guardRight c d n (now (slot .entry)) ⌝ }
 {
-    let r = reserved(c, d, n);
+    let end = slot.len();
+    let r = reserved(end, d, n);
     if r == 0 {
         return true;
     }
-    let end = slot.len();
     if slot[end - r] != 0 {
         return false;
     }
@@ -79,7 +114,8 @@ fn inspect(slot: &[u8], c: usize, i: usize, d: usize, n: usize) -> Damage
     ensures { λ r. ⌜ r ≡ damageIn c i d n (now (slot .entry)) ⌝ }
 {
     let at = 16 * d;
-    let h = header(c, i, d, n);
+    let spare = reserved(slot.len(), d, n);
+    let h = header(c, i, d, spare);
     if !mem::same_bytes(&slot[at..at + 4], &h) {
         return Damage::Damaged(Refusal::HeaderDamaged);
     }
@@ -109,10 +145,10 @@ fn enframe(slot: &mut [u8], c: usize, i: usize, d: usize, n: usize)
     requires { ⌜ (i < 32) × (length (now slot) ≡ slotBytes c) ⌝ }
     ensures { λ _. ⌜ now (slot .exit) ≡ frame c i d n ⌝ }
 {
+    let spare = reserved(slot.len(), d, n);
     mem::fill_zero(slot);
-    let h = header(c, i, d, n);
-    mem::copy_in(slot, 16 * d, &h);
-    write_spare(slot, reserved(c, d, n));
+    write_header(slot, c, i, d, spare);
+    write_spare(slot, spare);
 }
 
 // Lays a block of another size out at the same start: the first bytes stay, as many as the lesser of both sizes.
@@ -123,10 +159,10 @@ fn reframe(slot: &mut [u8], c: usize, i: usize, d: usize, kept: usize, n: usize)
     ensures { λ _. ⌜ now (slot .exit) ≡ put (16 * d + 4 + kept) (zeros (n - kept) ++ spare (reserved c d n))
         (put (16 * d) (header c i d n) (now (slot .entry))) ⌝ }
 {
-    let h = header(c, i, d, n);
-    mem::copy_in(slot, 16 * d, &h);
+    let spare = reserved(slot.len(), d, n);
+    write_header(slot, c, i, d, spare);
     mem::clear(slot, 16 * d + 4 + kept, 16 * d + 4 + n);
-    write_spare(slot, reserved(c, d, n));
+    write_spare(slot, spare);
 }
 
 // The same over the whole arena, with the place of the slot's first owned byte: the slot's part is handed on.
