@@ -73,24 +73,15 @@ pub data TooLongList (total cap places : ℕ) : Type 0 where
   large-cap : tooLarge ≤ cap → TooLongList total cap places
   few-places : places < entries → TooLongList total cap places
 
-abbrev pub TooLongFor : Call → Type 0
-TooLongFor setsUp = ⊥
-TooLongFor (grants n) = ⊥
-TooLongFor (releases o) = ⊥
-TooLongFor (resizes o n) = ⊥
-TooLongFor (measures o) = ⊥
-TooLongFor reports = ⊥
-TooLongFor (grantsList total cap places ns) = TooLongList total cap places
-
--- "Answer 17, bad proposal, exactly if the check refuses it."
-abbrev pub BadProposalFor : Call → Type 0
-BadProposalFor setsUp = ⊥
-BadProposalFor (grants n) = ⊥
-BadProposalFor (releases o) = ⊥
-BadProposalFor (resizes o n) = ⊥
-BadProposalFor (measures o) = ⊥
-BadProposalFor reports = ⊥
-BadProposalFor (grantsList total cap places ns) = T (not (accepts total cap ns))
+-- what holds of a list call, told so; of another call it does not
+abbrev pub OfList : ((total cap places : ℕ) → List ℕ → Type 0) → Call → Type 0
+OfList M setsUp = ⊥
+OfList M (grants n) = ⊥
+OfList M (releases o) = ⊥
+OfList M (resizes o n) = ⊥
+OfList M (measures o) = ⊥
+OfList M reports = ⊥
+OfList M (grantsList total cap places ns) = M total cap places ns
 
 module _ (row : ℕ) where
   -- a granted slot of a pool, and the one whose last start an offset is
@@ -144,8 +135,9 @@ module _ (row : ℕ) where
   Due a t c HeaderDamaged = (p : Place) × LiveAt (view row t) (offsetIn c) p × T (not (headerDue a p))
   Due a t c Overrun = (p : Place) × LiveAt (view row t) (offsetIn c) p × T (headerDue a p) × T (not (guardDue a p))
   Due a t c NoRoom = NoRoomFor (view row t) c
-  Due a t c TooLong = TooLongFor c
-  Due a t c BadProposal = BadProposalFor c
+  Due a t c TooLong = OfList (λ total cap places ns. TooLongList total cap places) c
+  -- 02 §3: "Answer 17, bad proposal, exactly if the check refuses it."
+  Due a t c BadProposal = OfList (λ total cap places ns. T (not (accepts total cap ns))) c
 
   -- DEMAND 1, of any bytes and any call; 02 §3: "A refused list leaves arena, tables and lent list unchanged"
   pub record Answered (a t : List ℕ) (c : Call) : Type 0 where

@@ -21,7 +21,7 @@ pub record PlansAccepted (total cap : ℕ) : Type 0 where
   pub too-long : (T (plannable total cap) → ⊥) → (planned total cap .number ≡ 9) × (planned total cap .lent ≡ [])
   pub counted : planned total cap .values ≡ length (planned total cap .lent) ∷ []
   pub fewest : (ns : List ℕ) → T (accepts total cap ns) → length (planned total cap .lent) ≤ length ns
-  -- what is accepted could be planned: so a list call with answer 17 or 8 has not passed over a 9 that its proposal shows
+  -- what the check accepts can be planned
   pub only-plannable : (ns : List ℕ) → T (accepts total cap ns) → T (plannable total cap)
 
 abbrev pub PlansAsSaid : Type 0
