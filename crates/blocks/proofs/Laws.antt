@@ -1,5 +1,5 @@
 -- Laws of guards and frames: the writes that make them.
-use Rattle.mem.proofs.Prelude.{_∙_, _≡_, sym, ap, List, _∷_, _++_, append-nil, _+_, ℕ, _<_, _≤_, _*_, _-_, sub-zero, min, arith, length}
+use Rattle.mem.proofs.Prelude.{_∙_, _≡_, sym, ap, List, _∷_, _++_, append-nil, _+_, ℕ, _<_, _≤_, _*_, _-_, _/_, sub-zero, min, arith, length}
 use Rattle.mem.specs.Bytes.{zeros, low, put}
 use Rattle.mem.proofs.Laws.{zeros-length, zeros-add, put-append, put-cover, put-at, put-back, put-all}
 use Rattle.classes.specs.Classes.{unitsOf, slotBytes}
@@ -9,6 +9,10 @@ use Rattle.model.proofs.Blocks.{header-length, guard-none, guard-length, spare-
 
 pub bytes-small : (c : ℕ) → slotBytes c < 131072
 bytes-small c = omega (arith, bytes-units c, units-small c)
+
+-- a slot's units, by its bytes
+pub units-in : (c : ℕ) → slotBytes c / 16 ≡ unitsOf c
+units-in c = omega (arith, bytes-units c)
 
 -- the header, by the reserved count
 pub header-by : (c i d n r : ℕ) → r ≡ reserved c d n → 0 ∷ (i + 32 * min 5 r) ∷ low 2 (i * unitsOf c + d) ≡ header c i d n

@@ -4,7 +4,7 @@
 // a zero and end in the guard.
 ghost use mathlib.Core.Path.{_≡_};
 ghost use mathlib.Core.List.{_∷_, _++_};
-ghost use Prim.Native.Nat.{_+_, _*_, _-_, _≤_, _<_, min};
+ghost use Prim.Native.Nat.{_+_, _*_, _-_, _/_, _≤_, _<_, min};
 ghost use lib.ListN.{length};
 ghost use Rattle.mem.specs.Bytes.{zeros, low, put, part};
 ghost use Rattle.classes.specs.Classes.{unitsOf, slotBytes};
@@ -31,13 +31,13 @@ fn mark(i: usize, spare: usize) -> usize
     i + 32 * five
 }
 
-// What the header's last two bytes hold: the units from the group's first slot to the header.
-fn units_to(c: usize, i: usize, d: usize) -> usize
-    requires { ⌜ (c < 48) × (16 * d + 4 ≤ slotBytes c) ⌝ }
+// What the header's last two bytes hold: the units from the group's first slot to the header, in slots of so many bytes.
+fn units_to(bytes: usize, i: usize, d: usize) -> usize
+    requires { ⌜ (16 * d ≤ bytes) × (bytes < 131072) ⌝ }
     requires { ⌜ i < 32 ⌝ }
-    ensures { λ r. ⌜ r ≡ i * unitsOf c + d ⌝ }
+    ensures { λ r. ⌜ r ≡ i * (bytes / 16) + d ⌝ }
 {
-    i * classes::units(c) + d
+    i * (bytes / 16) + d
 }
 
 // The header of a block with so many reserved bytes.
@@ -47,7 +47,7 @@ fn header(c: usize, i: usize, d: usize, spare: usize) -> [u8; 4]
     ensures { λ r. ⌜ r ≡ 0 ∷ (i + 32 * min 5 spare) ∷ low 2 (i * unitsOf c + d) ⌝ }
 {
     let second = mark(i, spare);
-    let place = units_to(c, i, d);
+    let place = units_to(16 * classes::units(c), i, d);
     [
         0,
         second as u8,
@@ -56,7 +56,7 @@ fn header(c: usize, i: usize, d: usize, spare: usize) -> [u8; 4]
     ]
 }
 
-// Writes the header, byte by byte.
+// Writes the header, byte by byte. The slot's length is its class's bytes.
 fn write_header(slot: &mut [u8], c: usize, i: usize, d: usize, spare: usize)
     requires { ⌜ (c < 48) × (16 * d + 4 ≤ slotBytes c) ⌝ }
     requires { ⌜ (i < 32) × (length (now slot) ≡ slotBytes c) ⌝ }
@@ -64,7 +64,7 @@ fn write_header(slot: &mut [u8], c: usize, i: usize, d: usize, spare: usize)
         ≡ put (16 * d) (0 ∷ (i + 32 * min 5 spare) ∷ low 2 (i * unitsOf c + d)) (now (slot .entry)) ⌝ }
 {
     let second = mark(i, spare);
-    let place = units_to(c, i, d);
+    let place = units_to(slot.len(), i, d);
     let at = 16 * d;
     slot[at] = 0;
     slot[at + 1] = second as u8;

@@ -2,6 +2,7 @@
 use Rattle.mem.proofs.Prelude.{_∙_, _≡_, sym, List, [], _∷_, _+_, ℕ, _*_, suc, arith, now, needs, set, length-set}
 use Rattle.mem.specs.Bytes.{put}
 use Rattle.mem.proofs.Laws.{put-nil, put-cons}
+use Rattle.blocks.proofs.Laws.{bytes-small, units-in}
 use Rattle.blocks.proofs.write_header.Statement.{statement}
 use Rattle.blocks.proofs.write_header.Tie as tie
 
@@ -28,13 +29,18 @@ slice-write-slot-3 c = simp length-set (omega arith)
 slice-write-slot-4 : tie.Need-slice-write-slot-4
 slice-write-slot-4 c = simp length-set (omega arith)
 
+units-to-requires : tie.Need-units-to-requires
+units-to-requires c κs =
+    let s = c .before .before in ((omega arith, omega (arith, s .pre .1 .1, bytes-small (s .args .c))), search needs)
+
 returns : tie.Need-returns
 returns c =
-    let a = c .before .before .before .args in
-    rw (c .before .mark .ensures .0, c .units-to .ensures) (four (16 * a .d) _ _ _ _ (now (a .slot)))
+    let s = c .before .before .before in
+    let a = s .args in
+    rw (c .before .mark .ensures .0, c .units-to .ensures, ← units-in (a .c), ← s .pre .1 .1) (four (16 * a .d) _ _ _ _ (now (a .slot)))
 
 pub write-header-spec : {M : Type 1} → statement M
 write-header-spec =
-    tie.close (tie.spec (λ c κs. search needs) (λ c κs. search needs) (λ c. search needs) (λ c. search needs) (λ c. search needs) (λ c. search needs)
+    tie.close (tie.spec (λ c κs. search needs) units-to-requires (λ c. search needs) (λ c. search needs) (λ c. search needs) (λ c. search needs)
     slice-write-slot-2 (λ c. search needs) (λ c. search needs) slice-write-slot-3 (λ c. search needs) (λ c. search needs) slice-write-slot-4
     (λ c. search needs) returns)
