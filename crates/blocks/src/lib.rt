@@ -175,12 +175,12 @@ pub fn inspect_at(arena: &[u8], at: usize, c: usize, i: usize, d: usize, n: usiz
     inspect(&arena[at..end], c, i, d, n)
 }
 
-pub fn enframe_at(arena: &mut [u8], at: usize, c: usize, i: usize, d: usize, n: usize)
+// The slot's end is told too, by a caller that has it.
+pub fn enframe_at(arena: &mut [u8], at: usize, end: usize, c: usize, i: usize, d: usize, n: usize)
     requires { ⌜ (c < 48) × (16 * d + n + 4 ≤ slotBytes c) ⌝ }
-    requires { ⌜ (i < 32) × (at + slotBytes c ≤ length (now arena)) ⌝ }
+    requires { ⌜ (i < 32) × (end ≤ length (now arena)) × (end ≡ at + slotBytes c) ⌝ }
     ensures { λ _. ⌜ now (arena .exit) ≡ put at (frame c i d n) (now (arena .entry)) ⌝ }
 {
-    let end = at + 16 * classes::units(c);
     enframe(&mut arena[at..end], c, i, d, n);
 }
 

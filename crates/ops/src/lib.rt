@@ -33,14 +33,23 @@ pub enum Reserved {
     NoRoom,
 }
 
-// The first byte that a block's slot owns.
+// The first byte that a block's slot owns, the slot having so many bytes.
+fn owned_in(row: usize, b: Block, bytes: usize) -> usize
+    requires { ⌜ (b .class < 48) × (b .slot < 31) × (b .first ≤ 512) × (bytes ≡ slotBytes (b .class)) ⌝ }
+    requires { ⌜ Lawful row ⌝ }
+    ensures { λ r. ⌜ r ≡ ownedAt row b ⌝ }
+    ensures small { λ r. ⌜ r < 8388608 ⌝ }
+{
+    row * b.first + 12 + b.slot * bytes
+}
+
 fn owned_of(row: usize, b: Block) -> usize
     requires { ⌜ (b .class < 48) × (b .slot < 31) × (b .first ≤ 512) ⌝ }
     requires { ⌜ Lawful row ⌝ }
     ensures { λ r. ⌜ r ≡ ownedAt row b ⌝ }
     ensures small { λ r. ⌜ r < 8388608 ⌝ }
 {
-    row * b.first + 12 + b.slot * (16 * classes::units(b.class))
+    owned_in(row, b, 16 * classes::units(b.class))
 }
 
 // Where a block starts.
@@ -77,8 +86,17 @@ pub fn lay_out(row: usize, arena: &mut [u8], b: Block) -> usize
     ensures { λ r. ⌜ r ≡ startAt row b ⌝ }
     ensures { λ _. ⌜ now (arena .exit) ≡ put (ownedAt row b) (frame (b .class) (b .slot) (b .alloc .disp) (b .alloc .size)) (now (arena .entry)) ⌝ }
 {
-    let at = owned_of(row, b);
-    blocks::enframe_at(arena, at, b.class, b.slot, b.alloc.disp, b.alloc.size);
+    let bytes = 16 * classes::units(b.class);
+    let at = owned_in(row, b, bytes);
+    blocks::enframe_at(
+        arena,
+        at,
+        at + bytes,
+        b.class,
+        b.slot,
+        b.alloc.disp,
+        b.alloc.size,
+    );
     at + 4 + 16 * b.alloc.disp
 }
 
