@@ -1,7 +1,7 @@
 -- In place where the block can stay in its slot, else by a move.
 use Rattle.mem.proofs.Prelude.{_∙_, _≡_, sym, ap, [], _∷_, arith, now, needs, length}
 use Rattle.mem.proofs.Tests.{choose-true, choose-false}
-use Rattle.model.specs.State.{Place, start}
+use Rattle.model.specs.State.{Place}
 use Rattle.model.specs.Answers.{done}
 use Rattle.model.specs.Plans.{resizeInPlace, resizeAt, inPlace}
 use Rattle.model.specs.Tables.{byMasks}
