@@ -235,13 +235,7 @@ module _ (row : ℕ) where
         no-run zero h = absurd (omega arith)
         no-run (suc k) h = refl
 
-    pub run-some : (X Y : Pool) (s : Site) → runFrom row X c Y ≡ some s → lowestRun (rowsOf row c) (rows row X) (mapOf row Y) ≡ some (rows row (s .before))
-    run-some X Y s e = run-first X Y ∙ ap firstRow e
-
-    pub run-none : (X Y : Pool) → runFrom row X c Y ≡ none → lowestRun (rowsOf row c) (rows row X) (mapOf row Y) ≡ none
-    run-none X Y e = run-first X Y ∙ ap firstRow e
-
-    -- and the other way round
+    -- so the two searches find alike
     pub some-run : (P : Pool) (r : ℕ) → lowestRun (rowsOf row c) 0 (mapOf row P) ≡ some r
         → (s : Site) × (runFrom row [] c P ≡ some s) × (rows row (s .before) ≡ r)
     some-run P r e = go (runFrom row [] c P) (sym (run-first [] P) ∙ e)
