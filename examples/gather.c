@@ -10,6 +10,10 @@ enum { ARENA = 8192, ROW = 512 };
 static uint8_t arena[ARENA];
 static uint8_t *room;
 static size_t room_len;
+static slotpool_totals totals;
+
+/* What every call on the pool is lent. */
+#define POOL arena, ARENA, room, room_len, &totals
 
 static const char *name(uint32_t answer)
 {
@@ -27,16 +31,17 @@ static void map(void)
         const uint8_t *record = room + 16 + 264 * row; /* docs/TABLES.md */
         putchar(record[0] == 0 ? '.' : record[0] == 1 ? "0123456789ABCDEFGHIJKLMNOPQRSTUVWXYZabcdefghijkl"[record[1]] : '-');
     }
-    size_t t[6];
-    slotpool_report(arena, ARENA, room, room_len, t);
-    printf("  %zu blocks, %zu bytes, %zu rows held, %zu free, %zu slots ready, %zu waiting\n", t[0], t[1], t[2], t[3], t[4], t[5]);
+    slotpool_totals t;
+    slotpool_report(POOL, &t);
+    printf("  %zu blocks, %zu bytes, %zu rows held, %zu free, %zu slots ready, %zu waiting\n", t.blocks, t.bytes, t.held, t.free, t.ready,
+           t.waiting);
 }
 
 /* Asks for a list of so many bytes in entries of these sizes, at most cap each; gives how many were granted. */
 static size_t grant_list(size_t length, size_t cap, const size_t *sizes, size_t count, size_t starts[SLOTPOOL_ENTRIES])
 {
     size_t entries;
-    uint32_t answer = slotpool_grant_list(arena, ARENA, room, room_len, length, cap, sizes, count, starts, SLOTPOOL_ENTRIES, &entries);
+    uint32_t answer = slotpool_grant_list(POOL, length, cap, sizes, count, starts, SLOTPOOL_ENTRIES, &entries);
     printf("list of %zu bytes as", length);
     for (size_t i = 0; i < count; i++)
         printf(" %zu", sizes[i]);
@@ -51,7 +56,7 @@ int main(void)
 {
     room_len = slotpool_room_len(ARENA);
     room = malloc(room_len);
-    if (room == NULL || slotpool_set_up(arena, ARENA, room, room_len) != SLOTPOOL_DONE)
+    if (room == NULL || slotpool_set_up(POOL) != SLOTPOOL_DONE)
         return 1;
     printf("an arena of %d bytes, a table room of %zu\n", ARENA, room_len);
     map();
@@ -75,23 +80,25 @@ int main(void)
     size_t value, past = list[1] + sizes[1];
     uint8_t kept = arena[past];
     arena[past] = 1;
-    printf("release %zu with one byte written past its end: %s\n", list[1], name(slotpool_release(arena, ARENA, room, room_len, list[1])));
+    printf("release %zu with one byte written past its end: %s\n", list[1], name(slotpool_release(POOL, list[1])));
     arena[past] = kept;
 
-    printf("resize %zu to 188: %s", list[0], name(slotpool_resize(arena, ARENA, room, room_len, list[0], 188, &value)));
+    printf("resize %zu to 188: %s", list[0], name(slotpool_resize(POOL, list[0], 188, &value)));
     printf(", %zu\n", value);
-    printf("release %zu: %s\n", list[1], name(slotpool_release(arena, ARENA, room, room_len, list[1])));
-    printf("release %zu again: %s\n", list[1], name(slotpool_release(arena, ARENA, room, room_len, list[1])));
-    printf("release %zu: %s\n", list[1] + 1, name(slotpool_release(arena, ARENA, room, room_len, list[1] + 1)));
-    printf("grant 131052: %s\n", name(slotpool_grant(arena, ARENA, room, room_len, 131052, &value)));
-    printf("grant 5000: %s\n", name(slotpool_grant(arena, ARENA, room, room_len, 5000, &value)));
+    printf("release %zu: %s\n", list[1], name(slotpool_release(POOL, list[1])));
+    printf("release %zu again: %s\n", list[1], name(slotpool_release(POOL, list[1])));
+    printf("release %zu: %s\n", list[1] + 1, name(slotpool_release(POOL, list[1] + 1)));
+    printf("grant 131052: %s\n", name(slotpool_grant(POOL, 131052, &value)));
+    printf("grant 5000: %s\n", name(slotpool_grant(POOL, 5000, &value)));
     map();
 
-    /* a flipped bit in the tables */
-    room[16 + 8] ^= 4;
-    printf("measure %zu with a flipped table bit: %s\n", list[0], name(slotpool_measure(arena, ARENA, room, room_len, list[0], &value)));
-    room[16 + 8] ^= 4;
-    printf("measure %zu: %s", list[0], name(slotpool_measure(arena, ARENA, room, room_len, list[0], &value)));
+    /* a flipped bit in the tables: block 16 has 156 bytes for 188, which its slot may hold. The tables are sound by themselves, and without the
+     * record this grant would be done; but their totals are not those of the record */
+    uint8_t *size = room + 16 + 16 + 4; /* docs/TABLES.md: row 0, slot 0, requested size */
+    *size ^= 32;
+    printf("grant 80 with a flipped table bit: %s\n", name(slotpool_grant(POOL, 80, &value)));
+    *size ^= 32;
+    printf("measure %zu: %s", list[0], name(slotpool_measure(POOL, list[0], &value)));
     printf(", %zu\n", value);
     free(room);
     return 0;

@@ -1,10 +1,10 @@
-/* The slot pool: blocks of an arena of bytes, with the tables in a second room.
+/* The slot pool: blocks of an arena of bytes, with the tables in a second room and their totals in a record beside it.
  *
- * Every call on a pool takes the arena and the table room, and answers a number of the table below. A refusal changes no byte of either.
- * The caller owes: both buffers are valid for their given lengths, do not overlap, and are not used by anybody else during a call;
- * `value` and `totals` point to memory of their own. Likewise the lists `sizes` and `starts` are valid for their given lengths, the
- * planner's for 17 places, and overlap neither each other nor a buffer; their pointers are not null, even where a length is 0.
- * Nothing else: any bytes, lengths, offsets, sizes, caps and proposals may be given.
+ * Every call on a pool takes the arena, the table room and the record, and answers a number of the table below. A refusal changes no
+ * byte of them. The caller owes: both buffers are valid for their given lengths, do not overlap, and, like the record, are not used by
+ * anybody else during a call; `totals`, `out` and `value` are memory of their own. Likewise the lists `sizes` and `starts` are valid for
+ * their given lengths, the planner's for 17 places, and overlap neither each other nor a buffer; their pointers are not null, even where
+ * a length is 0. Nothing else: any bytes, numbers, lengths, offsets, sizes, caps and proposals may be given.
  */
 #ifndef SLOTPOOL_H
 #define SLOTPOOL_H
@@ -19,7 +19,7 @@ extern "C" {
 enum {
     SLOTPOOL_DONE = 0,           /* done */
     SLOTPOOL_BAD_ARENA = 1,      /* set up only: arena length outside the rule, or table room of another size */
-    SLOTPOOL_UNSOUND = 2,        /* arena or table room length wrong, or the tables are not sound */
+    SLOTPOOL_UNSOUND = 2,        /* arena or table room length wrong, the tables not sound, or the record not their totals */
     SLOTPOOL_TOO_LARGE = 3,      /* a size of 131,052 or more */
     SLOTPOOL_NO_SUCH_BLOCK = 4,  /* no slot starts at the offset */
     SLOTPOOL_ALREADY_FREE = 5,   /* the last start of a slot that is not live */
@@ -33,27 +33,42 @@ enum {
 /* The entries that the hardware takes in a gather list. */
 enum { SLOTPOOL_ENTRIES = 17 };
 
+/* The totals of a pool. The record that is lent as `totals` is written by set up, whatever stands in it, and brought up to date by every
+ * other call that is done; keep it with the room. */
+typedef struct slotpool_totals {
+    size_t blocks;  /* live blocks */
+    size_t bytes;   /* their requested bytes */
+    size_t held;    /* rows held */
+    size_t free;    /* rows free */
+    size_t ready;   /* ready slots */
+    size_t waiting; /* waiting slots */
+} slotpool_totals;
+
 /* The table room for an arena of arena_len bytes, which is 512 to 262,144, a multiple of 512; 0 for any other length. */
 size_t slotpool_room_len(size_t arena_len);
 
-/* Writes zero over the arena and makes tables with no blocks. Answers 0 or 1. */
-uint32_t slotpool_set_up(uint8_t *arena, size_t arena_len, uint8_t *room, size_t room_len);
+/* Writes zero over the arena, makes tables with no blocks, and writes the record. Answers 0 or 1. */
+uint32_t slotpool_set_up(uint8_t *arena, size_t arena_len, uint8_t *room, size_t room_len, slotpool_totals *totals);
 
 /* Grants a block of n bytes, all zero; *value is its offset in the arena. Answers 0, 2, 3 or 8. */
-uint32_t slotpool_grant(uint8_t *arena, size_t arena_len, uint8_t *room, size_t room_len, size_t n, size_t *value);
+uint32_t slotpool_grant(uint8_t *arena, size_t arena_len, uint8_t *room, size_t room_len, slotpool_totals *totals, size_t n,
+                        size_t *value);
 
 /* Takes the block at an offset back and clears it. Answers 0, 2, 4, 5, 6 or 7. */
-uint32_t slotpool_release(uint8_t *arena, size_t arena_len, uint8_t *room, size_t room_len, size_t offset);
+uint32_t slotpool_release(uint8_t *arena, size_t arena_len, uint8_t *room, size_t room_len, slotpool_totals *totals, size_t offset);
 
 /* Gives the block at an offset the size n, where it is or elsewhere; *value is its offset from then on. Bytes it gains are zero.
  * Answers 0 or 2 to 8. */
-uint32_t slotpool_resize(uint8_t *arena, size_t arena_len, uint8_t *room, size_t room_len, size_t offset, size_t n, size_t *value);
+uint32_t slotpool_resize(uint8_t *arena, size_t arena_len, uint8_t *room, size_t room_len, slotpool_totals *totals, size_t offset,
+                         size_t n, size_t *value);
 
 /* *value is the size of the block at an offset. Answers 0, 2, 4, 5, 6 or 7. */
-uint32_t slotpool_measure(const uint8_t *arena, size_t arena_len, const uint8_t *room, size_t room_len, size_t offset, size_t *value);
+uint32_t slotpool_measure(const uint8_t *arena, size_t arena_len, const uint8_t *room, size_t room_len, const slotpool_totals *totals,
+                          size_t offset, size_t *value);
 
-/* Live blocks, their requested bytes, rows held, rows free, ready slots, waiting slots. Answers 0 or 2. */
-uint32_t slotpool_report(const uint8_t *arena, size_t arena_len, const uint8_t *room, size_t room_len, size_t totals[6]);
+/* *out is a copy of the record. Answers 0 or 2. */
+uint32_t slotpool_report(const uint8_t *arena, size_t arena_len, const uint8_t *room, size_t room_len, const slotpool_totals *totals,
+                         slotpool_totals *out);
 
 /* Gather lists: `length` bytes in at most 17 entries of at most `cap` bytes each. A proposal says the size of each entry. */
 
@@ -67,10 +82,10 @@ uint32_t slotpool_plan_list(size_t length, size_t cap, size_t sizes[17], size_t 
 
 /* Grants the sizes of an accepted proposal in order, all of them or none. Writes the blocks' offsets to the front of `starts`, and keeps
  * its later places; *value is the number of entries. Answers 0, 2, 9, 17 or 8, refusals in this order. */
-uint32_t slotpool_grant_list(uint8_t *arena, size_t arena_len, uint8_t *room, size_t room_len, size_t length, size_t cap,
-                             const size_t *sizes, size_t sizes_len, size_t *starts, size_t starts_len, size_t *value);
+uint32_t slotpool_grant_list(uint8_t *arena, size_t arena_len, uint8_t *room, size_t room_len, slotpool_totals *totals, size_t length,
+                             size_t cap, const size_t *sizes, size_t sizes_len, size_t *starts, size_t starts_len, size_t *value);
 
-/* With a refusal, *value is 0, totals are six zeros, and a list is as it was. */
+/* With a refusal, *value is 0, *out is six zeros, and a list is as it was. */
 
 #ifdef __cplusplus
 }

@@ -1,13 +1,15 @@
 //! Nanoseconds per call, of the library and of the second implementation with its own full check of the tables, over arenas of four
-//! sizes, empty, half full and nearly full; of the grants of a list beside its list call; and records per second, of the replay program
-//! and of the second implementation's replay. Each figure is the median of several runs, with the least and the most.
+//! sizes, empty, half full and nearly full; of the soundness check alone, dense and sparse; of the grants of a list beside its list call;
+//! and records per second, of the replay program and of the second implementation's replay. Each figure is the median of several runs,
+//! with the least and the most.
 
 #[path = "../tests/program/mod.rs"]
 mod program;
 
 use slotpool::trace::{self, Op};
-use slotpool::{room_len, Pool, Refusal, ENTRIES};
+use slotpool::{room_len, Pool, Refusal, Totals, ENTRIES};
 use slotpool_reference::{replay, Reference, Tables};
+use std::hash::{BuildHasher, BuildHasherDefault, DefaultHasher};
 use std::hint::black_box;
 use std::path::Path;
 use std::process::Command;
@@ -58,6 +60,22 @@ fn show(t: &Time) -> String {
 
 fn show_ratio(t: &Time) -> String {
     format!("{:>5.1} ({:.1} to {:.1})", t.median, t.least, t.most)
+}
+
+/// What a pool is lent.
+fn buffers(len: usize) -> (Vec<u8>, Vec<u8>, Totals) {
+    (vec![0; len], vec![0; room_len(len)], Totals::default())
+}
+
+/// Whether the second implementation finds a room and a record sound.
+fn is_sound(len: usize, (room, record): &(Vec<u8>, Totals)) -> bool {
+    Tables::read(len, black_box(room), black_box(record)).is_some()
+}
+
+/// The room and the record due for a pool of the second implementation.
+fn lent(second: &Reference) -> (Vec<u8>, Totals) {
+    let tables = second.tables();
+    (tables.write(), tables.totals())
 }
 
 /// All bytes of a room, read once.
@@ -146,20 +164,24 @@ fn replays() {
 struct Kept {
     arena: Vec<u8>,
     room: Vec<u8>,
-    state: (Vec<u8>, Vec<u8>),
+    totals: Totals,
+    state: (Vec<u8>, Vec<u8>, Totals),
 }
 
 impl Kept {
-    /// An arena that was full of blocks of one size, of which some, here and there, were released.
+    /// An arena that was full of blocks of one size, of which some were released.
     fn with_room(len: usize, size: usize, released: Released) -> Kept {
-        let (mut arena, mut room) = (vec![0; len], vec![0; room_len(len)]);
-        let mut pool = Pool::set_up(&mut arena, &mut room).unwrap();
+        let (mut arena, mut room, mut totals) = buffers(len);
+        let mut pool = Pool::set_up(&mut arena, &mut room, &mut totals).unwrap();
         let blocks: Vec<usize> = std::iter::from_fn(|| pool.grant(size).ok()).collect();
-        let released = released(blocks.len());
-        for i in 0..released {
-            pool.release(blocks[i * blocks.len() / released]).unwrap();
+        for block in released(&blocks) {
+            pool.release(block).unwrap();
         }
-        Kept { state: (arena.clone(), room.clone()), arena, room }
+        Kept { state: (arena.clone(), room.clone(), totals), arena, room, totals }
+    }
+
+    fn pool(&mut self) -> Pool<'_> {
+        Pool::over(&mut self.arena, &mut self.room, &mut self.totals)
     }
 
     /// Nanoseconds per turn of one run. That the bytes are copied back before each turn is not timed.
@@ -168,7 +190,8 @@ impl Kept {
         for _ in 0..turns {
             self.arena.copy_from_slice(&self.state.0);
             self.room.copy_from_slice(&self.state.1);
-            let mut pool = Pool::over(&mut self.arena, &mut self.room);
+            self.totals = self.state.2;
+            let mut pool = self.pool();
             let begun = Instant::now();
             black_box(turn(&mut pool));
             spent += begun.elapsed();
@@ -177,10 +200,32 @@ impl Kept {
     }
 }
 
-/// How many of all blocks are released in a state.
-type Released = fn(usize) -> usize;
+/// Which of all blocks are released in a state.
+type Released = fn(&[usize]) -> Vec<usize>;
 
-const STATES: [(&str, Released); 3] = [("empty", |all| all), ("half full", |all| all / 2), ("nearly full", |_| ENTRIES)];
+fn all(blocks: &[usize]) -> Vec<usize> {
+    blocks.to_vec()
+}
+
+fn none(_: &[usize]) -> Vec<usize> {
+    Vec::new()
+}
+
+/// So many, equally far apart.
+fn spread(blocks: &[usize], count: usize) -> Vec<usize> {
+    (0..count).map(|i| blocks[i * blocks.len() / count]).collect()
+}
+
+/// Half of them, in no order: those whose hash is in the lower half.
+fn half_at_random(blocks: &[usize]) -> Vec<usize> {
+    let mut mixed = blocks.to_vec();
+    mixed.sort_by_cached_key(|block| BuildHasherDefault::<DefaultHasher>::new().hash_one(block));
+    mixed.truncate(blocks.len() / 2);
+    mixed
+}
+
+const STATES: [(&str, Released); 3] =
+    [("empty", all), ("half full", |blocks| spread(blocks, blocks.len() / 2)), ("nearly full", |blocks| spread(blocks, ENTRIES))];
 
 /// A list call under the largest cap.
 fn list_call(pool: &mut Pool, sizes: &[usize; ENTRIES]) -> Result<usize, Refusal> {
@@ -201,7 +246,7 @@ fn lists() {
             short[ENTRIES - 1] = 131_051;
             let mut one = Kept::with_room(1024 * kib, size, released);
             let mut other = one.clone();
-            if list_call(&mut Pool::over(&mut one.arena, &mut one.room), &sizes).is_err() {
+            if list_call(&mut one.pool(), &sizes).is_err() {
                 println!("{name:<36} no room for 17");
                 continue;
             }
@@ -216,14 +261,49 @@ fn lists() {
     }
 }
 
+/// Pools with tables that are sparse and dense.
+const CHECKED: [(&str, usize, Released); 6] = [
+    ("all rows free", 160, all),
+    ("full of 1,500-byte blocks", 1500, none),
+    ("full of 160-byte blocks", 160, none),
+    ("half full of 160-byte blocks", 160, half_at_random),
+    ("full of 12-byte blocks", 12, none),
+    ("half full of 12-byte blocks", 12, half_at_random),
+];
+
+/// Times the soundness check alone, as a measure of offset 1 (answer 4), beside a plain read of the room.
+fn checks() {
+    println!("\nthe soundness check alone (a measure of offset 1, answer 4) beside a plain read of the room. Half full: half of the blocks were");
+    println!("released, drawn at random");
+    println!("{:<36} {:>26} {:>26} {:>20}", "arena", "check", "plain read", "ratio of a run");
+    for kib in [4, 16, 64, 256] {
+        for (name, size, released) in CHECKED {
+            let mut kept = Kept::with_room(1024 * kib, size, released);
+            let bytes = kept.room.clone();
+            let pool = kept.pool();
+            let turns = 60_000 / kib + 100;
+            let (check, read, ratio) = time_beside(
+                turns,
+                || {
+                    black_box(pool.measure(black_box(1)).is_err());
+                },
+                || {
+                    black_box(plain_read(black_box(&bytes)));
+                },
+            );
+            println!("{:<36} {:>26} {:>26} {}", format!("{kib} KiB, {name}"), show(&check), show(&read), show_ratio(&ratio));
+        }
+    }
+}
+
 fn main() {
     println!("nanoseconds per call: median of {RUNS} runs (least to most)");
     println!("{:<22} {:>26} {:>26} {:>26} {:>26}", "arena", "grant and release", "second, with full check", "measure", "second, with full check");
     for kib in [4, 16, 64, 256] {
         let len = 1024 * kib;
         for (name, share) in [("empty", 0.0), ("half full", 0.5), ("nearly full", 0.97)] {
-            let (mut arena, mut room) = (vec![0; len], vec![0; room_len(len)]);
-            let mut pool = Pool::set_up(&mut arena, &mut room).unwrap();
+            let (mut arena, mut room, mut totals) = buffers(len);
+            let mut pool = Pool::set_up(&mut arena, &mut room, &mut totals).unwrap();
             let mut second = Reference::set_up(len);
             let mut blocks = if share > 0.0 { fill(&mut pool, &mut second, share) } else { Vec::new() };
             // one block more than is measured, and room for the one that is granted and released
@@ -243,14 +323,14 @@ fn main() {
                 pool.release(black_box(o)).unwrap();
             });
             // the second implementation checks the tables as they are before each call
-            let before = second.tables().write();
+            let before = lent(&second);
             let o = second.grant(160).unwrap();
-            let between = second.tables().write();
+            let between = lent(&second);
             second.release(o).unwrap();
             let other = time(turns / 10 + 1, || {
-                black_box(Tables::read(len, black_box(&before)).is_some());
+                assert!(is_sound(len, &before));
                 let o = second.grant(black_box(160)).unwrap();
-                black_box(Tables::read(len, black_box(&between)).is_some());
+                assert!(is_sound(len, &between));
                 second.release(black_box(o)).unwrap();
             });
             let block = match blocks.last() {
@@ -261,12 +341,12 @@ fn main() {
                     o
                 }
             };
-            let now = second.tables().write();
+            let now = lent(&second);
             let measured = time(turns, || {
                 black_box(pool.measure(black_box(block)).unwrap());
             });
             let measured_other = time(turns / 10 + 1, || {
-                black_box(Tables::read(len, black_box(&now)).is_some());
+                assert!(is_sound(len, &now));
                 black_box(second.measure(black_box(block)).unwrap());
             });
             println!(
@@ -280,31 +360,7 @@ fn main() {
         }
     }
 
-    println!("\nthe soundness check alone (a measure of offset 1, answer 4) beside a plain read of the room");
-    println!("{:<30} {:>26} {:>26} {:>20}", "arena", "check", "plain read", "ratio of a run");
-    for kib in [4, 16, 64, 256] {
-        let len = 1024 * kib;
-        for (name, size) in [("all rows free", None), ("full of 160-byte blocks", Some(160)), ("full of 12-byte blocks", Some(12))] {
-            let (mut arena, mut room) = (vec![0; len], vec![0; room_len(len)]);
-            let mut pool = Pool::set_up(&mut arena, &mut room).unwrap();
-            if let Some(n) = size {
-                while pool.grant(n).is_ok() {}
-            }
-            let turns = 60_000 / kib + 100;
-            let bytes = pool.room().to_vec();
-            let (check, read, ratio) = time_beside(
-                turns,
-                || {
-                    black_box(pool.measure(black_box(1)).is_err());
-                },
-                || {
-                    black_box(plain_read(black_box(&bytes)));
-                },
-            );
-            println!("{:<30} {:>26} {:>26} {}", format!("{kib} KiB, {name}"), show(&check), show(&read), show_ratio(&ratio));
-        }
-    }
-
+    checks();
     lists();
     replays();
 }

@@ -1,9 +1,11 @@
-//! A safe interface of the slot pool: blocks of a lent arena of bytes, with the tables in a lent room of their own.
+//! A safe interface of the slot pool: blocks of a lent arena of bytes, with the tables in a lent room of their own and their totals in a
+//! lent record.
 //!
 //! ```
 //! let mut arena = vec![0; 8192];
 //! let mut room = vec![0; slotpool::room_len(8192)];
-//! let mut pool = slotpool::Pool::set_up(&mut arena, &mut room).unwrap();
+//! let mut totals = slotpool::Totals::default();
+//! let mut pool = slotpool::Pool::set_up(&mut arena, &mut room, &mut totals).unwrap();
 //!
 //! let block = pool.grant(160).unwrap();
 //! pool.arena_mut()[block..block + 160].fill(7);
@@ -17,13 +19,14 @@
 //! let entries = pool.grant_list(400, 160, &sizes[..planned], &mut starts).unwrap();
 //! assert_eq!(sizes[..entries], [160, 160, 80]);
 //! assert_eq!(starts[..entries], [16, 208, 4112]);
+//! assert_eq!(pool.report().unwrap().requested_bytes, 400);
 //! ```
 
 pub mod trace;
 
 use std::fmt;
 
-/// Why a call was refused. A refused call changes no byte.
+/// Why a call was refused. A refused call changes nothing that it was lent.
 #[derive(Clone, Copy, Debug, PartialEq, Eq, Hash)]
 pub enum Refusal {
     BadArena = 1,
@@ -65,7 +68,8 @@ impl fmt::Display for Refusal {
 
 impl std::error::Error for Refusal {}
 
-/// The six totals of [`Pool::report`].
+/// The totals of a pool, and the record of them that it is lent.
+#[repr(C)]
 #[derive(Clone, Copy, Debug, Default, PartialEq, Eq)]
 pub struct Totals {
     pub live_blocks: usize,
@@ -77,45 +81,66 @@ pub struct Totals {
 }
 
 mod sys {
-    extern "C" {
-        pub fn slotpool_room_len(arena_len: usize) -> usize;
-        pub fn slotpool_set_up(arena: *mut u8, arena_len: usize, room: *mut u8, room_len: usize) -> u32;
-        pub fn slotpool_grant(arena: *mut u8, arena_len: usize, room: *mut u8, room_len: usize, n: usize, value: *mut usize) -> u32;
-        pub fn slotpool_release(arena: *mut u8, arena_len: usize, room: *mut u8, room_len: usize, offset: usize) -> u32;
-        pub fn slotpool_resize(
-            arena: *mut u8,
-            arena_len: usize,
-            room: *mut u8,
-            room_len: usize,
-            offset: usize,
-            n: usize,
-            value: *mut usize,
-        ) -> u32;
-        pub fn slotpool_measure(
-            arena: *const u8,
-            arena_len: usize,
-            room: *const u8,
-            room_len: usize,
-            offset: usize,
-            value: *mut usize,
-        ) -> u32;
-        pub fn slotpool_report(arena: *const u8, arena_len: usize, room: *const u8, room_len: usize, totals: *mut usize) -> u32;
-        pub fn slotpool_check_list(length: usize, cap: usize, sizes: *const usize, sizes_len: usize) -> u32;
-        pub fn slotpool_plan_list(length: usize, cap: usize, sizes: *mut usize, value: *mut usize) -> u32;
-        pub fn slotpool_grant_list(
-            arena: *mut u8,
-            arena_len: usize,
-            room: *mut u8,
-            room_len: usize,
+    use super::Totals;
+
+    /// Declares calls on a pool, which all begin with what it is lent, to be changed or only read.
+    macro_rules! on_pool {
+        ($access:tt: $($name:ident($($argument:ident: $type:ty),*);)*) => {
+            extern "C" {
+                $(pub fn $name(
+                    arena: *$access u8,
+                    arena_len: usize,
+                    room: *$access u8,
+                    room_len: usize,
+                    totals: *$access Totals,
+                    $($argument: $type),*
+                ) -> u32;)*
+            }
+        };
+    }
+
+    on_pool! { mut:
+        slotpool_set_up();
+        slotpool_grant(n: usize, value: *mut usize);
+        slotpool_release(offset: usize);
+        slotpool_resize(offset: usize, n: usize, value: *mut usize);
+        slotpool_grant_list(
             length: usize,
             cap: usize,
             sizes: *const usize,
             sizes_len: usize,
             starts: *mut usize,
             starts_len: usize,
-            value: *mut usize,
-        ) -> u32;
+            value: *mut usize
+        );
     }
+
+    on_pool! { const:
+        slotpool_measure(offset: usize, value: *mut usize);
+        slotpool_report(out: *mut Totals);
+    }
+
+    extern "C" {
+        pub fn slotpool_room_len(arena_len: usize) -> usize;
+        pub fn slotpool_check_list(length: usize, cap: usize, sizes: *const usize, sizes_len: usize) -> u32;
+        pub fn slotpool_plan_list(length: usize, cap: usize, sizes: *mut usize, value: *mut usize) -> u32;
+    }
+}
+
+/// Makes a call on a pool with what it is lent, to be changed or only read, and with further arguments: the answer's number.
+macro_rules! call {
+    ($access:tt $pool:ident.$name:ident($($argument:expr),*)) => {
+        unsafe {
+            sys::$name(
+                (&raw $access *$pool.arena).cast(),
+                $pool.arena.len(),
+                (&raw $access *$pool.room).cast(),
+                $pool.room.len(),
+                &raw $access *$pool.totals,
+                $($argument),*
+            )
+        }
+    };
 }
 
 /// The exact size of the table room for an arena, or 0 where the arena's length is outside the rule.
@@ -148,30 +173,29 @@ pub fn plan_list(length: usize, cap: usize, sizes: &mut [usize; ENTRIES]) -> Res
     answer(number, value)
 }
 
-/// A pool over a lent arena and a lent table room.
+/// A pool over a lent arena, a lent table room and a lent record of its totals.
 pub struct Pool<'a> {
     arena: &'a mut [u8],
     room: &'a mut [u8],
+    totals: &'a mut Totals,
 }
 
 impl<'a> Pool<'a> {
-    /// Makes a pool with no blocks. The room must have [`room_len`] bytes.
-    pub fn set_up(arena: &'a mut [u8], room: &'a mut [u8]) -> Result<Pool<'a>, Refusal> {
-        let number = unsafe { sys::slotpool_set_up(arena.as_mut_ptr(), arena.len(), room.as_mut_ptr(), room.len()) };
-        answer(number, Pool { arena, room })
+    /// Makes a pool with no blocks. The room must have [`room_len`] bytes; the record is written, whatever stands in it.
+    pub fn set_up(arena: &'a mut [u8], room: &'a mut [u8], totals: &'a mut Totals) -> Result<Pool<'a>, Refusal> {
+        let pool = Pool { arena, room, totals };
+        answer(call!(mut pool.slotpool_set_up()), pool)
     }
 
-    /// A pool over buffers that hold one already, or hold anything: every call checks them.
-    pub fn over(arena: &'a mut [u8], room: &'a mut [u8]) -> Pool<'a> {
-        Pool { arena, room }
+    /// A pool over buffers and a record that hold one already, or hold anything: every call checks them.
+    pub fn over(arena: &'a mut [u8], room: &'a mut [u8], totals: &'a mut Totals) -> Pool<'a> {
+        Pool { arena, room, totals }
     }
 
     /// Grants a block of `n` zero bytes and gives its offset in the arena.
     pub fn grant(&mut self, n: usize) -> Result<usize, Refusal> {
         let mut value = 0;
-        let number = unsafe {
-            sys::slotpool_grant(self.arena.as_mut_ptr(), self.arena.len(), self.room.as_mut_ptr(), self.room.len(), n, &mut value)
-        };
+        let number = call!(mut self.slotpool_grant(n, &mut value));
         answer(number, value)
     }
 
@@ -180,77 +204,43 @@ impl<'a> Pool<'a> {
     /// than [`ENTRIES`] places; with [`Refusal::BadProposal`] if [`check_list`] says no; with [`Refusal::NoRoom`] if one of the grants
     /// would be.
     pub fn grant_list(&mut self, length: usize, cap: usize, sizes: &[usize], starts: &mut [usize]) -> Result<usize, Refusal> {
-        let Pool { arena, room } = self;
         let mut value = 0;
-        let number = unsafe {
-            sys::slotpool_grant_list(
-                arena.as_mut_ptr(),
-                arena.len(),
-                room.as_mut_ptr(),
-                room.len(),
-                length,
-                cap,
-                sizes.as_ptr(),
-                sizes.len(),
-                starts.as_mut_ptr(),
-                starts.len(),
-                &mut value,
-            )
-        };
+        let number = call!(mut self.slotpool_grant_list(
+            length,
+            cap,
+            sizes.as_ptr(),
+            sizes.len(),
+            starts.as_mut_ptr(),
+            starts.len(),
+            &mut value
+        ));
         answer(number, value)
     }
 
     /// Takes the block at an offset back.
     pub fn release(&mut self, offset: usize) -> Result<(), Refusal> {
-        let number = unsafe {
-            sys::slotpool_release(self.arena.as_mut_ptr(), self.arena.len(), self.room.as_mut_ptr(), self.room.len(), offset)
-        };
-        answer(number, ())
+        answer(call!(mut self.slotpool_release(offset)), ())
     }
 
     /// Gives the block at an offset another size, and gives its offset from then on.
     pub fn resize(&mut self, offset: usize, n: usize) -> Result<usize, Refusal> {
         let mut value = 0;
-        let number = unsafe {
-            sys::slotpool_resize(
-                self.arena.as_mut_ptr(),
-                self.arena.len(),
-                self.room.as_mut_ptr(),
-                self.room.len(),
-                offset,
-                n,
-                &mut value,
-            )
-        };
+        let number = call!(mut self.slotpool_resize(offset, n, &mut value));
         answer(number, value)
     }
 
     /// The size of the block at an offset.
     pub fn measure(&self, offset: usize) -> Result<usize, Refusal> {
         let mut value = 0;
-        let number = unsafe {
-            sys::slotpool_measure(self.arena.as_ptr(), self.arena.len(), self.room.as_ptr(), self.room.len(), offset, &mut value)
-        };
+        let number = call!(const self.slotpool_measure(offset, &mut value));
         answer(number, value)
     }
 
-    /// The totals of the pool.
+    /// The totals of the pool: the record, if it and the tables are sound.
     pub fn report(&self) -> Result<Totals, Refusal> {
-        let mut t = [0; 6];
-        let number = unsafe {
-            sys::slotpool_report(self.arena.as_ptr(), self.arena.len(), self.room.as_ptr(), self.room.len(), t.as_mut_ptr())
-        };
-        answer(
-            number,
-            Totals {
-                live_blocks: t[0],
-                requested_bytes: t[1],
-                rows_held: t[2],
-                rows_free: t[3],
-                ready_slots: t[4],
-                waiting_slots: t[5],
-            },
-        )
+        let mut out = Totals::default();
+        let number = call!(const self.slotpool_report(&mut out));
+        answer(number, out)
     }
 
     /// The arena, for reading.
@@ -266,5 +256,10 @@ impl<'a> Pool<'a> {
     /// The tables, for keeping or looking at them.
     pub fn room(&self) -> &[u8] {
         self.room
+    }
+
+    /// The record of the totals as it stands, to be kept with the tables; [`Pool::report`] checks it first.
+    pub fn totals(&self) -> &Totals {
+        self.totals
     }
 }

@@ -1,16 +1,14 @@
-//! The library beside the second implementation: answers, whole arenas, tables and totals are compared after every call.
+//! The library beside the second implementation: answers, whole arenas, tables, records and totals are compared after every call.
 
+mod any;
 mod common;
 mod random;
 
-use common::{lent, library, Answer, Both, Call, List};
+use any::{calls_on, no_store, over_any, refused, sample, set_up_over, OLD};
+use common::{Answer, Both, Buffers, Call};
 use random::{all_seen, block, kind, next_call, Engine, Numbers, Seen};
 use slotpool::{room_len, Refusal};
-use slotpool_reference::{class_of, rows_of, slot_bytes, slots_of, Reference, State, Tables, TOO_LARGE};
-use std::fmt::Arguments;
-
-/// The byte that stands in an arena before set up.
-const OLD: u8 = 0xA5;
+use slotpool_reference::{class_of, rows_of, slot_bytes, slots_of, State, Tables, TOO_LARGE};
 
 fn run(arena_len: usize, calls: &[Call]) -> Result<(), String> {
     let mut both = Both::new(arena_len, OLD);
@@ -37,11 +35,6 @@ fn fail(seed: u64, arena_len: usize, mut calls: Vec<Call>) -> ! {
     panic!("seed {seed}, arena of {arena_len} bytes: {why}\ncalls: {calls:?}");
 }
 
-/// No store: blocks stay undamaged and groups live long.
-fn no_store(_: &mut Numbers, _: &Both) -> Option<Call> {
-    None
-}
-
 /// A store into a requested byte of a live block: that damages none either.
 fn into_requested(numbers: &mut Numbers, both: &Both) -> Option<Call> {
     let (start, n) = block(numbers, both)?;
@@ -52,11 +45,11 @@ fn into_requested(numbers: &mut Numbers, both: &Both) -> Option<Call> {
 fn anywhere(numbers: &mut Numbers, both: &Both) -> Option<Call> {
     let live = both.second.live();
     let at = if live.is_empty() || numbers.one_in(6) {
-        numbers.below(both.arena.len())
+        numbers.below(both.first.arena.len())
     } else {
         let (start, n) = numbers.of(&live);
         let near = start + numbers.below(n + 24);
-        near.saturating_sub(8).min(both.arena.len() - 1)
+        near.saturating_sub(8).min(both.first.arena.len() - 1)
     };
     Some(Call::Store(at, if numbers.one_in(2) { 0 } else { numbers.next() as u8 }))
 }
@@ -158,7 +151,7 @@ fn past_the_end(both: &mut Both, start: usize, n: usize, end: usize) {
     let first = start + n;
     for at in (first..=end).filter(|at| at - first < 2 || end - at < 8) {
         let compared = at < end && (at == first || at >= guard);
-        let old = both.arena[at];
+        let old = both.first.arena[at];
         for byte in [old ^ 1, old ^ 0x80] {
             both.call(Call::Store(at, byte)).unwrap();
             let told = format_args!("a block of {n} bytes at {start}, {reserved} spare, byte {at}");
@@ -199,54 +192,17 @@ fn one_byte_past_the_end() {
     assert!(blocks.iter().all(|&k| k > 0));
 }
 
-/// A pool after a thousand random calls, and as many more as it takes to have a live block.
-fn sample(seed: u64, arena_len: usize) -> Both {
-    let mut numbers = Numbers::new(seed);
-    let mut both = Both::new(arena_len, OLD);
-    let mut made = 0;
-    while made < 1000 || both.second.live().is_empty() {
-        both.call(next_call(&mut numbers, &both, no_store)).unwrap();
-        made += 1;
+/// Buffers with the record that is due, if their tables are sound but for it.
+fn righted(mut buffers: Buffers) -> Buffers {
+    if let Some(tables) = Tables::read_alone(buffers.arena.len(), &buffers.room) {
+        buffers.totals = tables.totals();
     }
-    both
+    buffers
 }
 
-/// Every call but set up: those on a block with that block, a grant of its size, a list of two of its size, and one with everything wrong.
-fn calls_on((start, n): (usize, usize)) -> [Call; 7] {
-    let size = n.max(1);
-    let lists = [List::new(2 * size, size, &[size, size], 17), List::new(usize::MAX, 0, &[0; 18], 16)].map(Call::GrantList);
-    [Call::Release(start), Call::Grant(n), Call::Resize(start, n / 2), Call::Measure(start), Call::Report, lists[0], lists[1]]
-}
-
-/// A call that the library must refuse, with nothing changed.
-fn refused(arena: &[u8], room: &[u8], call: Call, due: Refusal, told: Arguments) {
-    let (mut a, mut r, mut l) = (arena.to_vec(), room.to_vec(), lent());
-    assert_eq!(library(&mut a, &mut r, &mut l, call), Answer::Refused(due), "{told}: {call:?}");
-    assert!(a == arena && r == room && l == lent(), "{told}: {call:?} changed something");
-}
-
-/// Makes each call over a copy of any tables. Unsound ones get answer 2 from all of them, with nothing changed; sound ones the second
-/// implementation's answers. Gives whether they are sound.
-fn over_any(arena: &[u8], room: &[u8], calls: &[Call], told: Arguments) -> bool {
-    let Some(tables) = Tables::read(arena.len(), room) else {
-        for &call in calls {
-            refused(arena, room, call, Refusal::Unsound, told);
-        }
-        return false;
-    };
-    for &call in calls {
-        let second = Reference::over(arena.to_vec(), tables.clone());
-        if let Err(why) = Both::over(arena, room, second).call(call) {
-            panic!("{told}: {why}");
-        }
-    }
-    true
-}
-
-/// Set up over any bytes of the right lengths: done, and a fresh pool.
-fn set_up_over(arena: &[u8], room: &[u8], told: Arguments) {
-    let mut both = Both::over(arena, room, Reference::set_up(arena.len()));
-    assert_eq!(both.call(Call::SetUp), Ok(Answer::Done), "{told}");
+/// A pool's buffers with tables in its room, and the record that is due beside those.
+fn saying(both: &Both, tables: &Tables) -> Buffers {
+    Buffers { room: tables.write(), totals: tables.totals(), ..both.first.clone() }
 }
 
 /// Values for a byte other than the one it has: all, or some.
@@ -258,24 +214,27 @@ fn others(byte: u8, all: bool) -> impl Iterator<Item = u8> {
 #[test]
 fn every_single_byte_change() {
     // a dozen pools and every byte of their rooms, with all other values or, in the largest, with some: each changed room meets every call
-    let (mut tried, mut sound) = (0, 0);
+    let (mut tried, mut kept, mut due) = (0, 0, 0);
     for seed in 1..=12 {
-        let both = sample(seed, [512, 1024, 1024, 2048, 4096, 8192][seed as usize % 6]);
-        let live = both.second.live();
-        let mut room = both.room.clone();
-        for at in 0..room.len() {
-            for byte in others(both.room[at], both.arena.len() < 8192) {
+        let Both { first, second, .. } = sample(seed, [512, 1024, 1024, 2048, 4096, 8192][seed as usize % 6]);
+        let live = second.live();
+        let mut changed = first.clone();
+        for at in 0..first.room.len() {
+            for byte in others(first.room[at], first.arena.len() < 8192) {
                 let told = format_args!("seed {seed}, byte {at} made {byte}");
-                room[at] = byte;
-                sound += usize::from(over_any(&both.arena, &room, &calls_on(live[tried % live.len()]), told));
-                set_up_over(&both.arena, &room, told);
+                changed.room[at] = byte;
+                let calls = calls_on(live[tried % live.len()]);
+                kept += usize::from(over_any(&changed, &calls, told));
+                let other = righted(changed.clone());
+                due += usize::from(other.totals != changed.totals && over_any(&other, &calls, told));
+                set_up_over(&changed, told);
                 tried += 1;
             }
-            room[at] = both.room[at];
+            changed.room[at] = first.room[at];
         }
     }
-    println!("{tried} rooms with one byte changed, {sound} of them sound");
-    assert!(sound > 0 && sound < tried);
+    println!("{tried} rooms with one byte changed, {kept} of them sound with the record kept, {due} with another");
+    assert!(kept > 0 && due > 0 && kept + due < tried);
 }
 
 #[test]
@@ -289,7 +248,7 @@ fn only_a_granted_slot_waits() {
             let granted = group.slots[i].last.is_some();
             let mut tables = both.second.tables();
             tables.groups[g].slots[i].state = State::Waiting;
-            let sound = over_any(&both.arena, &tables.write(), &calls, format_args!("group {g}, slot {i}"));
+            let sound = over_any(&saying(&both, &tables), &calls, format_args!("group {g}, slot {i}"));
             assert_eq!(sound, granted, "group {g}, slot {i}");
             moved[usize::from(granted)] += 1;
         }
@@ -306,7 +265,7 @@ fn no_live_size_is_131052() {
     for n in [TOO_LARGE - 2, TOO_LARGE - 1, TOO_LARGE] {
         let mut tables = both.second.tables();
         tables.groups[0].slots[0].size = n;
-        let sound = over_any(&both.arena, &tables.write(), &calls_on((16, n)), format_args!("size {n}"));
+        let sound = over_any(&saying(&both, &tables), &calls_on((16, n)), format_args!("size {n}"));
         assert_eq!(sound, n < TOO_LARGE, "size {n}");
     }
 }
@@ -315,17 +274,18 @@ fn no_live_size_is_131052() {
 fn other_lengths_are_unsound() {
     let both = sample(5, 4096);
     let calls = calls_on(both.second.live()[0]);
+    let (arena_len, right) = (both.first.arena.len(), both.first.room.len());
     for len in (0..=513).flat_map(|rows| [512 * rows, 512 * rows + 1, 512 * rows + 511]) {
-        let mut arena = both.arena.clone();
-        arena.resize(len, 0);
-        let sound = over_any(&arena, &both.room, &calls, format_args!("arena of {len} bytes"));
-        assert_eq!(sound, len == both.arena.len(), "arena of {len} bytes");
+        let mut changed = both.first.clone();
+        changed.arena.resize(len, 0);
+        let sound = over_any(&changed, &calls, format_args!("arena of {len} bytes"));
+        assert_eq!(sound, len == arena_len, "arena of {len} bytes");
     }
-    for len in 0..=2 * both.room.len() {
-        let mut room = both.room.clone();
-        room.resize(len, 0);
-        let sound = over_any(&both.arena, &room, &calls, format_args!("room of {len} bytes"));
-        assert_eq!(sound, len == both.room.len(), "room of {len} bytes");
+    for len in 0..=2 * right {
+        let mut changed = both.first.clone();
+        changed.room.resize(len, 0);
+        let sound = over_any(&changed, &calls, format_args!("room of {len} bytes"));
+        assert_eq!(sound, len == right, "room of {len} bytes");
     }
 }
 
@@ -333,40 +293,47 @@ fn other_lengths_are_unsound() {
 fn random_rooms() {
     let mut numbers = Numbers::new(77);
     let pools: Vec<Both> = (0..50).map(|seed| sample(seed, 4096)).collect();
-    let zeros = vec![0; room_len(4096)];
-    assert!(!over_any(&pools[0].arena, &zeros, &calls_on((16, 20)), format_args!("a room of zeros")));
-    let (tried, mut sound) = (3000, 0);
+    let zeros = Buffers { room: vec![0; room_len(4096)], ..pools[0].first.clone() };
+    assert!(!over_any(&zeros, &calls_on((16, 20)), format_args!("a room of zeros")));
+    let (tried, mut sound) = (3000, [0, 0]);
     for i in 0..tried {
-        // random bytes, or the room of a pool with up to three bytes changed, often beside the arena of another
-        let (arena, of) = (&pools[numbers.below(50)].arena, &pools[numbers.below(50)]);
-        let mut room = of.room.clone();
+        // random bytes, or the room of a pool with up to three bytes changed, often beside the arena or the record of another
+        let (arena, of, record) = (numbers.below(50), &pools[numbers.below(50)], numbers.below(50));
+        let mut changed = Buffers { arena: pools[arena].first.arena.clone(), ..of.first.clone() };
         if numbers.one_in(4) {
-            room.fill_with(|| numbers.next() as u8);
+            changed.room.fill_with(|| numbers.next() as u8);
         }
         for _ in 0..numbers.below(4) {
-            let at = numbers.below(room.len());
-            room[at] = numbers.next() as u8;
+            let at = numbers.below(changed.room.len());
+            changed.room[at] = numbers.next() as u8;
         }
         let told = format_args!("room {i}");
-        sound += usize::from(over_any(arena, &room, &calls_on(numbers.of(&of.second.live())), told));
-        set_up_over(arena, &room, told);
+        let calls = calls_on(numbers.of(&of.second.live()));
+        sound[0] += usize::from(over_any(&righted(changed.clone()), &calls, told));
+        if numbers.one_in(2) {
+            changed.totals = pools[record].first.totals;
+        }
+        sound[1] += usize::from(over_any(&changed, &calls, told));
+        set_up_over(&changed, told);
     }
-    println!("{tried} rooms, {sound} of them sound");
-    assert!(sound > 0 && sound < tried);
+    println!("{tried} rooms, {} of them sound with the record due, {} with another or the same", sound[0], sound[1]);
+    assert!(0 < sound[1] && sound[1] < sound[0] && sound[0] < tried);
 }
 
 #[test]
 fn set_up_refuses_other_sizes() {
     for arena_len in [0, 1, 511, 513, 262_145, 262_656, 1_000_000] {
         assert_eq!(room_len(arena_len), 0);
-        refused(&vec![3; arena_len], &[4; 280], Call::SetUp, Refusal::BadArena, format_args!("arena of {arena_len} bytes"));
+        let buffers = Buffers { room: vec![4; 280], ..Buffers::old(arena_len, 3) };
+        refused(&buffers, Call::SetUp, Refusal::BadArena, format_args!("arena of {arena_len} bytes"));
     }
     for rows in 1..=512 {
         let right = 16 + 264 * rows;
-        assert_eq!(room_len(512 * rows), right);
+        let mut buffers = Buffers::old(512 * rows, 3);
+        assert_eq!(buffers.room.len(), right);
         for other in [0, right - 1, right + 1] {
-            let told = format_args!("{rows} rows, room of {other} bytes");
-            refused(&vec![3; 512 * rows], &vec![4; other], Call::SetUp, Refusal::BadArena, told);
+            buffers.room.resize(other, 4);
+            refused(&buffers, Call::SetUp, Refusal::BadArena, format_args!("{rows} rows, room of {other} bytes"));
         }
     }
 }

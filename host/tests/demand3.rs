@@ -1,4 +1,4 @@
-//! Demand 3, run: one list of calls, twice, from fresh pools that were set up over different old bytes, with different stores of the engine
+//! Demand 3, run: one list of calls, twice, from fresh pools that were set up over different old bytes and records, with different stores of the engine
 //! into requested bytes of live blocks. After every call the two runs agree in all but those bytes.
 
 mod common;
@@ -40,7 +40,7 @@ impl Run {
             return Err(format!("{call:?}: {answer:?}, which is never due here"));
         }
         for (from, to) in self.gained(&live, call, answer) {
-            if self.both.arena[from..to].iter().any(|&b| b != 0) {
+            if self.both.first.arena[from..to].iter().any(|&b| b != 0) {
                 return Err(format!("{call:?}: {answer:?}: not all gained bytes {from} to {to} are zero"));
             }
         }
@@ -64,7 +64,7 @@ impl Run {
 
     /// The arena with zero for the requested bytes of live blocks.
     fn outside(&self) -> Vec<u8> {
-        let mut bytes = self.both.arena.clone();
+        let mut bytes = self.both.first.arena.clone();
         for (start, n) in self.both.second.live() {
             bytes[start..start + n].fill(0);
         }
@@ -81,8 +81,11 @@ fn step([one, other]: &mut [Run; 2], call: Call) -> Result<Answer, String> {
     if one.both.lent != other.both.lent {
         return Err(format!("{call:?}: the lent lists of the runs differ"));
     }
-    if one.both.room != other.both.room {
+    if one.both.first.room != other.both.first.room {
         return Err(format!("{call:?}: the tables of the runs differ"));
+    }
+    if one.both.first.totals != other.both.first.totals {
+        return Err(format!("{call:?}: the records of the runs differ"));
     }
     if let Some(at) = one.outside().iter().zip(&other.outside()).position(|(a, b)| a != b) {
         return Err(format!("{call:?}: byte {at}, which no live block has requested, differs in the runs"));
@@ -101,7 +104,7 @@ fn twice(seed: u64, arena_len: usize, calls: usize, seen: &mut Seen) -> usize {
             Ok(answer) => *seen.entry(kind(call, &answer)).or_default() += 1,
             Err(why) => panic!("seed {seed}, arena of {arena_len} bytes, after {made} calls: {why}"),
         }
-        different += usize::from(runs[0].both.arena != runs[1].both.arena);
+        different += usize::from(runs[0].both.first.arena != runs[1].both.first.arena);
     }
     different
 }

@@ -117,15 +117,13 @@ fn last_requested(numbers: &mut Numbers, both: &Both) -> Option<Call> {
 
 /// Makes a list call on a pool, and the grants of its sizes one after another on a copy. Gives the answer, and how many grants were done.
 fn beside_its_grants(both: &mut Both, list: List) -> Result<(Answer, usize), String> {
-    let (mut arena, mut room) = (both.arena.clone(), both.room.clone());
-    let mut pool = Pool::over(&mut arena, &mut room);
+    let mut copy = both.first.clone();
+    let mut pool = Pool::over(&mut copy.arena, &mut copy.room, &mut copy.totals);
     let mut starts = Vec::new();
     let refusal = list.sizes().iter().find_map(|&n| pool.grant(n).map(|start| starts.push(start)).err());
     let answer = both.call(Call::GrantList(list))?;
     let right = match answer {
-        Answer::Value(entries) => {
-            refusal.is_none() && entries == starts.len() && starts == both.lent[0][..entries] && arena == both.arena && room == both.room
-        }
+        Answer::Value(entries) => refusal.is_none() && entries == starts.len() && starts == both.lent[0][..entries] && copy == both.first,
         Answer::Refused(Refusal::NoRoom) => refusal == Some(Refusal::NoRoom),
         _ => matches!(answer, Answer::Refused(Refusal::TooLong | Refusal::BadProposal)),
     };

@@ -1,5 +1,5 @@
 /* Every refusal of every call, through the C functions: its number, the value 0 (from report, six zeros), and no byte changed, nor a
- * place of a lent list. */
+ * number of the record, nor a place of a lent list. */
 #include <stdio.h>
 #include <stdlib.h>
 #include <string.h>
@@ -55,21 +55,33 @@ static const struct list {
     {8, SIZE + MOST + MOST + 1, MOST + 1, 40, 3, {SIZE, MOST, MOST + 1}},
 };
 
+/* A record, and its numbers. */
+union record {
+    slotpool_totals totals;
+    size_t numbers[6];
+};
+
 static struct {
     uint8_t arena[ARENA], room[ARENA];
+    union record record;
     size_t starts[40], sizes[17];
 } pool, before;
 
 static size_t arena_len, room_len, offset, n;
 static const struct list *list;
-#define LENT pool.arena, arena_len, pool.room, room_len
+#define LENT pool.arena, arena_len, pool.room, room_len, &pool.record.totals
 
-/* What a call gives back beside its number; all of it is PATTERN before the call. */
-static size_t given[6];
+/* What a call gives back beside its number: its value, or report's totals. All numbers are PATTERN before the call. */
+static union record given;
+#define VALUE &given.numbers[0]
 enum { PATTERN = 0x5A5A };
 
 static enum call call;
 static uint32_t due;
+
+/* Why 2 is due: by the tables, or by a number of the record that is one too large, or one too small. */
+static unsigned cause;
+enum { BY_TABLES, CAUSES = 1 + 6 + 6 };
 
 static void check(int holds, int line, const char *what)
 {
@@ -78,6 +90,8 @@ static void check(int holds, int line, const char *what)
     printf("%s:%d: %s, answer %u due", __FILE__, line, names[call], (unsigned)due);
     if (call >= GRANT_LIST)
         printf(", list %d", (int)(list - lists));
+    if (due == SLOTPOOL_UNSOUND)
+        printf(", cause %u", cause);
     printf(": it is not so that %s\n", what);
     exit(1);
 }
@@ -90,8 +104,8 @@ static void arrange(void)
     arena_len = ARENA;
     room_len = slotpool_room_len(ARENA);
     CHECK(slotpool_set_up(LENT) == SLOTPOOL_DONE);
-    CHECK(slotpool_grant(LENT, SIZE, given) == SLOTPOOL_DONE && given[0] == FREED);
-    CHECK(slotpool_grant(LENT, SIZE, given) == SLOTPOOL_DONE && given[0] == LIVE);
+    CHECK(slotpool_grant(LENT, SIZE, VALUE) == SLOTPOOL_DONE && *VALUE == FREED);
+    CHECK(slotpool_grant(LENT, SIZE, VALUE) == SLOTPOOL_DONE && *VALUE == LIVE);
     CHECK(slotpool_release(LENT, FREED) == SLOTPOOL_DONE);
     offset = LIVE;
     n = SIZE;
@@ -100,7 +114,10 @@ static void arrange(void)
         arena_len--;
         break;
     case SLOTPOOL_UNSOUND:
-        pool.room[room_len - 1] = 1;
+        if (cause == BY_TABLES)
+            pool.room[room_len - 1] = 1;
+        else
+            pool.record.numbers[(cause - 1) % 6] += cause <= 6 ? 1 : SIZE_MAX;
         break;
     case SLOTPOOL_TOO_LARGE:
         n = 131052;
@@ -131,41 +148,50 @@ static size_t make(uint32_t *answer)
         *answer = slotpool_set_up(LENT);
         return 0;
     case GRANT:
-        *answer = slotpool_grant(LENT, n, given);
+        *answer = slotpool_grant(LENT, n, VALUE);
         return 1;
     case RELEASE:
         *answer = slotpool_release(LENT, offset);
         return 0;
     case RESIZE:
-        *answer = slotpool_resize(LENT, offset, n, given);
+        *answer = slotpool_resize(LENT, offset, n, VALUE);
         return 1;
     case MEASURE:
-        *answer = slotpool_measure(LENT, offset, given);
+        *answer = slotpool_measure(LENT, offset, VALUE);
         return 1;
     case GRANT_LIST:
-        *answer = slotpool_grant_list(LENT, list->length, list->cap, list->sizes, list->count, pool.starts, list->places, given);
+        *answer = slotpool_grant_list(LENT, list->length, list->cap, list->sizes, list->count, pool.starts, list->places, VALUE);
         return 1;
     case PLAN_LIST:
-        *answer = slotpool_plan_list(list->length, list->cap, pool.sizes, given);
+        *answer = slotpool_plan_list(list->length, list->cap, pool.sizes, VALUE);
         return 1;
     default:
-        *answer = slotpool_report(LENT, given);
+        *answer = slotpool_report(LENT, &given.totals);
         return 6;
     }
 }
 
-static void refuse(void)
+static void refuse_once(void)
 {
     arrange();
     before = pool;
     for (size_t i = 0; i < 6; i++)
-        given[i] = PATTERN;
+        given.numbers[i] = PATTERN;
     uint32_t answer;
     size_t values = make(&answer);
     CHECK(answer == due);
     for (size_t i = 0; i < 6; i++)
-        CHECK(given[i] == (i < values ? 0 : PATTERN));
+        CHECK(given.numbers[i] == (i < values ? 0 : PATTERN));
     CHECK(memcmp(&pool, &before, sizeof pool) == 0);
+}
+
+/* A refusal, by every cause; gives how many those are. */
+static unsigned refuse(void)
+{
+    unsigned causes = due == SLOTPOOL_UNSOUND ? CAUSES : 1;
+    for (cause = 0; cause < causes; cause++)
+        refuse_once();
+    return causes;
 }
 
 /* A list, and its plan where the planner refuses it, too. 17 is due exactly if the check refuses. */
@@ -173,27 +199,26 @@ static unsigned refuse_list(void)
 {
     due = list->due;
     call = GRANT_LIST;
-    refuse();
+    unsigned seen = refuse();
     uint32_t accepted = slotpool_check_list(list->length, list->cap, list->sizes, list->count);
     CHECK(accepted == 0 || accepted == 1);
     CHECK(accepted ? due != SLOTPOOL_BAD_PROPOSAL : due != SLOTPOOL_NO_ROOM);
     if (due != SLOTPOOL_TOO_LONG || list->places < SLOTPOOL_ENTRIES)
-        return 1;
+        return seen;
     call = PLAN_LIST;
-    refuse();
-    return 2;
+    return seen + refuse();
 }
 
 int main(void)
 {
     unsigned seen = 0;
     for (call = SET_UP; call <= REPORT; call++)
-        for (const char *digit = refusals[call]; *digit; digit++, seen++) {
+        for (const char *digit = refusals[call]; *digit; digit++) {
             due = (uint32_t)(*digit - '0');
-            refuse();
+            seen += refuse();
         }
     for (list = lists; list < lists + sizeof lists / sizeof *lists; list++)
         seen += refuse_list();
-    printf("%u refusals, each with its number, the value 0 and no byte changed\n", seen);
+    printf("%u refusals, each with its number, the value 0 and nothing changed\n", seen);
     return 0;
 }

@@ -24,10 +24,10 @@ fn due<const N: usize>(both: &mut Both, calls: [(Call, Answer); N]) {
 fn w1_and_w2() {
     let mut both = fresh(512);
     due(&mut both, [(Grant(0), Value(16))]);
-    assert_eq!(both.arena[12..16], [0, 160, 0, 0]);
-    assert_eq!(both.arena[24..28], [12, 0, 0, 0]);
+    assert_eq!(both.first.arena[12..16], [0, 160, 0, 0]);
+    assert_eq!(both.first.arena[24..28], [12, 0, 0, 0]);
     due(&mut both, [(Grant(12), Value(32))]);
-    assert_eq!(both.arena[28..32], [0, 1, 1, 0]);
+    assert_eq!(both.first.arena[28..32], [0, 1, 1, 0]);
 }
 
 #[test]
@@ -39,7 +39,7 @@ fn w3() {
 fn w4() {
     let mut both = fresh(131_072);
     due(&mut both, [(Grant(131_051), Value(16))]);
-    assert_eq!(both.arena[12..16], [0, 32, 0, 0]);
+    assert_eq!(both.first.arena[12..16], [0, 32, 0, 0]);
 }
 
 #[test]
@@ -111,8 +111,8 @@ fn w8_and_w9() {
         due(&mut both, [(Grant(160), Value(16 + 192 * i))]);
     }
     due(&mut both, [(Release(16), Done), (Grant(160), Value(32))]);
-    assert_eq!(both.arena[28..32], [0, 160, 1, 0]);
-    assert_eq!(both.arena[200..204], [12, 0, 0, 0]);
+    assert_eq!(both.first.arena[28..32], [0, 160, 1, 0]);
+    assert_eq!(both.first.arena[200..204], [12, 0, 0, 0]);
     due(&mut both, [(Release(16), Refused(Refusal::NoSuchBlock))]);
 }
 
@@ -164,17 +164,17 @@ fn offset_0_is_never_a_start() {
 fn a_resize_in_place_keeps_the_first_bytes() {
     let mut both = fresh(4096);
     due(&mut both, [(Grant(160), Value(16)), (Store(16, 7), Done), (Store(175, 9), Done), (Resize(16, 188), Value(16))]);
-    assert_eq!((both.arena[16], both.arena[175], both.arena[176]), (7, 9, 0));
+    assert_eq!((both.first.arena[16], both.first.arena[175], both.first.arena[176]), (7, 9, 0));
     due(&mut both, [(Store(156, 5), Done), (Store(157, 6), Done), (Resize(16, 141), Value(16))]);
-    assert_eq!((both.arena[16], both.arena[156], both.arena[157]), (7, 5, 0));
+    assert_eq!((both.first.arena[16], both.first.arena[156], both.first.arena[157]), (7, 5, 0));
 }
 
 #[test]
 fn a_move_copies_the_first_bytes() {
     let mut both = fresh(8192);
     due(&mut both, [(Grant(160), Value(16)), (Store(16, 7), Done), (Store(175, 9), Done), (Resize(16, 189), Value(4112))]);
-    assert_eq!((both.arena[4112], both.arena[4271], both.arena[4272]), (7, 9, 0));
-    assert!(both.arena[..4096].iter().all(|&b| b == 0), "the old group is gone");
+    assert_eq!((both.first.arena[4112], both.first.arena[4271], both.first.arena[4272]), (7, 9, 0));
+    assert!(both.first.arena[..4096].iter().all(|&b| b == 0), "the old group is gone");
 }
 
 #[test]

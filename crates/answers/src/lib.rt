@@ -1,10 +1,11 @@
 // The number of a refusal, and number and values of each answer.
 ghost use mathlib.Core.Path.{_≡_};
 ghost use lib.ListN.{getD};
-ghost use Rattle.model.specs.Answers.{numberOf, replyAnswer, reportAnswer};
+ghost use Rattle.model.specs.Answers.{numberOf, listed, replyAnswer, reportAnswer};
 use model::Refusal;
 use model::Reply;
 use model::Report;
+use model::Totals;
 
 fn refusal_number(r: Refusal) -> u32
     ensures { λ k. ⌜ k ≡ numberOf r ⌝ }
@@ -56,5 +57,21 @@ pub fn report_values(r: Report) -> [usize; 6]
     match r {
         Report::Counted(t) => [t.blocks, t.bytes, t.held, t.free, t.ready, t.waiting],
         Report::Refused(_) => [0, 0, 0, 0, 0, 0],
+    }
+}
+
+pub fn report_totals(r: Report) -> Totals
+    ensures { λ t. ⌜ listed t ≡ reportAnswer r .values ⌝ }
+{
+    match r {
+        Report::Counted(t) => t,
+        Report::Refused(_) => Totals {
+            blocks: 0,
+            bytes: 0,
+            held: 0,
+            free: 0,
+            ready: 0,
+            waiting: 0,
+        },
     }
 }

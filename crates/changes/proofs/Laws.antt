@@ -11,7 +11,7 @@ use Rattle.mem.proofs.Masks.{mask-below, mask-zero, mask-pos, lowest-first}
 use Rattle.classes.specs.Classes.{slotsOf, rowsOf}
 use Rattle.classes.proofs.Laws.{slots-small}
 use Rattle.masks.specs.declared.Masks.{Masks}
-use Rattle.masks.specs.Sets.{refilled, lowest, taken, givenBack}
+use Rattle.masks.specs.Sets.{refilled, toRefill, lowest, taken, givenBack}
 use Rattle.model.specs.declared.Alloc.{Alloc}
 use Rattle.model.specs.declared.Slot.{Slot}
 use Rattle.model.specs.declared.Slot.the-variants.{Fresh, Idle, Live}
@@ -21,6 +21,7 @@ use Rattle.model.specs.Plans.{Site, turnReady, refill, grantSlot, grantIn, vaca
 use Rattle.model.proofs.Tables.{masks-laws, encode-length}
 use Rattle.model.proofs.Rooms.{rows-append, encode-from}
 use Rattle.model.proofs.Lookup.{Fits, fits}
+use Rattle.model.proofs.Counts.{mask-ones, three-sets}
 use Rattle.model.proofs.Formed.{any-middle}
 use Rattle.model.proofs.Reserve as reserve
 use Rattle.rows.specs.declared.Block.{Block}
@@ -28,7 +29,9 @@ use Rattle.rows.specs.Rows.{blockOf, Holds, Offers}
 use Rattle.rows.proofs.Rooms.{group-first}
 use Rattle.rows.proofs.Spans.{dropped-encode}
 use Rattle.records.specs.Records.{masksIn, slotIn, stored}
-use Rattle.records.proofs.Laws.{masksOf, mask-ones, three-sets, stored-encode, masks-read-span, slot-read-as, refill-records}
+use Rattle.records.proofs.Laws.{masksOf, stored-encode, masks-read-span, slot-read-as, refill-records}
+use Rattle.totals.specs.Changes.{refills}
+use Rattle.changes.specs.declared.Left.{Left}
 use Rattle.changes.specs.declared.Left.the-variants.{Kept, Dropped}
 use Rattle.changes.specs.Changes.{leftAs, resized}
 
@@ -110,6 +113,15 @@ masks-refilled ss =
     go true e = refl
     go false e = same-masks (sym (turned-ready ss e)) (sym (turned-waiting ss))
 
+to-refill : (ss : List Slot) → toRefill (masksOf ss) ≡ refills ss
+unfolding toRefill refills choose
+to-refill ss =
+    ap₂ (λ b k. choose b k 0) (mask-zero (map isReady ss) ∙ ap not (any-map (λ b. b) isReady ss)) (mask-ones isWaiting ss) ∙ go (any isReady ss)
+  where
+    go : (b : Bool) → choose (not b) (sum (λ x. bit (isWaiting x)) ss) 0 ≡ choose b 0 (sum (λ x. bit (isWaiting x)) ss)
+    go true = refl
+    go false = refl
+
 first-map : (f : Slot → Bool) (ss : List Slot) → first (λ b. b) (map f ss) ≡ first f ss
 first-map f [] = refl
 first-map f (x ∷ ss) = ap (λ k. choose (f x) 0 (suc k)) (first-map f ss)
@@ -157,6 +169,9 @@ module _ (row i c n : ℕ) (g : Site) (t : List ℕ) (o : Offers byMasks row t i
 
   masks-site : refilled (masksIn here) ≡ masksOf (refill (g .slots))
   masks-site = ap (λ l. refilled (masksIn l)) from ∙ ap refilled (masks-read-span row c (g .slots) (g .after) few) ∙ masks-refilled (g .slots)
+
+  refill-site : toRefill (masksIn here) ≡ refills (g .slots)
+  refill-site = ap (λ l. toRefill (masksIn l)) from ∙ ap toRefill (masks-read-span row c (g .slots) (g .after) few) ∙ to-refill (g .slots)
 
   lowest-site : lowest (masksOf (refill (g .slots))) ≡ slotNumber q
   lowest-site =
@@ -215,6 +230,11 @@ module _ (i c n : ℕ) (t : List ℕ) (m₀ m : Masks) (e₀ : m₀ ≡ masksIn 
         rw f (mask-pos (map isReady (refill (g .slots))) (rw (any-map (λ b. b) isReady (refill (g .slots))) r)),
         rw f (omega (arith, lowest-site row i c n g t o, inside row i c n g t o, few row i c n g t o, reserve.refill-length (g .slots))),
       )
+
+  -- as many as become ready first
+  pub refilled-site : (row : ℕ) (g : Site) → Offers byMasks row t i c g → toRefill m₀ ≡ refills (g .slots)
+  unfolding here
+  refilled-site row g o = ap toRefill e₀ ∙ refill-site row i c n g t o
 
   -- the taken slot
   pub taken-slot : (row : ℕ) (g : Site) → Offers byMasks row t i c g → (j : ℕ) (x₀ : Slot) (a : Alloc) (m′ : Masks) (u : List ℕ) → j ≡ lowest m
@@ -315,11 +335,13 @@ module _ (row : ℕ) (t : List ℕ) (b : Block) (p : Place) (h : Holds byMasks r
       module _ (k : ℕ) (d : k ≡ slotsOf (b .class) - (ones (m .ready) + ones (m .waiting))) (u : List ℕ) where
         -- the group goes
         pub given-last : k ≡ 0 → (r : ℕ) → r ≡ rowsOf row (b .class) → u ≡ put (rowAt (b .first)) (zeros (rowRecordBytes * r)) t
-            → (Dropped ≡ leftAs p) × (u ≡ encode row (releaseAt row p .pool))
+            → (Dropped (ones (m₀ .ready)) (ones (m₀ .waiting)) ≡ leftAs p) × (u ≡ encode row (releaseAt row p .pool))
         unfolding releaseAt choose
         given-last z r er eu =
             let a : any isLive (p .lower ++ p .upper) ≡ false = not-true (any isLive (p .lower ++ p .upper)) (sym (none-left k d) ∙ eq-eqb k 0 z) in (
-              rw a,
+              rw a
+                  (ap₂ {C = Left} Dropped (ap (λ m. ones (m .ready)) (e₀ ∙ masks-group) ∙ mask-ones isReady held)
+                  (ap (λ m. ones (m .waiting)) (e₀ ∙ masks-group) ∙ mask-ones isWaiting held)),
               eu ∙ rw (er, class, first-row, h .bytes, a)
                   (dropped-encode masks-laws row (h .pos) (p .before) (p .cls) held (p .after) (f .before) (omega (arith, f .slots, slots-small (p .cls)))),
             )

@@ -8,15 +8,22 @@ ghost use Rattle.model.specs.State.{Place, count, poolOf, become};
 ghost use Rattle.model.specs.Plans.{Site, grantSlot, grantIn, releaseAt};
 ghost use Rattle.model.specs.Tables.{byMasks, encode};
 ghost use Rattle.rows.specs.Rows.{blockOf, Holds, Offers};
+ghost use Rattle.totals.specs.Changes.{refills};
 ghost use Rattle.changes.specs.Changes.{leftAs, resized};
 use model::Alloc;
 use model::Slot;
 use rows::Block;
 
-// What is left where a slot was given back: its group, or free rows.
+// The block of a slot that was taken, and how many waiting slots became ready first.
+pub struct Taken {
+    pub block: Block,
+    pub refilled: usize,
+}
+
+// What is left where a slot was given back: its group, or free rows, with the slots of the group that were ready and waiting.
 pub enum Left {
     Kept,
-    Dropped,
+    Dropped { ready: usize, waiting: usize },
 }
 
 fn count_of(x: Slot) -> u8
@@ -48,21 +55,26 @@ fn grant_slot(c: usize, n: usize, x: Slot) -> Alloc
 }
 
 // Takes the lowest ready slot of the group of class c at row i, for n bytes. If none is ready, all waiting slots become ready first.
-pub fn take_slot(room: &mut [u8], i: usize, c: usize, n: usize) -> Block
+pub fn take_slot(room: &mut [u8], i: usize, c: usize, n: usize) -> Taken
     requires { ⌜ ((row : ℕ) × (g : Site) × Offers byMasks row (now room) i c g) ⌝ }
     requires { ⌜ n + 4 ≤ slotBytes c ⌝ }
     ensures { λ r. ⌜ ((row : ℕ) (g : Site) → Offers byMasks row (now (room .entry)) i c g
-        → (r ≡ blockOf row (grantIn c n g)) × (now (room .exit) ≡ encode row (poolOf (grantIn c n g)))) ⌝ }
+        → (r .block ≡ blockOf row (grantIn c n g)) × (now (room .exit) ≡ encode row (poolOf (grantIn c n g)))
+        × (r .refilled ≡ refills (g .slots))) ⌝ }
 {
-    let m = records::masks_at(room, i).refill();
+    let old = records::masks_at(room, i);
+    let m = old.refill();
     let j = m.lowest();
     let a = grant_slot(c, n, records::slot_at(room, i, m, j));
     records::store(room, i, m.take(), j as usize, Slot::Live(a));
-    Block {
-        first: i,
-        class: c,
-        slot: j as usize,
-        alloc: a,
+    Taken {
+        block: Block {
+            first: i,
+            class: c,
+            slot: j as usize,
+            alloc: a,
+        },
+        refilled: old.to_refill() as usize,
     }
 }
 
@@ -75,10 +87,14 @@ pub fn give_slot(row: usize, room: &mut [u8], b: Block) -> Left
 {
     let i = b.first;
     let c = b.class;
-    let m = records::masks_at(room, i).give_back(b.slot as u32);
+    let old = records::masks_at(room, i);
+    let m = old.give_back(b.slot as u32);
     if m.live(classes::slots(c) as u32) == 0 {
         rows::drop_rows(room, i, classes::rows(row, c));
-        return Left::Dropped;
+        return Left::Dropped {
+            ready: u32::count_ones(old.ready) as usize,
+            waiting: u32::count_ones(old.waiting) as usize,
+        };
     }
     records::store(
         room,

@@ -9,8 +9,9 @@ use Rattle.model.specs.Plans.{freshPool}
 use Rattle.model.specs.Tables.{byMasks}
 use Rattle.model.specs.Calls.{Form, Outcome, Stands, FormLaws, callBy, setUpBy, setUpRightBy}
 use Rattle.model.proofs.Tables.{masks-laws}
-use Rattle.model.proofs.Forms.{layout-lawful, step, inRoom, call-step, Standing, step-stands, fresh-stands}
-use Rattle.claims.specs.Alike.{Store, stored, Round, Seen, seen, FormsAlike, FirstLawful, StoresAnywhere}
+use Rattle.model.proofs.Kept.{layout-lawful, engine-lawful}
+use Rattle.model.proofs.Forms.{step, inRoom, call-step, Standing, step-stands, fresh-stands}
+use Rattle.claims.specs.Alike.{Store, stored, Round, Seen, seen, FormsAlike, FirstLawful, MaskedLawful, StoresAnywhere}
 
 stored-length : (a : List ℕ) (ss : List Store) → length (stored a ss) ≡ length a
 stored-length a [] = refl
@@ -58,4 +59,7 @@ module _ (row : ℕ) (pos : 0 < row) where
       set-up-watched F L a t us h ∙ ap (λ n. watched (zeros n) (freshPool (n / row)) us) e ∙ sym (set-up-watched G M b v us k)
 
   pub first-lawful : FirstLawful row
-  first-lawful = layout-lawful byMasks masks-laws row pos
+  first-lawful = engine-lawful row pos
+
+  pub masked-lawful : MaskedLawful row
+  masked-lawful = layout-lawful byMasks masks-laws row pos

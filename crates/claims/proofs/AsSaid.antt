@@ -6,12 +6,13 @@ use Rattle.mem.specs.Bytes.{zeros, put}
 use Rattle.mem.proofs.Tests.{T-true, true-T, every-not, choose-case}
 use Rattle.mem.proofs.Laws.{put-all, put-length, put-before, put-past, zeros-length, zeros-put}
 use Rattle.model.specs.State.{Pool, Place, isLive, wellFormed, poolOf}
+use Rattle.model.specs.Answers.{done, listed}
 use Rattle.model.specs.Plans.{freshPool, Plan, releases, reports, plan, lookup, onBlock, releaseAt, release, report}
-use Rattle.model.specs.Tables.{sound, byMasks, view}
-use Rattle.model.specs.Calls.{callBy, setUpRight, Result, masked, applied, written, call}
-use Rattle.model.proofs.Tables.{masks-laws, sound-facts, view-encode}
+use Rattle.model.specs.Tables.{view}
+use Rattle.model.specs.Calls.{callBy, setUpRight, Result, engine, soundKept, applied, written, call}
+use Rattle.model.proofs.Kept.{engine-lawful, kept-totals}
 use Rattle.model.proofs.Formed.{release-formed}
-use Rattle.model.proofs.Fresh.{fresh-formed, set-up-done}
+use Rattle.model.proofs.Fresh.{fresh-formed, fresh-totals, set-up-done}
 use Rattle.model.proofs.Calls.{call-sound, carried-whole, on-live, measure-keeps, report-keeps}
 use Rattle.claims.specs.Demand2 as demand2
 use Rattle.claims.specs.AsSaid.{MadeFresh, SetsUpAsSaid, ReportsAsSaid, ZeroedOnly, NeverAtZero, ReadsOnly, Waits, Goes, ReleasesAsSaid}
@@ -38,8 +39,9 @@ sets-up-as-said row pos a t z =
     let n : ℕ = length a / row in
     subst (MadeFresh row a) (sym (set-up-done row a t h)) (record {
       value = refl;
-      pool = view-encode masks-laws row pos (freshPool n) (fresh-formed n);
+      pool = engine-lawful row pos .says (freshPool n) (fresh-formed n);
       bytes = zeroed a (zeros (length a)) 0 (length a) (sym (put-all (zeros (length a)) a (zeros-length (length a))));
+      kept = fresh-totals row n;
     })
 
 -- ---- measure and report
@@ -53,22 +55,23 @@ reads-only row pos = record {
 pub reports-as-said : (row : ℕ) → ReportsAsSaid row
 unfolding plan report
 reports-as-said row a t s =
-    ap (λ (r : Result). r .answer)
-    (call-sound row a t (T-true (sound row (length a) t) s) reports tt ∙ carried-whole row a t (report row (view row t)) refl)
+    let h = T-true (soundKept row (length a) t) s in
+    let e = ap (λ (r : Result). r .answer) (call-sound row a t h reports tt ∙ carried-whole row a t (report row (view row (t .tables))) refl) in
+    (e, e ∙ ap (λ z. done (listed z)) (sym (kept-totals row (length a) t h)))
 
 -- ---- release
 
 module _ (row : ℕ) (pos : 0 < row) (a : List ℕ) (p : Place) (w : T (wellFormed (poolOf p))) (l : T (isLive (p .state))) (r : Result)
-    (done : r ≡ applied (masked row) a (releaseAt row p)) where
+    (done : r ≡ applied (engine row) a (releaseAt row p)) where
   -- what the plan of a live block's release leaves
   pub released-as-said : Waits row a p r ⊎ Goes row a p r
   unfolding releaseAt
   released-as-said =
-      choose-case (λ (q : Plan). view row (r .room) ≡ q .pool → r .arena ≡ written a (q .changes) → Waits row a p r ⊎ Goes row a p r)
+      choose-case (λ (q : Plan). view row (r .room .tables) ≡ q .pool → r .arena ≡ written a (q .changes) → Waits row a p r ⊎ Goes row a p r)
       (any isLive (p .lower ++ p .upper)) _ _
       (λ e v x. inl (record { other-live = true-T (any isLive (p .lower ++ p .upper)) e; pool = v; bytes = zeroed a (r .arena) _ _ x }))
       (λ e v x. inr (record { none-live = every-not isLive (p .lower ++ p .upper) e; pool = v; bytes = zeroed a (r .arena) _ _ x }))
-      (ap (λ (r : Result). view row (r .room)) done ∙ view-encode masks-laws row pos (releaseAt row p .pool) (release-formed row p w l .formed))
+      (ap (λ (r : Result). view row (r .room .tables)) done ∙ engine-lawful row pos .says (releaseAt row p .pool) (release-formed row p w l .formed))
       (ap (λ (r : Result). r .arena) done)
 
 -- the plan of a call on the live block that starts at an offset
@@ -83,15 +86,15 @@ pub releases-as-said : (row : ℕ) → 0 < row → ReleasesAsSaid row
 unfolding plan release
 releases-as-said row pos a t o z =
     let y : Accepted row pos a t (releases o) = accepted row pos a t (releases o) tt z in
-    let w : T (wellFormed (view row t)) = sound-facts byMasks row (length a) t (y .sound-tables) .formed in
+    let w : T (wellFormed (view row (t .tables))) = engine-lawful row pos .only (length a) t (y .sound-tables) .0 .formed in
     let (p, i) = releases-exactly row pos a t o (y .sound-tables) .0 z in
-    let l : call row a t (releases o) ≡ applied (masked row) a (releaseAt row p) =
-    y .left ∙ ap (applied (masked row) a) (on-intact row pos (view row t) w a o p i (releaseAt row)) in (
+    let l : call row a t (releases o) ≡ applied (engine row) a (releaseAt row p) =
+    y .left ∙ ap (applied (engine row) a) (on-intact row pos (view row (t .tables)) w a o p i (releaseAt row)) in (
       p,
       record {
         block = i;
         value = ap (λ (r : Result). r .answer .values) l ∙ ap (λ r. r .values) (release-parts row p .1);
-        left = released-as-said row pos a p (place-formed row pos (view row t) w a o p i) (i .live .live) (call row a t (releases o)) l;
+        left = released-as-said row pos a p (place-formed row pos (view row (t .tables)) w a o p i) (i .live .live) (call row a t (releases o)) l;
       },
     )
 

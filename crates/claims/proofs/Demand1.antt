@@ -15,10 +15,11 @@ use Rattle.model.specs.Plans.{Plan, Call, setsUp, grants, releases, resizes, me
 use Rattle.model.specs.Proposals.{entries, accepts, plannable}
 use Rattle.model.specs.Plans.{reserveAll, grantAllAt, grantList}
 use Rattle.model.specs.Plans.{reserve, grantAt, lookup, onBlock, releaseAt, inPlace, resizeInPlace, resizeMove, moveTo, resizeAt, measureAt}
-use Rattle.model.specs.Tables.{byMasks, view, sound}
+use Rattle.model.specs.Tables.{view}
 use Rattle.model.specs.Calls as calls
-use Rattle.model.specs.Calls.{Result, keeps, applied, masked, unless, carried, setUpRight, setUp, checked, call, callBy, carriedBy, checkedBy, setUpBy}
-use Rattle.model.proofs.Tables.{Sound, sound-facts}
+use Rattle.model.specs.Calls.{KeptBytes, Stands, engine, soundKept, Result, keeps, applied, unless, carried, setUpRight, setUp, checked, call, callBy}
+use Rattle.model.specs.Calls.{carriedBy, checkedBy, setUpBy}
+use Rattle.model.proofs.Kept.{engine-lawful}
 use Rattle.model.proofs.Lookup.{lookup-start, lookup-found}
 use Rattle.model.proofs.Lowest.{reserve-none, reserve-some}
 use Rattle.claims.specs.Demand1.{order, sizeIn, offsetIn, FirstDue, refusedValues, StartsAt, LiveAt, headerDue, guardDue, Due, Demand1}
@@ -53,7 +54,7 @@ module _ (row : ℕ) (pos : 0 < row) (P : Pool) (o : ℕ) where
       let z : p ≡ q = cc in
       subst (λ x. T (M x)) z m
 
-module _ (row : ℕ) (pos : 0 < row) (a t : List ℕ) where
+module _ (row : ℕ) (pos : 0 < row) (a : List ℕ) (t : KeptBytes) where
   -- what is claimed of a call, of the reasons that are left to test and a result
   record Right (c : Call) (rs : List Refusal) (r : Result) : Type 0 where
     number : FirstDue (Due row a t c) rs (r .answer .number)
@@ -61,7 +62,11 @@ module _ (row : ℕ) (pos : 0 < row) (a t : List ℕ) where
         → (r .arena ≡ a) × (r .room ≡ t) × (r .answer .values ≡ refusedValues c) × (r .answer .lent ≡ [])
 
   abbrev P : Pool
-  P = view row t
+  P = view row (t .tables)
+
+  -- tables and record are the form of a state that stands
+  abbrev Sound : Type 0
+  Sound = Stands row (length a) P × (t ≡ engine row .encode P)
 
   module _ (c : Call) where
     -- no reason is left
@@ -73,19 +78,19 @@ module _ (row : ℕ) (pos : 0 < row) (a t : List ℕ) where
     later-right d rs r n s = record { number = inr (n, s .number); refused = s .refused }
 
     -- one that is due is given
-    due-right : (d : Refusal) (rs : List Refusal) {vs u : List ℕ} → vs ≡ refusedValues c → u ≡ t → Due row a t c d
+    due-right : (d : Refusal) (rs : List Refusal) {vs : List ℕ} {u : KeptBytes} → vs ≡ refusedValues c → u ≡ t → Due row a t c d
         → Right c (d ∷ rs) (keeps (record { number = numberOf d; values = vs; lent = [] }) a u)
     due-right d rs v e x = record { number = inl (refl, x); refused = λ n. (refl, e, v, refl) }
 
   -- a call on tables that must be sound
   checked-right : (c : Call) (rs : List Refusal) → calls.unsound c ≡ record { number = numberOf Unsound; values = refusedValues c; lent = [] }
-      → (Sound byMasks row (length a) t → Right c rs (carried row a t (plan row P c))) → Right c (Unsound ∷ rs) (checked row a t c)
+      → (Sound → Right c rs (carried row a t (plan row P c))) → Right c (Unsound ∷ rs) (checked row a t c)
   unfolding checkedBy
   checked-right c rs u f =
-      choose-case (Right c (Unsound ∷ rs)) (sound row (length a) t) (carried row a t (plan row P c)) (keeps (calls.unsound c) a t)
+      choose-case (Right c (Unsound ∷ rs)) (soundKept row (length a) t) (carried row a t (plan row P c)) (keeps (calls.unsound c) a t)
       (λ e.
-      let s : T (sound row (length a) t) = true-T (sound row (length a) t) e in
-      later-right c Unsound rs _ (λ d. T-not (sound row (length a) t) d s) (f (sound-facts byMasks row (length a) t s)))
+      let s : T (soundKept row (length a) t) = true-T (soundKept row (length a) t) e in
+      later-right c Unsound rs _ (λ d. T-not (soundKept row (length a) t) d s) (f (engine-lawful row pos .only (length a) t s)))
       (λ e. subst (λ r. Right c (Unsound ∷ rs) (keeps r a t)) (sym u) (due-right c Unsound rs refl refl (rw e tt)))
 
   set-up-right : Right setsUp (BadArena ∷ []) (setUp row a t)
@@ -96,10 +101,10 @@ module _ (row : ℕ) (pos : 0 < row) (a t : List ℕ) where
       (λ e. due-right setsUp BadArena [] refl refl (rw e tt))
 
   -- a call on sound tables that gives one value
-  module _ (s : Sound byMasks row (length a) t) (c : Call) (v : refusedValues c ≡ 0 ∷ []) where
+  module _ (s : Sound) (c : Call) (v : refusedValues c ≡ 0 ∷ []) where
     refused-right : (d : Refusal) (rs : List Refusal) → Due row a t c d → Right c (d ∷ rs) (carried row a t (refused d P))
     unfolding carriedBy unless
-    refused-right d rs x = due-right c d rs (sym v) (sym (s .form)) x
+    refused-right d rs x = due-right c d rs (sym v) (sym (s .1)) x
 
     -- the size is tested first
     small-right : (rs : List Refusal) (p : Plan) → Right c rs (carried row a t p)
@@ -111,7 +116,7 @@ module _ (row : ℕ) (pos : 0 < row) (a t : List ℕ) where
 
     -- then a live block's header and guard
     intact-right : (rs : List Refusal) (p : Place) (f : Plan) → f .checks ≡ some p → LiveAt row P (offsetIn c) p
-        → Right c rs (applied (masked row) a f) → Right c (HeaderDamaged ∷ Overrun ∷ rs) (carried row a t f)
+        → Right c rs (applied (engine row) a f) → Right c (HeaderDamaged ∷ Overrun ∷ rs) (carried row a t f)
     unfolding carriedBy unless damageIn
     intact-right rs p f k l r =
         rw k
@@ -123,19 +128,19 @@ module _ (row : ℕ) (pos : 0 < row) (a t : List ℕ) where
         (λ e. due-right c HeaderDamaged (Overrun ∷ rs) (sym v) refl (p, l, rw e tt)))
       where
         M : List Refusal → Damage → Type 0
-        M rs d = Right c rs (unless d (applied (masked row) a f) (λ r. keeps (refusal r) a t))
+        M rs d = Right c rs (unless d (applied (engine row) a f) (λ r. keeps (refusal r) a t))
 
         alike : (M : Place → Bool) (q : Place) → LiveAt row P (offsetIn c) q → M p ≡ true → T (M q)
-        alike M q m e = starts-alike row pos P (offsetIn c) M p q (s .formed) (l .here) (m .here) (true-T (M p) e)
+        alike M q m e = starts-alike row pos P (offsetIn c) M p q (s .0 .formed) (l .here) (m .here) (true-T (M p) e)
 
     -- what is done with the block at an offset
     block-right : (rs : List Refusal) (f : Place → Plan)
-        → ((p : Place) → (f p .checks ≡ some p) × (LiveAt row P (offsetIn c) p → Right c rs (applied (masked row) a (f p))))
+        → ((p : Place) → (f p .checks ≡ some p) × (LiveAt row P (offsetIn c) p → Right c rs (applied (engine row) a (f p))))
         → Right c (blockFirst rs) (carried row a t (onBlock P f (lookup row P (offsetIn c))))
     block-right rs f k = found (lookup row P (offsetIn c)) refl
       where
         found : (o : Option Place) → lookup row P (offsetIn c) ≡ o → Right c (blockFirst rs) (carried row a t (onBlock P f o))
-        found none e = refused-right NoSuchBlock _ (λ p h. none-starts row pos P (offsetIn c) p (s .formed) e h)
+        found none e = refused-right NoSuchBlock _ (λ p h. none-starts row pos P (offsetIn c) p (s .0 .formed) e h)
         found (some p) e =
             let h : StartsAt row P (offsetIn c) p = found-starts row pos P (offsetIn c) p e in
             later-right c NoSuchBlock (AlreadyFree ∷ HeaderDamaged ∷ Overrun ∷ rs) _ (λ d. d p h)
@@ -144,11 +149,11 @@ module _ (row : ℕ) (pos : 0 < row) (a t : List ℕ) where
             let l : T (isLive (p .state)) = true-T (isLive (p .state)) e in
             let m : LiveAt row P (offsetIn c) p = record { here = h; live = l } in
             later-right c AlreadyFree (HeaderDamaged ∷ Overrun ∷ rs) _
-            (λ (q, g, d). T-not (isLive (q .state)) d (starts-alike row pos P (offsetIn c) (λ z. isLive (z .state)) p q (s .formed) h g l))
+            (λ (q, g, d). T-not (isLive (q .state)) d (starts-alike row pos P (offsetIn c) (λ z. isLive (z .state)) p q (s .0 .formed) h g l))
             (intact-right rs p (f p) (k p .0) m (k p .1 m)))
             (λ e. refused-right AlreadyFree (HeaderDamaged ∷ Overrun ∷ rs) (p, h, rw e tt)))
 
-  module _ (s : Sound byMasks row (length a) t) where
+  module _ (s : Sound) where
     grants-right : (n : ℕ) → Right (grants n) (TooLarge ∷ NoRoom ∷ []) (carried row a t (plan row P (grants n)))
     unfolding plan carriedBy unless
     grants-right n = small-right s (grants n) refl (NoRoom ∷ []) _ (room (reserve row P n) refl)
@@ -170,13 +175,13 @@ module _ (row : ℕ) (pos : 0 < row) (a t : List ℕ) where
         c = resizes o n
 
         M : Place → Plan → Type 0
-        M p z = (z .checks ≡ some p) × (LiveAt row P o p → Right c (NoRoom ∷ []) (applied (masked row) a z))
+        M p z = (z .checks ≡ some p) × (LiveAt row P o p → Right c (NoRoom ∷ []) (applied (engine row) a z))
 
         room : (p : Place) → inPlace p n ≡ false → (r : Option Place) → reserve row P n ≡ r → M p (moveTo row P p n r)
         room p e none f = (
           refl,
-          λ l. due-right c NoRoom [] refl (sym (s .form)) (
-            λ q m. starts-alike row pos P o (λ z. not (inPlace z n)) p q (s .formed) (l .here) (m .here) (rw e tt),
+          λ l. due-right c NoRoom [] refl (sym (s .1)) (
+            λ q m. starts-alike row pos P o (λ z. not (inPlace z n)) p q (s .0 .formed) (l .here) (m .here) (rw e tt),
             reserve-none row pos P n f,
           ),
         )

@@ -18,11 +18,12 @@ use Rattle.model.specs.Answers.{refusal}
 use Rattle.model.specs.Plans.{Plan, Site, freshPool, AllLive, NoPlace, Call, setsUp, grants, releases, resizes, measures, reports, plan, reserve, enframe}
 use Rattle.model.specs.Plans.{grantsList}
 use Rattle.model.specs.Plans.{grantAt, grantIn, lookup}
-use Rattle.model.specs.Tables.{byMasks, view, sound}
-use Rattle.model.specs.Calls.{Result, FormLaws, masked, applied, keeps, damaged, setUpRight, call, callBy, carriedBy, checkedBy, unless}
-use Rattle.model.proofs.Tables.{masks-laws, sound-facts, view-encode}
+use Rattle.model.specs.Tables.{byMasks, view}
+use Rattle.model.specs.Calls.{KeptBytes, Result, FormLaws, engine, soundKept, applied, keeps, damaged, setUpRight, call, callBy, carriedBy, checkedBy, unless}
+use Rattle.model.proofs.Tables.{sound-facts}
+use Rattle.model.proofs.Kept.{engine-lawful}
 use Rattle.model.proofs.Fresh.{set-up-done, set-up-sound}
-use Rattle.model.proofs.Forms.{layout-lawful, step, call-step, Standing, step-stands}
+use Rattle.model.proofs.Forms.{step, call-step, Standing, step-stands}
 use Rattle.model.proofs.Calls.{Asks, call-sound}
 use Rattle.model.proofs.Lookup.{All, Fits, fits, disp-inside, owned-inside, Owns, owned-unique}
 use Rattle.model.proofs.Reserve.{Served, served, reserve-formed, reserve-size}
@@ -52,31 +53,31 @@ module _ (D : Refusal → Type 0) where
 
 -- ---- accepted calls
 
-module _ (row : ℕ) (pos : 0 < row) (a t : List ℕ) where
+module _ (row : ℕ) (pos : 0 < row) (a : List ℕ) (t : KeptBytes) where
   -- an accepted call but set up: its plan is carried out on sound tables
   pub record Accepted (c : Call) : Type 0 where
-    pub sound-tables : T (sound row (length a) t)
-    pub left : call row a t c ≡ applied (masked row) a (plan row (view row t) c)
+    pub sound-tables : T (soundKept row (length a) t)
+    pub left : call row a t c ≡ applied (engine row) a (plan row (view row (t .tables)) c)
 
   pub accepted : (c : Call) → Asks c → call row a t c .answer .number ≡ 0 → Accepted c
   unfolding carriedBy unless
   accepted c k z =
-      let s : T (sound row (length a) t) = asked-sound c k (none-due (Due row a t c) (order c) _ (demand1 row pos a t c .number) z) in
-      record { sound-tables = s; left = intact (damaged row a (p .checks)) (call-sound row a t (T-true (sound row (length a) t) s) c k) }
+      let s : T (soundKept row (length a) t) = asked-sound c k (none-due (Due row a t c) (order c) _ (demand1 row pos a t c .number) z) in
+      record { sound-tables = s; left = intact (damaged row a (p .checks)) (call-sound row a t (T-true (soundKept row (length a) t) s) c k) }
     where
       p : Plan
-      p = plan row (view row t) c
+      p = plan row (view row (t .tables)) c
 
-      asked-sound : (c : Call) → Asks c → All (λ r. Due row a t c r → ⊥) (order c) → T (sound row (length a) t)
+      asked-sound : (c : Call) → Asks c → All (λ r. Due row a t c r → ⊥) (order c) → T (soundKept row (length a) t)
       asked-sound setsUp k n = absurd k
-      asked-sound (grants m) k n = unrefuted (sound row (length a) t) (n .0)
-      asked-sound (releases o) k n = unrefuted (sound row (length a) t) (n .0)
-      asked-sound (resizes o m) k n = unrefuted (sound row (length a) t) (n .0)
-      asked-sound (measures o) k n = unrefuted (sound row (length a) t) (n .0)
-      asked-sound reports k n = unrefuted (sound row (length a) t) (n .0)
-      asked-sound (grantsList total cap places ns) k n = unrefuted (sound row (length a) t) (n .0)
+      asked-sound (grants m) k n = unrefuted (soundKept row (length a) t) (n .0)
+      asked-sound (releases o) k n = unrefuted (soundKept row (length a) t) (n .0)
+      asked-sound (resizes o m) k n = unrefuted (soundKept row (length a) t) (n .0)
+      asked-sound (measures o) k n = unrefuted (soundKept row (length a) t) (n .0)
+      asked-sound reports k n = unrefuted (soundKept row (length a) t) (n .0)
+      asked-sound (grantsList total cap places ns) k n = unrefuted (soundKept row (length a) t) (n .0)
 
-      intact : (d : Damage) → call row a t c ≡ unless d (applied (masked row) a p) (λ r. keeps (refusal r) a t) → call row a t c ≡ applied (masked row) a p
+      intact : (d : Damage) → call row a t c ≡ unless d (applied (engine row) a p) (λ r. keeps (refusal r) a t) → call row a t c ≡ applied (engine row) a p
       intact Intact e = e
       intact (Damaged r) e = absurd (refuses r (ap (λ r. r .answer .number) (sym e) ∙ z))
 
@@ -85,17 +86,17 @@ module _ (row : ℕ) (pos : 0 < row) (a t : List ℕ) where
 
   -- its tables are sound for the arena that it was given, and it leaves one of the same length
   pub record Leaves (r : Result) : Type 0 where
-    pub tables : T (sound row (length a) (r .room))
+    pub tables : T (soundKept row (length a) (r .room))
     pub long : length (r .arena) ≡ length a
 
   -- on sound tables, whether it is accepted or not
-  pub sound-leaves : T (sound row (length a) t) → (c : Call) → Leaves (call row a t c)
+  pub sound-leaves : T (soundKept row (length a) t) → (c : Call) → Leaves (call row a t c)
   sound-leaves h c =
-      let L : FormLaws row (masked row) = layout-lawful byMasks masks-laws row pos in
-      let P : Pool = view row t in
+      let L : FormLaws row (engine row) = engine-lawful row pos in
+      let P : Pool = view row (t .tables) in
       let (s, e) = L .only (length a) t h in
       let k : Standing row pos (length a) a refl P s (step row a P c) = step-stands row pos (length a) a refl P s c in
-      subst Leaves (sym (ap (λ u. call row a u c) e ∙ call-step row (masked row) L a P s c))
+      subst Leaves (sym (ap (λ u. call row a u c) e ∙ call-step row (engine row) L a P s c))
       (record { tables = L .right (length a) (step row a P c .room) (k .stands); long = k .long })
 
   leaves : (c : Call) → call row a t c .answer .number ≡ 0 → Leaves (call row a t c)
@@ -110,16 +111,16 @@ module _ (row : ℕ) (pos : 0 < row) (a t : List ℕ) where
 pub leaves-sound : (row : ℕ) → 0 < row → LeavesSound row
 leaves-sound row pos a t c z =
     let l : Leaves row pos a t (call row a t c) = leaves row pos a t c z in
-    subst (λ n. T (sound row n (call row a t c .room))) (sym (l .long)) (l .tables)
+    subst (λ n. T (soundKept row n (call row a t c .room))) (sym (l .long)) (l .tables)
 
 -- ---- the blocks that release and measure accept
 
-module _ (row : ℕ) (pos : 0 < row) (a t : List ℕ) (s : T (sound row (length a) t)) where
+module _ (row : ℕ) (pos : 0 < row) (a : List ℕ) (t : KeptBytes) (s : T (soundKept row (length a) t)) where
   abbrev P : Pool
-  P = view row t
+  P = view row (t .tables)
 
   w : T (wellFormed P)
-  w = sound-facts byMasks row (length a) t s .formed
+  w = engine-lawful row pos .only (length a) t s .0 .formed
 
   -- where no reason of the block at an offset is due, it is live and intact
   pub found-intact : (c : Call) (rs : List Refusal) → All (λ r. Due row a t c r → ⊥) (blockFirst rs) → (p : Place) × demand2.Intact row a P (offsetIn c) p
@@ -152,7 +153,7 @@ module _ (row : ℕ) (pos : 0 < row) (a t : List ℕ) (s : T (sound row (length 
       fine : (p : Place) → demand2.Intact row a P o p → Fine
       fine p i =
           let alike : (M : Place → Bool) (q : Place) → StartsAt row P o q → T (M p) → T (M q) = λ M q h. starts-alike row pos P o M p q w (i .live .here) h in
-          let n₂ : Due row a t c Unsound → ⊥ = λ d. T-not (sound row (length a) t) d s in
+          let n₂ : Due row a t c Unsound → ⊥ = λ d. T-not (soundKept row (length a) t) d s in
           let n₅ : Due row a t c AlreadyFree → ⊥ = λ (q, h, d). T-not (isLive (q .state)) d (alike (λ z. isLive (z .state)) q h (i .live .live)) in
           let n₆ : Due row a t c HeaderDamaged → ⊥ = λ (q, l, d). T-not (headerDue row a q) d (alike (headerDue row a) q (l .here) (i .header)) in
           let n₇ : Due row a t c Overrun → ⊥ = λ (q, l, _, d). T-not (guardDue row a q) d (alike (guardDue row a) q (l .here) (i .guard)) in
@@ -163,7 +164,7 @@ module _ (row : ℕ) (pos : 0 < row) (a t : List ℕ) (s : T (sound row (length 
   unfolding callBy checkedBy carriedBy unless plan damageIn choose
   measured o p i =
       rw (
-        T-true (sound row (length a) t) s,
+        T-true (soundKept row (length a) t) s,
         starts-found row pos P o p w (i .live .here),
         T-true (isLive (p .state)) (i .live .live),
         T-true (headerDue row a p) (i .header),
@@ -191,7 +192,7 @@ grants-exactly row pos a t n = (
     d = demand1 row pos a t (grants n) .number
 
     why : FirstDue (Due row a t (grants n)) (order (grants n)) k → (k ≡ 0 → ⊥)
-        → (tooLarge ≤ n) ⊎ (T (not (sound row (length a) t)) ⊎ NoPlace row (view row t) (classOf n))
+        → (tooLarge ≤ n) ⊎ (T (not (soundKept row (length a) t)) ⊎ NoPlace row (view row (t .tables)) (classOf n))
     why (inl (_, x)) z = inr (inl x)
     why (inr (_, inl (_, x))) z = inl x
     why (inr (_, inr (_, inl (_, x)))) z = inr (inr x)
@@ -201,18 +202,18 @@ pub grants-as-said : (row : ℕ) → 0 < row → GrantsAsSaid row
 unfolding plan grantIn enframe
 grants-as-said row pos a t n z =
     let y : Accepted row pos a t (grants n) = accepted row pos a t (grants n) tt z in
-    on-grant row pos P (λ p. p .answer .number ≡ 0 → call row a t (grants n) ≡ applied (masked row) a p → (q : Place) × Granted row a t n q)
-    (λ r z. absurd (refuses r z)) n (λ q h e _ l. (q, said (sound-facts byMasks row (length a) t (y .sound-tables) .formed) q h e l))
+    on-grant row pos P (λ p. p .answer .number ≡ 0 → call row a t (grants n) ≡ applied (engine row) a p → (q : Place) × Granted row a t n q)
+    (λ r z. absurd (refuses r z)) n (λ q h e _ l. (q, said (engine-lawful row pos .only (length a) t (y .sound-tables) .0 .formed) q h e l))
     (ap (λ (r : Result). r .answer .number) (sym (y .left)) ∙ z) (y .left)
   where
     P : Pool
-    P = view row t
+    P = view row (t .tables)
 
     c : ℕ
     c = classOf n
 
     said : T (wellFormed P) → (q : Place) → n < tooLarge → reserve row P n ≡ some q
-        → call row a t (grants n) ≡ applied (masked row) a (grantAt row P (some q)) → Granted row a t n q
+        → call row a t (grants n) ≡ applied (engine row) a (grantAt row P (some q)) → Granted row a t n q
     said w q h e l =
         let v : Served row P n q = served row P n q w e in
         let s : Site = v .at in
@@ -242,7 +243,7 @@ grants-as-said row pos a t n z =
           cls = ap (λ p. p .cls) (v .place);
           bytes = m;
           value = ap (λ r. r .answer .values) l;
-          pool = ap (λ r. view row (r .room)) l ∙ view-encode masks-laws row pos (poolOf q) (reserve-formed row P n q w h e .formed);
+          pool = ap (λ r. view row (r .room .tables)) l ∙ engine-lawful row pos .says (poolOf q) (reserve-formed row P n q w h e .formed);
           arena = ap (λ r. r .arena) l ∙ ap (λ i. put (owned row q) (frame (q .cls) (slotNumber q) (disp (q .state)) i) a) m;
         }
 

@@ -8,13 +8,13 @@ use Rattle.mem.proofs.Laws.{zeros-length}
 use Rattle.model.specs.State.{Pool, wellFormed, rows}
 use Rattle.model.specs.Answers.{done, listed}
 use Rattle.model.specs.Plans.{Plan, Call, setsUp, reports, plan, report, totals}
-use Rattle.model.specs.Tables.{byMasks, encode, sound, arenaRight, roomBytes, roomFor}
-use Rattle.model.specs.Calls.{Result, Stands, masked, applied, written, carried, setUp, setUpRight, call, setUpRightBy}
-use Rattle.model.proofs.Tables.{masks-laws, view-encode, encode-sound}
+use Rattle.model.specs.Tables.{encode, arenaRight, roomBytes, roomFor}
+use Rattle.model.specs.Calls.{KeptBytes, Result, Stands, engine, soundKept, applied, written, carried, setUp, setUpRight, call, setUpRightBy}
+use Rattle.model.proofs.Kept.{engine-lawful}
 use Rattle.model.proofs.Fresh.{fresh-formed, whole-rows, set-up-lawful, set-up-done}
 use Rattle.model.proofs.Formed.{Formed, plan-formed}
 use Rattle.model.proofs.Calls.{call-sound, carried-whole}
-use Rattle.model.proofs.Forms.{layout-lawful, call-step}
+use Rattle.model.proofs.Forms.{call-step}
 use Rattle.claims.specs.Demand3.{Turn, calls, model, fed, RoomFollows, requested, ran, ranFresh, reported, EngineOnly, AllCleared, AsModelled}
 use Rattle.claims.specs.Demand3.{SteersNothing, StoresAdmitted}
 use Rattle.claims.proofs.Cases.{by-call}
@@ -29,35 +29,38 @@ module _ (row : ℕ) (pos : 0 < row) where
     l : length a ≡ row * rows row P
     l = arena-length row pos P w a g
 
-    set-up-follows : call row a (encode row P) setsUp ≡ applied (masked row) a (plan row P setsUp)
+    stands : Stands row (length a) P
+    stands = record { lawful = h; long = l; formed = w }
+
+    set-up-follows : call row a (engine row .encode P) setsUp ≡ applied (engine row) a (plan row P setsUp)
     unfolding plan
     set-up-follows =
-        let s : Stands row (length a) P = record { lawful = h; long = l; formed = w } in
         let q : length a / row ≡ rows row P = ap (λ n. n / row) l ∙ mul-div-cancel-left (rows row P) pos in
         let e : zeros (length a) ≡ put 0 (zeros (row * rows row P)) a = ap zeros l ∙ sym (set-up-zero row pos P w a g) in
-        call-step row (masked row) (layout-lawful byMasks masks-laws row pos) a P s setsUp ∙ cc
+        call-step row (engine row) (engine-lawful row pos) a P stands setsUp ∙ cc
 
     -- a call on an arena that agrees with the tables does what the model does
-    pub call-follows : (c : Call) → call row a (encode row P) c ≡ applied (masked row) a (plan row P c)
+    pub call-follows : (c : Call) → call row a (engine row .encode P) c ≡ applied (engine row) a (plan row P c)
     call-follows =
-        by-call (λ c. call row a (encode row P) c ≡ applied (masked row) a (plan row P c)) set-up-follows
-        (λ c k. call-sound row a (encode row P) (T-true (sound row (length a) (encode row P)) (encode-sound masks-laws row pos P (length a) w h l)) c k
-        ∙ ap (λ Q. carried row a (encode row P) (plan row Q c)) (view-encode masks-laws row pos P w)
-        ∙ carried-whole row a (encode row P) (plan row P c) (plan-kept row pos P w a g c .whole))
+        by-call (λ c. call row a (engine row .encode P) c ≡ applied (engine row) a (plan row P c)) set-up-follows
+        (λ c k. call-sound row a (engine row .encode P)
+        (T-true (soundKept row (length a) (engine row .encode P)) (engine-lawful row pos .right (length a) P stands)) c k
+        ∙ ap (λ Q. carried row a (engine row .encode P) (plan row Q c)) (engine-lawful row pos .says P w)
+        ∙ carried-whole row a (engine row .encode P) (plan row P c) (plan-kept row pos P w a g c .whole))
 
   -- ---- one run
 
   -- it shows what the model shows, and leaves an arena that agrees with the model's tables
-  record Follows (P : Pool) (a t : List ℕ) (us : List Turn) : Type 0 where
+  record Follows (P : Pool) (a : List ℕ) (t : KeptBytes) (us : List Turn) : Type 0 where
     modelled : AsModelled row P a t us
     formed : T (wellFormed (model row P (calls us) .pool))
     agrees : Agrees (cells row (model row P (calls us) .pool)) (ran row a t us .arena)
 
   follows : (P : Pool) (a : List ℕ) (us : List Turn) → T (wellFormed P) → T (arenaRight row (length a)) → Agrees (cells row P) a
-      → EngineOnly row P a (encode row P) us → Follows P a (encode row P) us
+      → EngineOnly row P a (engine row .encode P) us → Follows P a (engine row .encode P) us
   unfolding EngineOnly AllCleared ran model plan report
   follows P a [] w h g t = record {
-    modelled = record { answers = refl; tables = refl; counted = ap (λ (r : Result). r .answer) (call-follows P w a h g reports); cleared = tt };
+    modelled = record { answers = refl; tables = refl; kept = refl; counted = ap (λ (r : Result). r .answer) (call-follows P w a h g reports); cleared = tt };
     formed = w;
     agrees = g;
   }
@@ -72,14 +75,15 @@ module _ (row : ℕ) (pos : 0 < row) where
       let g₂ : Agrees (cells row (p .pool)) x = plan-kept row pos P w b g₁ c .agrees in
       let l : length b ≡ length x =
       arena-length row pos P w b g₁ ∙ ap (λ n. row * n) (sym (m .long)) ∙ sym (arena-length row pos (p .pool) (m .formed) x g₂) in
-      let e : call row b (encode row P) c ≡ applied (masked row) b p = call-follows P w b h₁ g₁ c in
-      let r : Follows (p .pool) x (encode row (p .pool)) us =
+      let e : call row b (engine row .encode P) c ≡ applied (engine row) b p = call-follows P w b h₁ g₁ c in
+      let r : Follows (p .pool) x (engine row .encode (p .pool)) us =
       follows (p .pool) x us (m .formed) (subst (λ n. T (arenaRight row n)) l h₁) g₂
       (subst (λ r. EngineOnly row (p .pool) (r .arena) (r .room) us) e (t .1)) in
       record {
         modelled = record {
           answers = rw e (ap (λ l. p .answer ∷ l) (r .modelled .answers));
-          tables = ap (λ (z : Result). ran row (z .arena) (z .room) us .room) e ∙ r .modelled .tables;
+          tables = ap (λ (z : Result). ran row (z .arena) (z .room) us .room .tables) e ∙ r .modelled .tables;
+          kept = ap (λ (z : Result). ran row (z .arena) (z .room) us .room .totals) e ∙ r .modelled .kept;
           counted = ap (λ (z : Result). reported row (ran row (z .arena) (z .room) us)) e ∙ r .modelled .counted;
           cleared = rw e (plan-kept row pos P w b g₁ c .cleared, r .modelled .cleared);
         };
@@ -89,7 +93,7 @@ module _ (row : ℕ) (pos : 0 < row) where
       }
 
   -- from a fresh pool
-  run-follows : (a t : List ℕ) (us : List Turn) → T (setUpRight row a t)
+  run-follows : (a : List ℕ) (t : KeptBytes) (us : List Turn) → T (setUpRight row a t)
       → EngineOnly row (fed row (length a)) (setUp row a t .arena) (setUp row a t .room) us
       → Follows (fed row (length a)) (setUp row a t .arena) (setUp row a t .room) us
   run-follows a t us h s =
@@ -110,6 +114,7 @@ module _ (row : ℕ) (pos : 0 < row) where
         record {
           answers = r₁ .modelled .answers ∙ ap (λ m. m .answers) e ∙ sym (r₂ .modelled .answers);
           tables = r₁ .modelled .tables ∙ ap (λ m. encode row (m .pool)) e ∙ sym (r₂ .modelled .tables);
+          kept = r₁ .modelled .kept ∙ ap (λ m. totals row (m .pool)) e ∙ sym (r₂ .modelled .kept);
           totals = r₁ .modelled .counted ∙ ap (λ m. done (listed (totals row (m .pool)))) e ∙ sym (r₂ .modelled .counted);
           outside = outside row pos P (r₁ .formed) _ _ (r₁ .agrees)
               (subst (λ Q. Agrees (cells row Q) (ranFresh row a₂ t₂ us₂ .arena)) (ap (λ m. m .pool) (sym e)) (r₂ .agrees));
@@ -131,5 +136,5 @@ stores-admitted row P a i v t = record {
 pub room-follows : (row : ℕ) → RoomFollows row
 unfolding setUpRightBy roomFor
 room-follows row a t h =
-    eqb→eq (length t) (roomBytes (length a / row)) (and-right (arenaRight row (length a)) _ h)
+    eqb→eq (length (t .tables)) (roomBytes (length a / row)) (and-right (arenaRight row (length a)) _ h)
     ∙ sym (choose-true (arenaRight row (length a)) _ _ (T-true (arenaRight row (length a)) (set-up-lawful row a t h)))

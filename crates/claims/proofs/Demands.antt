@@ -15,6 +15,8 @@ use Rattle.claims.proofs.Guards.{guards-as-said}
 use Rattle.claims.proofs.Resizes.{resizes-as-said}
 use Rattle.claims.proofs.Demand3.{steers-nothing, stores-admitted, room-follows}
 use Rattle.claims.proofs.History.{history}
+use Rattle.claims.proofs.Flips.{flips-refused}
+use Rattle.claims.proofs.Record.{sound-exactly, keeps-record}
 use Rattle.claims.proofs.Lists.{plans-as-said, lists-as-grants, lists-exactly}
 use Rattle.claims.proofs.Traces.{lines-modelled, stores-steer-nothing, replay-steers-nothing}
 
@@ -46,6 +48,9 @@ demands = record {
   tables = tables;
   leaves-sound = leaves-sound rowBytes some-bytes;
   history = history rowBytes some-bytes;
+  sound-exactly = sound-exactly rowBytes;
+  keeps-record = keeps-record rowBytes some-bytes;
+  flips-refused = flips-refused rowBytes some-bytes;
   all-classes = all-classes;
   bench = bench;
   too-large-anywhere = too-large-anywhere rowBytes some-bytes;

@@ -15,15 +15,16 @@ use Rattle.model.specs.Plans.{Plan, turnReady, refill, reserve, vacant, release
 use Rattle.model.specs.Plans.{slotSum, totals, report, Call, setsUp, grants, releases, resizes, measures, reports, grantsList, plan}
 use Rattle.model.specs.Plans.{reserveAll, poolAfter}
 use Rattle.model.proofs.Lists.{small, by-grants, on-list}
-use Rattle.model.specs.Tables.{byMasks, encode, view, sound, roomBytes}
-use Rattle.model.specs.Calls.{Result, call, setUp, setUpRight, callBy, setUpRightBy}
+use Rattle.model.specs.Tables.{view, roomBytes}
+use Rattle.model.specs.Calls.{KeptBytes, Result, Stands, engine, soundKept, call, setUp, setUpRight, callBy, setUpRightBy}
 use Rattle.model.proofs.Rooms.{rows-append}
 use Rattle.model.proofs.Counts.{held-free}
 use Rattle.model.proofs.Fresh.{fresh-rows, fresh-formed, whole-rows, set-up-lawful, set-up-done, set-up-sound}
 use Rattle.model.proofs.Lookup.{placed, groupOf, place-unique, lookup-found}
 use Rattle.model.proofs.Reserve.{Served, served, reserve-size}
 use Rattle.model.proofs.Formed.{any-middle, plan-formed}
-use Rattle.model.proofs.Tables.{masks-laws, Sound, sound-facts, view-encode, encode-length}
+use Rattle.model.proofs.Tables.{masks-laws, encode-length}
+use Rattle.model.proofs.Kept.{engine-lawful, kept-totals}
 use Rattle.model.proofs.Calls.{Asks}
 use Rattle.model.proofs.Moves.{Old, old, old-released, stays-start}
 use Rattle.claims.specs.History.{Entry, Ledger, opening, without, enteredEach, entered, Asked, booked, kept, Counts, Tells, History}
@@ -351,18 +352,18 @@ total-weigh row g f h r (group c ss ∷ P) = ap₂ (λ j k. j + k) (slots 0 ss) 
 
 module _ (row : ℕ) (pos : 0 < row) (n : ℕ) where
   -- tables that are sound for an arena of n bytes, with the blocks of a ledger
-  record Kept (l : Ledger) (t : List ℕ) : Type 0 where
-    tables : T (sound row n t)
-    tallies : Tallies row l (view row t)
+  record Kept (l : Ledger) (t : KeptBytes) : Type 0 where
+    tables : T (soundKept row n t)
+    tallies : Tallies row l (view row (t .tables))
 
-  kept-counts : (l : Ledger) (t : List ℕ) → Kept l t → Counts row l (totals row (view row t)) n
+  kept-counts : (l : Ledger) (t : KeptBytes) → Kept l t → Counts row l (totals row (view row (t .tables))) n
   unfolding totals weight choose
   kept-counts l t k =
-      let P : Pool = view row t in
+      let P : Pool = view row (t .tables) in
       record {
         blocks = omega (arith, total-weigh row (λ x. bit (isLive x)) (λ e. 1) live-one 0 P, k .tallies .sums (λ e. 1), k .tallies .count);
         bytes = total-weigh row size (λ e. e .size) live-size 0 P ∙ sym (k .tallies .sums (λ e. e .size));
-        rows = held-free row P ∙ sym (ap (λ m. m / row) (sound-facts byMasks row n t (k .tables) .long) ∙ mul-div-cancel-left (rows row P) pos);
+        rows = held-free row P ∙ sym (ap (λ m. m / row) (engine-lawful row pos .only n t (k .tables) .0 .long) ∙ mul-div-cancel-left (rows row P) pos);
       }
     where
       live-one : (b : ℕ) (x : Slot) → bit (isLive x) ≡ weight (λ e. 1) b x
@@ -374,18 +375,18 @@ module _ (row : ℕ) (pos : 0 < row) (n : ℕ) where
       live-size b (Live a) = refl
 
   -- an accepted set up
-  fresh-kept : (a t : List ℕ) → T (setUpRight row a t) → length a ≡ n → Kept opening (setUp row a t .room)
+  fresh-kept : (a : List ℕ) (t : KeptBytes) → T (setUpRight row a t) → length a ≡ n → Kept opening (setUp row a t .room)
   fresh-kept a t h e =
       let F : Pool = freshPool (length a / row) in
       subst (λ (r : Result). Kept opening (r .room)) (sym (set-up-done row a t h)) (record {
-        tables = subst (λ m. T (sound row m (encode row F))) e (set-up-sound row a t h pos);
-        tallies = subst (Tallies row opening) (sym (view-encode masks-laws row pos F (fresh-formed (length a / row)))) (fresh-tallies row (length a / row));
+        tables = subst (λ m. T (soundKept row m (engine row .encode F))) e (set-up-sound row a t h pos);
+        tallies = subst (Tallies row opening) (sym (engine-lawful row pos .says F (fresh-formed (length a / row)))) (fresh-tallies row (length a / row));
       })
 
   -- one call, over whatever arena
-  module _ (l : Ledger) (a t : List ℕ) (k : Kept l t) where
-    s : Sound byMasks row n t
-    s = sound-facts byMasks row n t (k .tables)
+  module _ (l : Ledger) (a : List ℕ) (t : KeptBytes) (k : Kept l t) where
+    s : Stands row n (view row (t .tables))
+    s = engine-lawful row pos .only n t (k .tables) .0
 
     abbrev Keeps : Call → Type 0
     Keeps c = call row a t c .answer .number ≡ 0 → Kept (entered l c (call row a t c .answer)) (call row a t c .room)
@@ -394,15 +395,15 @@ module _ (row : ℕ) (pos : 0 < row) (n : ℕ) where
     asks-kept : (c : Call) → Asks c → Keeps c
     asks-kept c i z =
         let y : Accepted row pos a t c = accepted row pos a t c i z in
-        let P : Pool = view row t in
-        let e : length a ≡ n = sound-facts byMasks row (length a) t (y .sound-tables) .long ∙ sym (s .long) in
+        let P : Pool = view row (t .tables) in
+        let e : length a ≡ n = engine-lawful row pos .only (length a) t (y .sound-tables) .0 .long ∙ sym (s .long) in
         let p : Plan = plan row P c in
         record {
-          tables = subst (λ m. T (sound row m (call row a t c .room))) e (sound-leaves row pos a t (y .sound-tables) c .tables);
+          tables = subst (λ m. T (soundKept row m (call row a t c .room))) e (sound-leaves row pos a t (y .sound-tables) c .tables);
           tallies =
-              subst (λ (r : Result). Tallies row (entered l c (r .answer)) (view row (r .room))) (sym (y .left))
+              subst (λ (r : Result). Tallies row (entered l c (r .answer)) (view row (r .room .tables))) (sym (y .left))
               (subst (Tallies row (entered l c (p .answer)))
-              (sym (view-encode masks-laws row pos (p .pool) (plan-formed row pos P c (s .formed) .formed)))
+              (sym (engine-lawful row pos .says (p .pool) (plan-formed row pos P c (s .formed) .formed)))
               (plan-enters row pos P (s .formed) l (k .tallies) c (ap (λ (r : Result). r .answer .number) (sym (y .left)) ∙ z)));
         }
 
@@ -411,9 +412,11 @@ module _ (row : ℕ) (pos : 0 < row) (n : ℕ) where
     unfolding callBy setUpRightBy roomBytes
     set-up-kept z =
         let h : T (setUpRight row a t) = set-up-accepted row pos a t z in
-        let u : length t ≡ roomBytes (length a / row) = eqb→eq (length t) (roomBytes (length a / row)) (search and-right) in
-        let v : length t ≡ roomBytes (rows row (view row t)) = ap length (s .form) ∙ encode-length masks-laws row pos (view row t) (s .formed) in
-        let r : length a / row ≡ rows row (view row t) = omega arith in
+        let u : length (t .tables) ≡ roomBytes (length a / row) = eqb→eq (length (t .tables)) (roomBytes (length a / row)) (search and-right) in
+        let v : length (t .tables) ≡ roomBytes (rows row (view row (t .tables))) =
+        ap (λ (u : KeptBytes). length (u .tables)) (engine-lawful row pos .only n t (k .tables) .1)
+        ∙ encode-length masks-laws row pos (view row (t .tables)) (s .formed) in
+        let r : length a / row ≡ rows row (view row (t .tables)) = omega arith in
         fresh-kept a t h (sym (whole-rows row (length a) (set-up-lawful row a t h)) ∙ ap (λ m. row * m) r ∙ sym (s .long))
 
     call-kept : (c : Call) → Kept (booked l c (call row a t c .answer)) (call row a t c .room)
@@ -422,16 +425,17 @@ module _ (row : ℕ) (pos : 0 < row) (n : ℕ) where
         (λ e. by-call Keeps set-up-kept asks-kept c (eqb-true (call row a t c .answer .number) 0 e))
         (λ e. subst (Kept l) (sym (demand1 row pos a t c .refused (eqb-false (call row a t c .answer .number) 0 e) .1)) k)
 
-  calls-kept : (l : Ledger) (t : List ℕ) (cs : List Asked) → Kept l t → Kept (kept row l t cs .ledger) (kept row l t cs .room)
+  calls-kept : (l : Ledger) (t : KeptBytes) (cs : List Asked) → Kept l t → Kept (kept row l t cs .ledger) (kept row l t cs .room)
   unfolding kept
   calls-kept l t [] k = k
   calls-kept l t (c ∷ cs) k = calls-kept _ (call row (c .arena) t (c .asks) .room) cs (call-kept l (c .arena) t k (c .asks))
 
   -- what report gives over an arena of n bytes
-  kept-told : (b : List ℕ) → length b ≡ n → (l : Ledger) (t : List ℕ) → Kept l t → Tells row b (record { ledger = l; room = t }) n
+  kept-told : (b : List ℕ) → length b ≡ n → (l : Ledger) (t : KeptBytes) → Kept l t → Tells row b (record { ledger = l; room = t }) n
   kept-told b e l t k = record {
-    totals = totals row (view row t);
-    given = reports-as-said row b t (subst (λ m. T (sound row m t)) (sym e) (k .tables));
+    totals = totals row (view row (t .tables));
+    given = reports-as-said row b t (subst (λ m. T (soundKept row m t)) (sym e) (k .tables)) .0;
+    recorded = kept-totals row n t (T-true (soundKept row n t) (k .tables));
     counts = kept-counts l t k;
   }
 

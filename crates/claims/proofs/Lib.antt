@@ -13,7 +13,9 @@ pub mod Steps
 pub mod Requested
 pub mod Demand3
 pub mod History
+pub mod Record
 pub mod Lists
 pub mod Alike
 pub mod Traces
+pub mod Flips
 pub mod Demands

@@ -13,11 +13,11 @@ use Rattle.model.specs.Blocks.{frame}
 use Rattle.model.specs.Answers.{Answer, done, listDone, refusal}
 use Rattle.model.specs.Proposals.{entries, accepts, plannable, fullCaps, planned}
 use Rattle.model.specs.Plans.{Plan, reserve, enframe, grantAt, grant, placed, placedBy, reserveAll, poolAfter, grantAllAt, grantList, grants, grantsList, plan}
-use Rattle.model.specs.Tables.{byMasks, arenaRight, encode, view, sound}
-use Rattle.model.specs.Calls.{Result, masked, applied, carried, call, write, written}
-use Rattle.model.proofs.Tables.{masks-laws, sound-facts, encode-sound, view-encode}
+use Rattle.model.specs.Tables.{arenaRight, view}
+use Rattle.model.specs.Calls.{KeptBytes, Result, engine, soundKept, applied, carried, call, write, written}
+use Rattle.model.proofs.Kept.{engine-lawful}
 use Rattle.model.proofs.Reserve.{Granted, reserve-formed}
-use Rattle.model.proofs.Calls.{call-sound, carried-whole}
+use Rattle.model.proofs.Calls.{call-sound, same-room, carried-whole}
 use Rattle.model.proofs.Lists.{small, small-first, small-rest, accepts-small, places-counted, on-list}
 use Rattle.model.proofs.Proposals.{planned-accepted, accepts-plannable, planned-fewest}
 use Rattle.claims.specs.Lists.{PlansAsSaid, granting, AsGrants, ListsAsGrants, ListsExactly}
@@ -57,39 +57,44 @@ none-eight (v ∷ vs) t = none-eight vs t
 
 module _ (row : ℕ) where
   -- what grants one after the other come to from a pool P, by the places that they take
-  abbrev Granting : Pool → List ℕ → List ℕ → List ℕ → Option (List Place) → Type 0
+  abbrev Granting : Pool → List ℕ → KeptBytes → List ℕ → Option (List Place) → Type 0
   Granting P a t ns none = T (any eight (granting row a t ns .answers))
   Granting P a t ns (some qs) =
       (granting row a t ns .answers ≡ map (λ s. done (s ∷ [])) (map (start row) qs))
-      × (granting row a t ns .arena ≡ written a (map (enframe row) qs)) × (granting row a t ns .room ≡ encode row (poolAfter P qs))
+      × (granting row a t ns .arena ≡ written a (map (enframe row) qs)) × (granting row a t ns .room ≡ engine row .encode (poolAfter P qs))
 
-  module _ (a t : List ℕ) (n : ℕ) (s : sound row (length a) t ≡ true) (h : n < tooLarge) where
-    granted-call : (o : Option Place) → reserve row (view row t) n ≡ o → call row a t (grants n) ≡ carried row a t (grantAt row (view row t) o)
+  module _ (a : List ℕ) (t : KeptBytes) (n : ℕ) (s : soundKept row (length a) t ≡ true) (h : n < tooLarge) where
+    granted-call : (o : Option Place) → reserve row (view row (t .tables)) n ≡ o
+        → call row a t (grants n) ≡ carried row a t (grantAt row (view row (t .tables)) o)
     unfolding plan grant
     granted-call o e =
         call-sound row a t s (grants n) tt
-        ∙ ap (carried row a t) (choose-false (leb tooLarge n) _ _ (lt-leb tooLarge n h) ∙ ap (grantAt row (view row t)) e)
+        ∙ ap (carried row a t) (choose-false (leb tooLarge n) _ _ (lt-leb tooLarge n h) ∙ ap (grantAt row (view row (t .tables))) e)
 
-    taken-call : (q : Place) → reserve row (view row t) n ≡ some q → call row a t (grants n) ≡ applied (masked row) a (grantAt row (view row t) (some q))
-    taken-call q e = granted-call (some q) e ∙ carried-whole row a t (grantAt row (view row t) (some q)) refl
+    taken-call : (q : Place) → reserve row (view row (t .tables)) n ≡ some q
+        → call row a t (grants n) ≡ applied (engine row) a (grantAt row (view row (t .tables)) (some q))
+    taken-call q e = granted-call (some q) e ∙ carried-whole row a t (grantAt row (view row (t .tables)) (some q)) refl
 
-    full-call : reserve row (view row t) n ≡ none → call row a t (grants n) .answer ≡ refusal NoRoom
-    full-call e = ap (λ (r : Result). r .answer) (granted-call none e ∙ carried-whole row a t (grantAt row (view row t) none) refl)
+    full-call : reserve row (view row (t .tables)) n ≡ none → call row a t (grants n) .answer ≡ refusal NoRoom
+    full-call e = ap (λ (r : Result). r .answer) (granted-call none e ∙ carried-whole row a t (grantAt row (view row (t .tables)) none) refl)
 
   module _ (pos : 0 < row) where
-    grantings : (P : Pool) (a t ns : List ℕ) → view row t ≡ P → sound row (length a) t ≡ true → T (small ns) → Granting P a t ns (reserveAll row P ns)
+    grantings : (P : Pool) (a : List ℕ) (t : KeptBytes) (ns : List ℕ) → view row (t .tables) ≡ P → soundKept row (length a) t ≡ true → T (small ns)
+        → Granting P a t ns (reserveAll row P ns)
     unfolding granting reserveAll enframe
-    grantings P a t [] v s h = (refl, refl, sound-facts byMasks row (length a) t (true-T (sound row (length a) t) s) .form ∙ ap (encode row) v)
+    grantings P a t [] v s h = (refl, refl, sym (same-room row a t s) ∙ ap (engine row .encode) v)
     grantings P a t (n ∷ ns) v s h = go (reserve row P n) refl (λ Q b u. grantings Q b u ns)
       where
         small-n : n < tooLarge
         small-n = small-first n ns h
 
         Later : Type 0
-        Later = (Q : Pool) (b u : List ℕ) → view row u ≡ Q → sound row (length b) u ≡ true → T (small ns) → Granting Q b u ns (reserveAll row Q ns)
+        Later = (Q : Pool) (b : List ℕ) (u : KeptBytes) → view row (u .tables) ≡ Q → soundKept row (length b) u ≡ true → T (small ns)
+            → Granting Q b u ns (reserveAll row Q ns)
 
-        lift : (q : Place) → call row a t (grants n) ≡ applied (masked row) a (grantAt row (view row t) (some q))
-            → (o : Option (List Place)) → Granting (poolOf q) (write a (enframe row q)) (encode row (poolOf q)) ns o → Granting P a t (n ∷ ns) (placed q o)
+        lift : (q : Place) → call row a t (grants n) ≡ applied (engine row) a (grantAt row (view row (t .tables)) (some q))
+            → (o : Option (List Place)) → Granting (poolOf q) (write a (enframe row q)) (engine row .encode (poolOf q)) ns o
+            → Granting P a t (n ∷ ns) (placed q o)
         lift q c none k =
             subst (λ (r : Result). T (eight (r .answer) || any eight (granting row (r .arena) (r .room) ns .answers))) (sym c) k
         lift q c (some qs) k = (
@@ -100,16 +105,17 @@ module _ (row : ℕ) where
 
         next : (q : Place) → reserve row P n ≡ some q → Later → Granting P a t (n ∷ ns) (placed q (reserveAll row (poolOf q) ns))
         next q e k =
-            let f = sound-facts byMasks row (length a) t (true-T (sound row (length a) t) s) in
-            let r : reserve row (view row t) n ≡ some q = ap (λ P. reserve row P n) v ∙ e in
-            let g : Granted row (view row t) n q = reserve-formed row (view row t) n q (f .formed) small-n r in
+            let f = engine-lawful row pos .only (length a) t (true-T (soundKept row (length a) t) s) .0 in
+            let r : reserve row (view row (t .tables)) n ≡ some q = ap (λ P. reserve row P n) v ∙ e in
+            let g : Granted row (view row (t .tables)) n q = reserve-formed row (view row (t .tables)) n q (f .formed) small-n r in
             let b : List ℕ = write a (enframe row q) in
             let l : length b ≡ length a = put-length (owned row q) (frame (q .cls) (slotNumber q) (disp (q .state)) (size (q .state))) a in
             let m : length b ≡ row * rows row (poolOf q) = l ∙ f .long ∙ ap (λ k. row * k) (sym (g .long)) in
-            let u : T (sound row (length b) (encode row (poolOf q))) =
-            encode-sound masks-laws row pos (poolOf q) (length b) (g .formed) (subst (λ k. T (arenaRight row k)) (sym l) (f .lawful)) m in
+            let u : T (soundKept row (length b) (engine row .encode (poolOf q))) =
+            engine-lawful row pos .right (length b) (poolOf q)
+            (record { lawful = subst (λ k. T (arenaRight row k)) (sym l) (f .lawful); long = m; formed = g .formed }) in
             lift q (taken-call a t n s small-n q r) (reserveAll row (poolOf q) ns)
-            (k (poolOf q) b (encode row (poolOf q)) (view-encode masks-laws row pos (poolOf q) (g .formed)) (T-true _ u) (small-rest n ns h))
+            (k (poolOf q) b (engine row .encode (poolOf q)) (engine-lawful row pos .says (poolOf q) (g .formed)) (T-true _ u) (small-rest n ns h))
 
         go : (o : Option Place) → reserve row P n ≡ o → Later → Granting P a t (n ∷ ns) (placedBy o (λ q. reserveAll row (poolOf q) ns))
         go none e k =
@@ -122,15 +128,15 @@ module _ (row : ℕ) where
     lists-as-grants a t total cap places ns z =
         let c = grantsList total cap places ns in
         let y : Accepted row pos a t c = accepted row pos a t c tt z in
-        let M : Plan → Type 0 = λ p. p .answer .number ≡ 0 → AsGrants row ns (applied (masked row) a p) (granting row a t ns) in
+        let M : Plan → Type 0 = λ p. p .answer .number ≡ 0 → AsGrants row ns (applied (engine row) a p) (granting row a t ns) in
         subst (λ (r : Result). AsGrants row ns r (granting row a t ns)) (sym (y .left))
-        (on-list row M (view row t) total cap places ns (λ r e. absurd (refuses r e))
+        (on-list row M (view row (t .tables)) total cap places ns (λ r e. absurd (refuses r e))
         (λ qs h e _.
-        let s = T-true (sound row (length a) t) (y .sound-tables) in
-        let g = subst (Granting (view row t) a t ns) e (grantings (view row t) a t ns refl s h) in
-        let w = sound-facts byMasks row (length a) t (y .sound-tables) .formed in
+        let s = T-true (soundKept row (length a) t) (y .sound-tables) in
+        let g = subst (Granting (view row (t .tables)) a t ns) e (grantings (view row (t .tables)) a t ns refl s h) in
+        let w = engine-lawful row pos .only (length a) t (y .sound-tables) .0 .formed in
         record {
-          entries = ap (λ k. k ∷ []) (places-counted row (view row t) ns qs w h e);
+          entries = ap (λ k. k ∷ []) (places-counted row (view row (t .tables)) ns qs w h e);
           starts = g .0;
           arena = sym (g .1);
           room = sym (g .2);
@@ -142,12 +148,12 @@ module _ (row : ℕ) where
     lists-exactly a t total cap places ns s p l k = by-places (reserveAll row P ns) refl
       where
         P : Pool
-        P = view row t
+        P = view row (t .tables)
 
         whole : (o : Option (List Place)) → reserveAll row P ns ≡ o
             → call row a t (grantsList total cap places ns) ≡ carried row a t (grantAllAt row P o)
         whole o e =
-            call-sound row a t (T-true (sound row (length a) t) s) (grantsList total cap places ns) tt
+            call-sound row a t (T-true (soundKept row (length a) t) s) (grantsList total cap places ns) tt
             ∙ ap (carried row a t)
             (choose-true (plannable total cap && leb entries places) _ _
             (T-true _ (and-both (plannable total cap) (leb entries places) p (le→leb entries places l)))
@@ -157,9 +163,9 @@ module _ (row : ℕ) where
             → (call row a t (grantsList total cap places ns) .answer .number ≡ 8) ↔ T (any eight (granting row a t ns .answers))
         by-places none e =
             let n = ap (λ (r : Result). r .answer .number) (whole none e ∙ carried-whole row a t (grantAllAt row P none) refl) in
-            let g = subst (Granting P a t ns) e (grantings P a t ns refl (T-true (sound row (length a) t) s) (accepts-small total cap ns k)) in
+            let g = subst (Granting P a t ns) e (grantings P a t ns refl (T-true (soundKept row (length a) t) s) (accepts-small total cap ns k)) in
             ((λ _. g), λ _. n)
         by-places (some qs) e =
             let n = ap (λ (r : Result). r .answer .number) (whole (some qs) e ∙ carried-whole row a t (grantAllAt row P (some qs)) refl) in
-            let g = subst (Granting P a t ns) e (grantings P a t ns refl (T-true (sound row (length a) t) s) (accepts-small total cap ns k)) in
+            let g = subst (Granting P a t ns) e (grantings P a t ns refl (T-true (soundKept row (length a) t) s) (accepts-small total cap ns k)) in
             ((λ x. absurd (omega (arith, n, x))), λ x. absurd (none-eight (map (start row) qs) (subst (λ l. T (any eight l)) (g .0) x)))

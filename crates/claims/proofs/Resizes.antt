@@ -13,9 +13,9 @@ use Rattle.model.specs.State.{Pool, Place, isLive, disp, size, wellFormed, pool
 use Rattle.model.specs.Blocks.{reserved, header, guard, firstSpare, spare, headerRight, guardRight, damageIn, damage, frame}
 use Rattle.model.specs.Plans.{Plan, Call, grants, releases, resizes, plan, lookup, onBlock, releaseAt, release, inPlace, resizeInPlace, resizeMove, moveTo}
 use Rattle.model.specs.Plans.{resizeAt, resize, reserve, grantAt, grant, enframe}
-use Rattle.model.specs.Tables.{byMasks, encode, view, sound, arenaRight}
-use Rattle.model.specs.Calls.{Result, masked, applied, written, damaged, carried, call}
-use Rattle.model.proofs.Tables.{masks-laws, Sound, sound-facts, view-encode, encode-sound}
+use Rattle.model.specs.Tables.{view, arenaRight}
+use Rattle.model.specs.Calls.{KeptBytes, Stands, Result, engine, soundKept, applied, written, damaged, carried, call}
+use Rattle.model.proofs.Kept.{engine-lawful}
 use Rattle.model.proofs.Blocks.{header-length, guard-fits, spare-length, spare-first, frame-length}
 use Rattle.model.proofs.Lookup.{Fits, fits, disp-inside, owned-inside, Owns, outside-group}
 use Rattle.model.proofs.Reserve.{Granted, reserve-formed, reserve-size, served}
@@ -137,12 +137,12 @@ module _ (row : ℕ) (pos : 0 < row) (a : List ℕ) (n : ℕ) (p : Place) (w : T
       bare : (x s h o k n r m : ℕ) → h ≤ r → r ≤ s → k ≤ n → o + n + r ≡ x + s → m ≡ n - k + (r - h) → x + (s - h) ≡ o + k + m
       bare x s h o k n r m j b i e f = omega arith
 
-  in-place-as-said : (z : Result) → n < tooLarge → T (isLive (p .state)) → z ≡ applied (masked row) a (resizeInPlace row p n) → InPlace row a o n p z
+  in-place-as-said : (z : Result) → n < tooLarge → T (isLive (p .state)) → z ≡ applied (engine row) a (resizeInPlace row p n) → InPlace row a o n p z
   unfolding resizeInPlace
   in-place-as-said z h v e =
       let x : z .arena ≡ reframed = ap (λ (r : Result). r .arena) e in
-      let y : view row (z .room) ≡ poolOf (sized p n) =
-      ap (λ (r : Result). view row (r .room)) e ∙ view-encode masks-laws row pos (poolOf (sized p n)) (resize-in-place-formed row p n w v h t .formed) in
+      let y : view row (z .room .tables) ≡ poolOf (sized p n) =
+      ap (λ (r : Result). view row (r .room .tables)) e ∙ engine-lawful row pos .says (poolOf (sized p n)) (resize-in-place-formed row p n w v h t .formed) in
       record {
         serves = serves;
         value = ap (λ (r : Result). r .answer .values) e;
@@ -247,16 +247,19 @@ module _ (row : ℕ) (pos : 0 < row) (P : Pool) (w : T (wellFormed P)) (a : List
 
   -- the release over the copy
   release-done : T (arenaRight row (length a))
-      → call row copy (encode row (poolOf q)) (releases (start row p)) ≡ applied (masked row) copy (releaseAt row (beside .place))
+      → call row copy (engine row .encode (poolOf q)) (releases (start row p)) ≡ applied (engine row) copy (releaseAt row (beside .place))
   unfolding plan release
   release-done h =
-      let u : List ℕ = encode row (poolOf q) in
-      let x : T (sound row (length copy) u) =
-      encode-sound masks-laws row pos (poolOf q) (length copy) (made .formed) (subst (λ m. T (arenaRight row m)) (sym copy-length) h)
-      (copy-length ∙ long ∙ ap (λ m. row * m) (sym (made .long))) in
-      call-sound row copy u (T-true (sound row (length copy) u) x) (releases (start row p)) tt
+      let u : KeptBytes = engine row .encode (poolOf q) in
+      let x : T (soundKept row (length copy) u) =
+      engine-lawful row pos .right (length copy) (poolOf q) (record {
+        lawful = subst (λ m. T (arenaRight row m)) (sym copy-length) h;
+        long = copy-length ∙ long ∙ ap (λ m. row * m) (sym (made .long));
+        formed = made .formed;
+      }) in
+      call-sound row copy u (T-true (soundKept row (length copy) u) x) (releases (start row p)) tt
       ∙ ap (carried row copy u)
-      (ap (λ Q. release row Q (start row p)) (view-encode masks-laws row pos (poolOf q) (made .formed)) ∙ released-old)
+      (ap (λ Q. release row Q (start row p)) (engine-lawful row pos .says (poolOf q) (made .formed)) ∙ released-old)
       ∙ carried-whole row copy u (releaseAt row (beside .place)) (ap (damaged row copy) (release-parts row (beside .place) .0) ∙ old-whole)
 
   new-owns : (j : ℕ) → j < stay p n → Owns row q (start row q + j)
@@ -286,12 +289,12 @@ module _ (row : ℕ) (pos : 0 < row) (P : Pool) (w : T (wellFormed P)) (a : List
       (λ x. put-past (owned row q) framed a (start row p + j) 0 (omega (arith, x, framed-length))) apart
 
   -- the grant, the copy and the release make the move
-  moved : (g z : Result) → g ≡ applied (masked row) a (grantAt row P (some q)) → T (arenaRight row (length a)) → inPlace p n ≡ false
-      → z ≡ applied (masked row) a (moveTo row P p n (some q)) → MovedBy row a (start row p) n p g z
+  moved : (g z : Result) → g ≡ applied (engine row) a (grantAt row P (some q)) → T (arenaRight row (length a)) → inPlace p n ≡ false
+      → z ≡ applied (engine row) a (moveTo row P p n (some q)) → MovedBy row a (start row p) n p g z
   unfolding inPlace enframe
   moved g z e h f l =
-      let r : Result = call row copy (encode row (poolOf q)) (releases (start row p)) in
-      let x : r ≡ applied (masked row) copy (releaseAt row (beside .place)) = release-done h in
+      let r : Result = call row copy (engine row .encode (poolOf q)) (releases (start row p)) in
+      let x : r ≡ applied (engine row) copy (releaseAt row (beside .place)) = release-done h in
       let y : z .arena ≡ r .arena =
       ap (λ (r : Result). r .arena) l ∙ ap (λ (d : Plan). written copy (d .changes)) released-old ∙ sym (ap (λ (r : Result). r .arena) x) in
       subst (λ (g : Result). MovedBy row a (start row p) n p g z) (sym e) (record {
@@ -301,7 +304,7 @@ module _ (row : ℕ) (pos : 0 < row) (P : Pool) (w : T (wellFormed P)) (a : List
         answer = ap (λ (r : Result). r .answer) l;
         released = ap (λ (r : Result). r .answer .number) x ∙ ap (λ r. r .number) (release-parts row (beside .place) .1);
         arena = y;
-        room = ap (λ (r : Result). r .room) l ∙ ap (λ (d : Plan). encode row (d .pool)) released-old ∙ sym (ap (λ (r : Result). r .room) x);
+        room = ap (λ (r : Result). r .room) l ∙ ap (λ (d : Plan). engine row .encode (d .pool)) released-old ∙ sym (ap (λ (r : Result). r .room) x);
         kept = λ j k.
             ap (λ b. getD b (start row q + j) 0) y
             ∙ new-kept r (released-as-said row pos copy (beside .place) (beside .formed) (beside .live) r x) (start row q + j) (new-owns j k)
@@ -310,28 +313,28 @@ module _ (row : ℕ) (pos : 0 < row) (P : Pool) (w : T (wellFormed P)) (a : List
 
 -- ---- every accepted resize
 
-module _ (row : ℕ) (pos : 0 < row) (a t : List ℕ) (h : T (sound row (length a) t)) (n : ℕ) (small : n < tooLarge) where
+module _ (row : ℕ) (pos : 0 < row) (a : List ℕ) (t : KeptBytes) (h : T (soundKept row (length a) t)) (n : ℕ) (small : n < tooLarge) where
   abbrev P : Pool
-  P = view row t
+  P = view row (t .tables)
 
-  s : Sound byMasks row (length a) t
-  s = sound-facts byMasks row (length a) t h
+  s : Stands row (length a) P
+  s = engine-lawful row pos .only (length a) t h .0
 
   -- the grant of a move
-  grant-done : (q : Place) → reserve row P n ≡ some q → call row a t (grants n) ≡ applied (masked row) a (grantAt row P (some q))
+  grant-done : (q : Place) → reserve row P n ≡ some q → call row a t (grants n) ≡ applied (engine row) a (grantAt row P (some q))
   unfolding plan grant
   grant-done q e =
-      call-sound row a t (T-true (sound row (length a) t) h) (grants n) tt
+      call-sound row a t (T-true (soundKept row (length a) t) h) (grants n) tt
       ∙ ap (carried row a t) (choose-false (leb tooLarge n) _ (grantAt row P (reserve row P n)) (lt-leb tooLarge n small) ∙ ap (grantAt row P) e)
       ∙ carried-whole row a t (grantAt row P (some q)) refl
 
   -- a resize that was done, of the block p
   resized-as-said : (p : Place) → demand2.Intact row a P (start row p) p → (z : Result) → z .answer .number ≡ 0
-      → z ≡ applied (masked row) a (resizeAt row P n p)
+      → z ≡ applied (engine row) a (resizeAt row P n p)
       → InPlace row a (start row p) n p z ⊎ MovedBy row a (start row p) n p (call row a t (grants n)) z
   unfolding resizeAt resizeMove
   resized-as-said p i z d l =
-      choose-case (λ (r : Plan). z ≡ applied (masked row) a r → InPlace row a (start row p) n p z ⊎ M) (inPlace p n) (resizeInPlace row p n)
+      choose-case (λ (r : Plan). z ≡ applied (engine row) a r → InPlace row a (start row p) n p z ⊎ M) (inPlace p n) (resizeInPlace row p n)
       (resizeMove row P p n)
       (λ e l. inl (in-place-as-said row pos a n p (place-formed row pos P (s .formed) a (start row p) p i)
       (s .long ∙ ap (λ Q. row * rows row Q) (sym (i .live .here .slotted .pool))) (true-T (inPlace p n) e) z small (i .live .live) l))
@@ -340,7 +343,7 @@ module _ (row : ℕ) (pos : 0 < row) (a t : List ℕ) (h : T (sound row (length 
       M : Type 0
       M = MovedBy row a (start row p) n p (call row a t (grants n)) z
 
-      go : inPlace p n ≡ false → (r : Option Place) → reserve row P n ≡ r → z ≡ applied (masked row) a (moveTo row P p n r) → M
+      go : inPlace p n ≡ false → (r : Option Place) → reserve row P n ≡ r → z ≡ applied (engine row) a (moveTo row P p n r) → M
       go e none f l = absurd (omega (arith, d, ap (λ (r : Result). r .answer .number) l))
       go e (some q) f l = moved row pos P (s .formed) a (s .long) n small q f p i (call row a t (grants n)) z (grant-done q f) (s .lawful) e l
 
@@ -349,21 +352,22 @@ unfolding plan resize
 resizes-as-said row pos a t o n z =
     let c : Call = resizes o n in
     let y : Accepted row pos a t c = accepted row pos a t c tt z in
-    let w : T (wellFormed (view row t)) = sound-facts byMasks row (length a) t (y .sound-tables) .formed in
+    let P : Pool = view row (t .tables) in
+    let w : T (wellFormed P) = engine-lawful row pos .only (length a) t (y .sound-tables) .0 .formed in
     let (_, (n₃, m)) = none-due (Due row a t c) (order c) _ (demand1 row pos a t c .number) z in
     let h : n < tooLarge = not-large n₃ in
     let (p, i) = found-intact row pos a t (y .sound-tables) c (NoRoom ∷ []) m in
-    let l : call row a t c ≡ applied (masked row) a (resizeAt row (view row t) n p) =
+    let l : call row a t c ≡ applied (engine row) a (resizeAt row P n p) =
     y .left
-    ∙ ap (applied (masked row) a)
-    (choose-false (leb tooLarge n) _ (onBlock (view row t) (resizeAt row (view row t) n) (lookup row (view row t) o)) (lt-leb tooLarge n h)
-    ∙ on-intact row pos (view row t) w a o p i (resizeAt row (view row t) n)) in
+    ∙ ap (applied (engine row) a)
+    (choose-false (leb tooLarge n) _ (onBlock P (resizeAt row P n) (lookup row P o)) (lt-leb tooLarge n h)
+    ∙ on-intact row pos P w a o p i (resizeAt row P n)) in
     let e : start row p ≡ o = i .live .here .starts in (
       p,
       record {
         block = i;
         done = subst (λ o. Done o p) e
-            (resized-as-said row pos a t (y .sound-tables) n h p (subst (λ o. demand2.Intact row a (view row t) o p) (sym e) i) (call row a t c) z l);
+            (resized-as-said row pos a t (y .sound-tables) n h p (subst (λ o. demand2.Intact row a P o p) (sym e) i) (call row a t c) z l);
       },
     )
   where

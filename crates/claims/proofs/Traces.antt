@@ -8,12 +8,12 @@ use Rattle.mem.proofs.Laws.{zeros-length, put-length, put-before, put-past}
 use Rattle.classes.specs.Classes.{rowBytes}
 use Rattle.model.specs.State.{Pool, wellFormed}
 use Rattle.model.specs.Plans.{Plan, Call, grants, releases, resizes, measures, reports, plan}
-use Rattle.model.specs.Tables.{encode, arenaRight, roomBytes}
-use Rattle.model.specs.Calls.{Result, masked, applied, call, callBy, written, setUpRight, setUpRightBy}
+use Rattle.model.specs.Tables.{arenaRight, roomBytes}
+use Rattle.model.specs.Calls.{KeptBytes, keptIn, Result, engine, applied, call, callBy, written, setUpRight, setUpRightBy}
 use Rattle.model.proofs.Fresh.{fresh-formed, whole-rows, set-up-lawful, set-up-done}
 use Rattle.model.proofs.Formed.{Formed, plan-formed}
 use Rattle.trace.specs.Trace.{Operation, grant, release, resize, measure, store, report, Item, does, items, traceRight}
-use Rattle.trace.specs.Replay.{arenaBytes, Line, Effect, effect, lineThen, performed, linesFrom, replayedOver, replayed}
+use Rattle.trace.specs.Replay.{noTotals, arenaBytes, Line, Effect, effect, lineThen, performed, linesFrom, replayedOver, replayed}
 use Rattle.claims.specs.Demand3.{fed, requested, SameOutside}
 use Rattle.claims.specs.Traces.{blank, Stepped, stepped, steps, modelLines, Lies, StoresInside, LinesModelled, StoresSteerNothing}
 use Rattle.claims.specs.Traces.{ReplaySteersNothing}
@@ -25,11 +25,11 @@ use Rattle.claims.proofs.Demand3.{call-follows}
 -- ---- one record
 
 -- a state of the model, and the arena of n bytes and the room that hold it
-record Holds (row n : ℕ) (P : Pool) (a t : List ℕ) : Type 0 where
+record Holds (row n : ℕ) (P : Pool) (a : List ℕ) (t : KeptBytes) : Type 0 where
   formed : T (wellFormed P)
   long : length a ≡ n
   agrees : Agrees (cells row P) a
-  room : t ≡ encode row P
+  room : t ≡ engine row .encode P
 
 -- what a record does is what the model does with it
 record Follows (row n : ℕ) (d : Effect) (s : Stepped) : Type 0 where
@@ -52,7 +52,7 @@ stored-outside row P a o bs s = record { long = put-length o bs a; bytes = λ i 
     go i t true true e f = absurd (T-not (requested row P i) t (s i (leb-true o i e) (ltb-true i (o + length bs) f)))
 
 module _ (row : ℕ) (pos : 0 < row) (n : ℕ) (h : T (arenaRight row n)) where
-  module _ (P : Pool) (a t : List ℕ) (r : Holds row n P a t) where
+  module _ (P : Pool) (a : List ℕ) (t : KeptBytes) (r : Holds row n P a t) where
     -- the five calls: the model's plan is carried out
     call-follows-plan : (c : Call) → Follows row n (effect (call row a t c)) (stepped (plan row P c))
     call-follows-plan c =
@@ -62,7 +62,7 @@ module _ (row : ℕ) (pos : 0 < row) (n : ℕ) (h : T (arenaRight row n)) where
         let g : Agrees (cells row (p .pool)) x = plan-kept row pos P (r .formed) a (r .agrees) c .agrees in
         let l : length x ≡ n =
         arena-length row pos (p .pool) (m .formed) x g ∙ ap (λ k. row * k) (m .long) ∙ sym (arena-length row pos P (r .formed) a (r .agrees)) ∙ r .long in
-        let e : call row a t c ≡ applied (masked row) a p =
+        let e : call row a t c ≡ applied (engine row) a p =
         ap (λ t. call row a t c) (r .room) ∙ call-follows row pos P (r .formed) a (subst (λ m. T (arenaRight row m)) (sym (r .long)) h) (r .agrees) c in
         subst (λ z. Follows row n (effect z) (stepped p)) (sym e)
         (record { tells = refl; holds = record { formed = m .formed; long = l; agrees = g; room = refl } })
@@ -88,7 +88,7 @@ module _ (row : ℕ) (pos : 0 < row) (n : ℕ) (h : T (arenaRight row n)) where
   -- ---- all records
 
   -- the lines of records over an arena and a room that hold a state
-  lines : (P : Pool) (a t : List ℕ) (i : ℕ) (xs : List Item) → Holds row n P a t → StoresInside row n P xs
+  lines : (P : Pool) (a : List ℕ) (t : KeptBytes) (i : ℕ) (xs : List Item) → Holds row n P a t → StoresInside row n P xs
       → linesFrom row a t i xs ≡ modelLines row n P i xs
   unfolding linesFrom modelLines StoresInside
   lines P a t i [] r s = refl
@@ -147,7 +147,7 @@ module _ (row : ℕ) (pos : 0 < row) where
       let n : ℕ = length a in
       let P : Pool = fed row n in
       let w : T (arenaRight row n) = set-up-lawful row a t h in
-      let r : Holds row n P (zeros n) (encode row P) = record {
+      let r : Holds row n P (zeros n) (engine row .encode P) = record {
         formed = fresh-formed (n / row);
         long = zeros-length n;
         agrees = subst (λ m. Agrees (cells row P) (zeros m)) (whole-rows row n w) (fresh-agrees row pos (n / row));
@@ -155,7 +155,7 @@ module _ (row : ℕ) (pos : 0 < row) where
       } in
       ap (λ (ls : List Line). choose (traceRight s) ls (Line.bad 0 ∷ []))
       (ap (λ (z : Result). linesFrom row (z .arena) (z .room) 1 (items s)) (set-up-done row a t h)
-      ∙ lines row pos n w P (zeros n) (encode row P) 1 (items s) r k)
+      ∙ lines row pos n w P (zeros n) (engine row .encode P) 1 (items s) r k)
 
   pub stores-steer-nothing : StoresSteerNothing row
   stores-steer-nothing a₁ t₁ a₂ t₂ s₁ s₂ h₁ h₂ l same k =
@@ -174,7 +174,7 @@ module _ (row : ℕ) (pos : 0 < row) where
 -- ---- the replay's pool
 
 -- set up takes the program's arena and table room
-taken : T (setUpRight rowBytes (zeros arenaBytes) (zeros (roomBytes (arenaBytes / rowBytes))))
+taken : T (setUpRight rowBytes (zeros arenaBytes) (keptIn (zeros (roomBytes (arenaBytes / rowBytes))) noTotals))
 unfolding setUpRightBy arenaRight rowBytes roomBytes zeros
 taken = tt
 

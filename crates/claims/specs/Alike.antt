@@ -8,7 +8,7 @@ use lib.ListN.{length}
 use Rattle.mem.specs.Bytes.{put}
 use Rattle.model.specs.Answers.{Answer}
 use Rattle.model.specs.Plans.{Call}
-use Rattle.model.specs.Calls.{Form, FormLaws, masked, callBy, setUpBy, setUpRightBy}
+use Rattle.model.specs.Calls.{Form, FormLaws, masked, engine, callBy, setUpBy, setUpRightBy}
 
 -- bytes stored anywhere in the arena; what would fall past its end is left out
 pub record Store : Type 0 where
@@ -47,9 +47,12 @@ module _ (row : ℕ) where
   abbrev pub FormsAlike : Type 1
   FormsAlike = (F G : Form) → FormLaws row F → FormLaws row G → Alike F G
 
-  -- and the first engine's form is one of them
+  -- and the first engine's form is one of them, and so are its tables without the record
   abbrev pub FirstLawful : Type 0
-  FirstLawful = FormLaws row (masked row)
+  FirstLawful = FormLaws row (engine row)
+
+  abbrev pub MaskedLawful : Type 0
+  MaskedLawful = FormLaws row (masked row)
 
 -- the stores reach every arena: any bytes can stand in it before a call
 abbrev pub StoresAnywhere : Type 0

@@ -16,7 +16,7 @@ use Rattle.model.specs.Blocks.{reserved, guard}
 use Rattle.model.specs.Answers.{done, listed}
 use Rattle.model.specs.Plans.{copies, Call, setsUp, grants, releases, resizes, measures, reports, freshPool, totals}
 use Rattle.model.specs.Tables.{view, sound}
-use Rattle.model.specs.Calls.{Result, write, call}
+use Rattle.model.specs.Calls.{KeptBytes, Result, write, soundKept, call}
 use Rattle.claims.specs.Demand1.{StartsAt, guardDue}
 use Rattle.claims.specs.Demand2.{Intact}
 
@@ -69,56 +69,60 @@ module _ (row : ℕ) where
   -- "Set up writes zero over the whole arena and makes tables with no groups."
   pub record MadeFresh (a : List ℕ) (r : Result) : Type 0 where
     pub value : r .answer .values ≡ 0 ∷ []
-    pub pool : view row (r .room) ≡ freshPool (length a / row)
+    pub pool : view row (r .room .tables) ≡ freshPool (length a / row)
     pub bytes : ZeroedOnly a (r .arena) 0 (length a)
+    -- 02 §4: "Set up writes the record": no total but the rows, which are free
+    pub kept : r .room .totals ≡ record { blocks = 0; bytes = 0; held = 0; free = length a / row; ready = 0; waiting = 0 }
 
   abbrev pub SetsUpAsSaid : Type 0
-  SetsUpAsSaid = (a t : List ℕ) → call row a t setsUp .answer .number ≡ 0 → MadeFresh a (call row a t setsUp)
+  SetsUpAsSaid = (a : List ℕ) (t : KeptBytes) → call row a t setsUp .answer .number ≡ 0 → MadeFresh a (call row a t setsUp)
 
   -- MEASURE AND REPORT
 
-  -- a call that leaves every byte of arena and tables
-  pub record Unchanged (a t : List ℕ) (c : Call) : Type 0 where
+  -- a call that leaves every byte of arena and tables, and the record
+  pub record Unchanged (a : List ℕ) (t : KeptBytes) (c : Call) : Type 0 where
     pub arena : call row a t c .arena ≡ a
     pub room : call row a t c .room ≡ t
 
   -- over any bytes, refused or not
   pub record ReadsOnly : Type 0 where
-    pub measured : (a t : List ℕ) (o : ℕ) → Unchanged a t (measures o)
-    pub reported : (a t : List ℕ) → Unchanged a t reports
+    pub measured : (a : List ℕ) (t : KeptBytes) (o : ℕ) → Unchanged a t (measures o)
+    pub reported : (a : List ℕ) (t : KeptBytes) → Unchanged a t reports
 
-  -- "Report gives, in this order: live blocks, their requested bytes, rows held, rows free, ready slots, waiting slots"
+  -- "Report gives, in this order: live blocks, their requested bytes, rows held, rows free, ready slots, waiting slots"; 02 §4: "report reads
+  -- it", the record
   abbrev pub ReportsAsSaid : Type 0
-  ReportsAsSaid = (a t : List ℕ) → T (sound row (length a) t) → call row a t reports .answer ≡ done (listed (totals row (view row t)))
+  ReportsAsSaid = (a : List ℕ) (t : KeptBytes) → T (soundKept row (length a) t)
+      → (call row a t reports .answer ≡ done (listed (totals row (view row (t .tables))))) × (call row a t reports .answer ≡ done (listed (t .totals)))
 
   -- RELEASE
 
   -- "The slot becomes waiting", with its count and displacement, "and its s owned bytes zero."
   pub record Waits (a : List ℕ) (p : Place) (r : Result) : Type 0 where
     pub other-live : T (any isLive (p .lower ++ p .upper))
-    pub pool : view row (r .room) ≡ poolOf (become p (Idle false (count (p .state)) (disp (p .state))))
+    pub pool : view row (r .room .tables) ≡ poolOf (become p (Idle false (count (p .state)) (disp (p .state))))
     pub bytes : ZeroedOnly a (r .arena) (owned row p) (slotBytes (p .cls))
 
   -- "If no slot of the group is live, the group goes, all its rows become zero and free."
   pub record Goes (a : List ℕ) (p : Place) (r : Result) : Type 0 where
     pub none-live : T (every (λ x. not (isLive x)) (p .lower ++ p .upper))
-    pub pool : view row (r .room) ≡ p .before ++ (freshPool (rowsOf row (p .cls)) ++ p .after)
+    pub pool : view row (r .room .tables) ≡ p .before ++ (freshPool (rowsOf row (p .cls)) ++ p .after)
     pub bytes : ZeroedOnly a (r .arena) (base row p) (row * rowsOf row (p .cls))
 
-  pub record Released (a t : List ℕ) (o : ℕ) (p : Place) : Type 0 where
-    pub block : Intact row a (view row t) o p
+  pub record Released (a : List ℕ) (t : KeptBytes) (o : ℕ) (p : Place) : Type 0 where
+    pub block : Intact row a (view row (t .tables)) o p
     pub value : call row a t (releases o) .answer .values ≡ 0 ∷ []
     pub left : Waits a p (call row a t (releases o)) ⊎ Goes a p (call row a t (releases o))
 
   abbrev pub ReleasesAsSaid : Type 0
-  ReleasesAsSaid = (a t : List ℕ) (o : ℕ) → call row a t (releases o) .answer .number ≡ 0 → (p : Place) × Released a t o p
+  ReleasesAsSaid = (a : List ℕ) (t : KeptBytes) (o : ℕ) → call row a t (releases o) .answer .number ≡ 0 → (p : Place) × Released a t o p
 
   -- RESIZE
 
   pub record InPlace (a : List ℕ) (o n : ℕ) (p : Place) (r : Result) : Type 0 where
     pub serves : Serves p n
     pub value : r .answer .values ≡ o ∷ []
-    pub pool : view row (r .room) ≡ poolOf (sized p n)
+    pub pool : view row (r .room .tables) ≡ poolOf (sized p n)
     pub long : length (r .arena) ≡ length a
     -- "the first bytes, as many as the lesser of old and new n, stay"
     pub kept : (i : ℕ) → i < stay p n → getD (r .arena) (o + i) 0 ≡ getD a (o + i) 0
@@ -126,7 +130,7 @@ module _ (row : ℕ) where
     pub zero : (i : ℕ) → o + stay p n ≤ i → i + length (guard (reserved (p .cls) (disp (p .state)) n)) < owned row p + slotBytes (p .cls)
         → getD (r .arena) i 0 ≡ 0
     -- "header and guard are written anew"
-    pub due : Intact row (r .arena) (view row (r .room)) o (sized p n)
+    pub due : Intact row (r .arena) (view row (r .room .tables)) o (sized p n)
     -- no byte before the header or behind the block changes
     pub others : (i : ℕ) → (i + 4 < o) ⊎ (owned row p + slotBytes (p .cls) ≤ i) → getD (r .arena) i 0 ≡ getD a i 0
 
@@ -145,9 +149,9 @@ module _ (row : ℕ) where
   abbrev pub MovedBy : List ℕ → ℕ → ℕ → Place → Result → Result → Type 0
   MovedBy a o n p g r = let v = getD (g .answer .values) 0 0 in Moved a o n p g v (write (g .arena) (copies o v (stay p n))) r
 
-  pub record Resized (a t : List ℕ) (o n : ℕ) (p : Place) : Type 0 where
-    pub block : Intact row a (view row t) o p
+  pub record Resized (a : List ℕ) (t : KeptBytes) (o n : ℕ) (p : Place) : Type 0 where
+    pub block : Intact row a (view row (t .tables)) o p
     pub done : InPlace a o n p (call row a t (resizes o n)) ⊎ MovedBy a o n p (call row a t (grants n)) (call row a t (resizes o n))
 
   abbrev pub ResizesAsSaid : Type 0
-  ResizesAsSaid = (a t : List ℕ) (o n : ℕ) → call row a t (resizes o n) .answer .number ≡ 0 → (p : Place) × Resized a t o n p
+  ResizesAsSaid = (a : List ℕ) (t : KeptBytes) (o n : ℕ) → call row a t (resizes o n) .answer .number ≡ 0 → (p : Place) × Resized a t o n p

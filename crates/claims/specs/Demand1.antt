@@ -17,8 +17,8 @@ use Rattle.model.specs.Blocks.{headerRight, guardRight, ownedBytes}
 use Rattle.model.specs.Answers.{numberOf}
 use Rattle.model.specs.Proposals.{entries, accepts}
 use Rattle.model.specs.Plans.{Call, setsUp, grants, releases, resizes, measures, reports, grantsList, inPlace, reserveAll, poolAfter, NoPlace}
-use Rattle.model.specs.Tables.{sound, view}
-use Rattle.model.specs.Calls.{call, setUpRight}
+use Rattle.model.specs.Tables.{view}
+use Rattle.model.specs.Calls.{KeptBytes, soundKept, call, setUpRight}
 
 -- "They are tested in this order, each where it applies: grant 2, 3, 8; release and measure 2, 4, 5, 6, 7; resize all of 2 to 8;
 -- report 2." 02 §3: "Order: 2, 9, 17, 8."
@@ -126,25 +126,26 @@ module _ (row : ℕ) where
   NoRoomFor P (grantsList total cap places ns) = Meets P ns
 
   -- "Given exactly when", each by itself
-  abbrev pub Due : List ℕ → List ℕ → Call → Refusal → Type 0
+  abbrev pub Due : List ℕ → KeptBytes → Call → Refusal → Type 0
   Due a t c BadArena = T (not (setUpRight row a t))
-  Due a t c Unsound = T (not (sound row (length a) t))
+  Due a t c Unsound = T (not (soundKept row (length a) t))
   Due a t c TooLarge = tooLarge ≤ sizeIn c
-  Due a t c NoSuchBlock = (p : Place) → StartsAt (view row t) (offsetIn c) p → ⊥
-  Due a t c AlreadyFree = (p : Place) × StartsAt (view row t) (offsetIn c) p × T (not (isLive (p .state)))
-  Due a t c HeaderDamaged = (p : Place) × LiveAt (view row t) (offsetIn c) p × T (not (headerDue a p))
-  Due a t c Overrun = (p : Place) × LiveAt (view row t) (offsetIn c) p × T (headerDue a p) × T (not (guardDue a p))
-  Due a t c NoRoom = NoRoomFor (view row t) c
+  Due a t c NoSuchBlock = (p : Place) → StartsAt (view row (t .tables)) (offsetIn c) p → ⊥
+  Due a t c AlreadyFree = (p : Place) × StartsAt (view row (t .tables)) (offsetIn c) p × T (not (isLive (p .state)))
+  Due a t c HeaderDamaged = (p : Place) × LiveAt (view row (t .tables)) (offsetIn c) p × T (not (headerDue a p))
+  Due a t c Overrun = (p : Place) × LiveAt (view row (t .tables)) (offsetIn c) p × T (headerDue a p) × T (not (guardDue a p))
+  Due a t c NoRoom = NoRoomFor (view row (t .tables)) c
   Due a t c TooLong = OfList (λ total cap places ns. TooLongList total cap places) c
   -- 02 §3: "Answer 17, bad proposal, exactly if the check refuses it."
   Due a t c BadProposal = OfList (λ total cap places ns. T (not (accepts total cap ns))) c
 
-  -- DEMAND 1, of any bytes and any call; 02 §3: "A refused list leaves arena, tables and lent list unchanged"
-  pub record Answered (a t : List ℕ) (c : Call) : Type 0 where
+  -- DEMAND 1, of any bytes, any record and any call; 02 §3: "A refused list leaves arena, tables and lent list unchanged"; 02 §4: "a refusal
+  -- keeps it", the record, which is lent with the tables
+  pub record Answered (a : List ℕ) (t : KeptBytes) (c : Call) : Type 0 where
     pub number : FirstDue (Due a t c) (order c) (call row a t c .answer .number)
     pub refused : (call row a t c .answer .number ≡ 0 → ⊥)
         → (call row a t c .arena ≡ a) × (call row a t c .room ≡ t) × (call row a t c .answer .values ≡ refusedValues c)
         × (call row a t c .answer .lent ≡ [])
 
   abbrev pub Demand1 : Type 0
-  Demand1 = (a t : List ℕ) (c : Call) → Answered a t c
+  Demand1 = (a : List ℕ) (t : KeptBytes) (c : Call) → Answered a t c

@@ -18,7 +18,7 @@ use Rattle.model.specs.State.{Pool, Place, group, isLive, isReady, disp, size, 
 use Rattle.model.specs.Blocks.{frame}
 use Rattle.model.specs.Plans.{Call, grants, releases, measures, refill, grantSlot, freshPool, AllLive, NoPlace}
 use Rattle.model.specs.Tables.{sound, view}
-use Rattle.model.specs.Calls.{call}
+use Rattle.model.specs.Calls.{KeptBytes, soundKept, call}
 use Rattle.claims.specs.Demand1.{LiveAt, headerDue, guardDue}
 
 module _ (row : ℕ) where
@@ -30,19 +30,19 @@ module _ (row : ℕ) where
 
   -- "With sound tables, release accepts an offset exactly if it starts a live block whose header and guard are intact."
   abbrev pub ReleasesExactly : Type 0
-  ReleasesExactly = (a t : List ℕ) (o : ℕ) → T (sound row (length a) t)
-      → (call row a t (releases o) .answer .number ≡ 0) ↔ ((p : Place) × Intact a (view row t) o p)
+  ReleasesExactly = (a : List ℕ) (t : KeptBytes) (o : ℕ) → T (soundKept row (length a) t)
+      → (call row a t (releases o) .answer .number ≡ 0) ↔ ((p : Place) × Intact a (view row (t .tables)) o p)
 
   -- measure likewise, and "Measure gives n."
   abbrev pub MeasuresExactly : Type 0
-  MeasuresExactly = (a t : List ℕ) (o : ℕ) → T (sound row (length a) t)
-      → ((call row a t (measures o) .answer .number ≡ 0) ↔ ((p : Place) × Intact a (view row t) o p))
-      × ((p : Place) → Intact a (view row t) o p → call row a t (measures o) .answer .values ≡ size (p .state) ∷ [])
+  MeasuresExactly = (a : List ℕ) (t : KeptBytes) (o : ℕ) → T (soundKept row (length a) t)
+      → ((call row a t (measures o) .answer .number ≡ 0) ↔ ((p : Place) × Intact a (view row (t .tables)) o p))
+      × ((p : Place) → Intact a (view row (t .tables)) o p → call row a t (measures o) .answer .values ≡ size (p .state) ∷ [])
 
   -- "A grant is refused exactly if .."
   abbrev pub GrantsExactly : Type 0
-  GrantsExactly = (a t : List ℕ) (n : ℕ)
-      → (call row a t (grants n) .answer .number ≡ 0 → ⊥) ↔ ((tooLarge ≤ n) ⊎ (T (not (sound row (length a) t)) ⊎ NoPlace row (view row t) (classOf n)))
+  GrantsExactly = (a : List ℕ) (t : KeptBytes) (n : ℕ)
+      → (call row a t (grants n) .answer .number ≡ 0 → ⊥) ↔ ((tooLarge ≤ n) ⊎ (T (not (soundKept row (length a) t)) ⊎ NoPlace row (view row (t .tables)) (classOf n)))
 
   -- the group that serves: "Of the groups of n's class with a slot not live, take the one with the lowest first row", or, "If there is
   -- no such group, make one at the lowest run of R free rows, all slots ready"; between X and Y, with slots ss
@@ -58,9 +58,9 @@ module _ (row : ℕ) where
     pub lowest : (X′ Y′ : Pool) → P ≡ X′ ++ (freshPool (rowsOf row c) ++ Y′) → rows row X ≤ rows row X′
 
   -- a granted block is where and what document 01 says
-  pub record Granted (a t : List ℕ) (n : ℕ) (p : Place) : Type 0 where
+  pub record Granted (a : List ℕ) (t : KeptBytes) (n : ℕ) (p : Place) : Type 0 where
     pub slots : List Slot
-    pub served : Opened (view row t) (classOf n) (p .before) slots (p .after) ⊎ Made (view row t) (classOf n) (p .before) slots (p .after)
+    pub served : Opened (view row (t .tables)) (classOf n) (p .before) slots (p .after) ⊎ Made (view row (t .tables)) (classOf n) (p .before) slots (p .after)
     pub old : Slot
     -- "If its ready set is empty, all waiting slots become ready first. Take its lowest ready slot."
     pub refilled : refill slots ≡ p .lower ++ (old ∷ p .upper)
@@ -72,11 +72,11 @@ module _ (row : ℕ) where
     pub bytes : size (p .state) ≡ n
     pub value : call row a t (grants n) .answer .values ≡ start row p ∷ []
     -- the tables, and the slot's bytes with header and guard; "no other arena byte changes"
-    pub pool : view row (call row a t (grants n) .room) ≡ poolOf p
+    pub pool : view row (call row a t (grants n) .room .tables) ≡ poolOf p
     pub arena : call row a t (grants n) .arena ≡ put (owned row p) (frame (p .cls) (slotNumber p) (disp (p .state)) n) a
 
   abbrev pub GrantsAsSaid : Type 0
-  GrantsAsSaid = (a t : List ℕ) (n : ℕ) → call row a t (grants n) .answer .number ≡ 0 → (p : Place) × Granted a t n p
+  GrantsAsSaid = (a : List ℕ) (t : KeptBytes) (n : ℕ) → call row a t (grants n) .answer .number ≡ 0 → (p : Place) × Granted a t n p
 
   -- "Live blocks never share a byte": byte i is in the header, the requested bytes or the reserved bytes of a block
   pub record InBlock (p : Place) (i : ℕ) : Type 0 where
@@ -94,4 +94,4 @@ module _ (row : ℕ) where
 
   -- "Every accepted call leaves sound tables." A set up makes them sound, whatever they were.
   abbrev pub LeavesSound : Type 0
-  LeavesSound = (a t : List ℕ) (c : Call) → call row a t c .answer .number ≡ 0 → T (sound row (length (call row a t c .arena)) (call row a t c .room))
+  LeavesSound = (a : List ℕ) (t : KeptBytes) (c : Call) → call row a t c .answer .number ≡ 0 → T (soundKept row (length (call row a t c .arena)) (call row a t c .room))

@@ -14,7 +14,7 @@ use Rattle.model.specs.State.{Pool, Place, isLive, size, places, start}
 use Rattle.model.specs.Answers.{Answer, done, listed}
 use Rattle.model.specs.Plans.{Call, setsUp, grants, releases, resizes, measures, reports, grantsList, plan, lookup, totals, freshPool}
 use Rattle.model.specs.Tables.{encode, roomFor}
-use Rattle.model.specs.Calls.{call, setUp, setUpRight}
+use Rattle.model.specs.Calls.{KeptBytes, call, setUp, setUpRight}
 
 -- THE MODEL: "Every call steps on that state and its arguments alone". What it answers to calls, and its state after them.
 pub record Modelled : Type 0 where
@@ -34,7 +34,7 @@ calls us = map (λ u. u .asks) us
 pub record Ended : Type 0 where
   pub answers : List Answer
   pub arena : List ℕ
-  pub room : List ℕ
+  pub room : KeptBytes
 
 module _ (row : ℕ) where
   unfoldable pub model : Pool → List Call → Modelled
@@ -50,7 +50,7 @@ module _ (row : ℕ) where
   fed n = freshPool (n / row)
 
   abbrev pub RoomFollows : Type 0
-  RoomFollows = (a t : List ℕ) → T (setUpRight row a t) → length t ≡ roomFor row (length a)
+  RoomFollows = (a : List ℕ) (t : KeptBytes) → T (setUpRight row a t) → length (t .tables) ≡ roomFor row (length a)
 
   -- "Its requested bytes lie from its start on, as many as the n last accepted for it."
   abbrev pub covers : ℕ → Place → Bool
@@ -65,8 +65,8 @@ module _ (row : ℕ) where
     pub long : length b ≡ length a
     pub bytes : (i : ℕ) → T (not (requested P i)) → getD b i 0 ≡ getD a i 0
 
-  -- a run: each call is made over the arena as the engine left it and the room as the last call left it
-  unfoldable pub ran : List ℕ → List ℕ → List Turn → Ended
+  -- a run: each call is made over the arena as the engine left it, and room and record as the last call left them
+  unfoldable pub ran : List ℕ → KeptBytes → List Turn → Ended
   ran a t [] = record { answers = []; arena = a; room = t }
   ran a t (u ∷ us) =
       let r = call row (u .arena) t (u .asks) in
@@ -74,7 +74,7 @@ module _ (row : ℕ) where
       record { answers = r .answer ∷ e .answers; arena = e .arena; room = e .room }
 
   -- a run from a fresh pool: "A fresh pool is what an accepted set up leaves."
-  abbrev pub ranFresh : List ℕ → List ℕ → List Turn → Ended
+  abbrev pub ranFresh : List ℕ → KeptBytes → List Turn → Ended
   ranFresh a t us = ran (setUp row a t .arena) (setUp row a t .room) us
 
   -- the totals after a run: what report gives over what it leaves
@@ -83,7 +83,7 @@ module _ (row : ℕ) where
 
   -- "Nothing but the calls and the engine's stores writes": before each call the engine stored into requested bytes of blocks
   -- then live, and nowhere else
-  unfoldable pub EngineOnly : Pool → List ℕ → List ℕ → List Turn → Type 0
+  unfoldable pub EngineOnly : Pool → List ℕ → KeptBytes → List Turn → Type 0
   EngineOnly P a t [] = Unit {0}
   EngineOnly P a t (u ∷ us) =
       SameOutside P a (u .arena)
@@ -116,32 +116,35 @@ module _ (row : ℕ) where
   unfoldable pub Cleared : Pool → Call → Answer → List ℕ → Type 0
   Cleared P c r a = r .number ≡ 0 → (i : ℕ) → Gains P c r i → getD a i 0 ≡ 0
 
-  unfoldable pub AllCleared : Pool → List ℕ → List ℕ → List Turn → Type 0
+  unfoldable pub AllCleared : Pool → List ℕ → KeptBytes → List Turn → Type 0
   unfolding Cleared
   AllCleared P a t [] = Unit {0}
   AllCleared P a t (u ∷ us) =
       Cleared P (u .asks) (call row (u .arena) t (u .asks) .answer) (call row (u .arena) t (u .asks) .arena)
       × AllCleared (plan row P (u .asks) .pool) (call row (u .arena) t (u .asks) .arena) (call row (u .arena) t (u .asks) .room) us
 
-  -- what one run of the calls from a pool P shows: the model's answers, tables and totals, and zeros where a block gains bytes
-  pub record AsModelled (P : Pool) (a t : List ℕ) (us : List Turn) : Type 0 where
+  -- what one run of the calls from a pool P shows: the model's answers, tables and totals, kept in the record and reported, and zeros where a
+  -- block gains bytes; 02 §4: "demand 3 counts it with the tables"
+  pub record AsModelled (P : Pool) (a : List ℕ) (t : KeptBytes) (us : List Turn) : Type 0 where
     pub answers : ran a t us .answers ≡ model P (calls us) .answers
-    pub tables : ran a t us .room ≡ encode row (model P (calls us) .pool)
+    pub tables : ran a t us .room .tables ≡ encode row (model P (calls us) .pool)
+    pub kept : ran a t us .room .totals ≡ totals row (model P (calls us) .pool)
     pub counted : reported (ran a t us) ≡ done (listed (totals row (model P (calls us) .pool)))
     pub cleared : AllCleared P a t us
 
-  -- what two runs show beside one another: equal answers, equal tables, equal totals, and equal bytes but for the requested ones of the
-  -- blocks of P
+  -- what two runs show beside one another: equal answers, equal tables, equal totals, kept and reported, and equal bytes but for the requested
+  -- ones of the blocks of P
   pub record SameRuns (P : Pool) (d e : Ended) : Type 0 where
     pub answers : d .answers ≡ e .answers
-    pub tables : d .room ≡ e .room
+    pub tables : d .room .tables ≡ e .room .tables
+    pub kept : d .room .totals ≡ e .room .totals
     pub totals : reported d ≡ reported e
     pub outside : SameOutside P (d .arena) (e .arena)
 
-  -- DEMAND 3. Over any arena and room bytes of the right lengths, different in each run; the same list of calls, and any stores of the
-  -- engine, different in each.
+  -- DEMAND 3. Over any arena and room bytes of the right lengths and any record, different in each run; the same list of calls, and any stores
+  -- of the engine, different in each.
   abbrev pub SteersNothing : Type 0
-  SteersNothing = (a₁ t₁ a₂ t₂ : List ℕ) (us₁ us₂ : List Turn)
+  SteersNothing = (a₁ : List ℕ) (t₁ : KeptBytes) (a₂ : List ℕ) (t₂ : KeptBytes) (us₁ us₂ : List Turn)
       → T (setUpRight row a₁ t₁) → T (setUpRight row a₂ t₂) → length a₁ ≡ length a₂
       → calls us₁ ≡ calls us₂
       → EngineOnly (fed (length a₁)) (setUp row a₁ t₁ .arena) (setUp row a₁ t₁ .room) us₁

@@ -15,6 +15,7 @@ use Rattle.claims.specs.AsSaid.{NeverAtZero, GuardsAsSaid, SetsUpAsSaid,
 use Rattle.claims.specs.Demand3.{RoomFollows, SteersNothing, StoresAdmitted}
 use Rattle.claims.specs.Lists.{PlansAsSaid, ListsAsGrants, ListsExactly}
 use Rattle.claims.specs.History.{History}
+use Rattle.claims.specs.Record.{SoundExactly, KeepsRecord, FlipsRefused}
 use Rattle.claims.specs.Traces.{LinesModelled, StoresSteerNothing, ReplaySteersNothing}
 
 pub record Demands (row : ℕ) : Type 0 where
@@ -45,6 +46,10 @@ pub record Demands (row : ℕ) : Type 0 where
   pub tables : TableForm row
   pub leaves-sound : LeavesSound row
   pub history : History row
+  -- the record beside the tables: it is kept up to date and cross-checked, so a flipped bit of what is counted is found
+  pub sound-exactly : SoundExactly row
+  pub keeps-record : KeepsRecord row
+  pub flips-refused : FlipsRefused row
   pub all-classes : AllClasses
   pub bench : T (every right sheet)
   pub too-large-anywhere : TooLargeAnywhere row

@@ -10,7 +10,7 @@ use Rattle.mem.specs.Lists.{choose, sum}
 use Rattle.model.specs.declared.Totals.{Totals}
 use Rattle.model.specs.Answers.{Answer, done, listed}
 use Rattle.model.specs.Plans.{Call, setsUp, grants, releases, resizes, measures, reports, grantsList}
-use Rattle.model.specs.Calls.{call, setUp, setUpRight}
+use Rattle.model.specs.Calls.{KeptBytes, call, setUp, setUpRight}
 
 -- a call over whatever arena bytes
 pub record Asked : Type 0 where
@@ -62,12 +62,12 @@ abbrev pub booked : Ledger → Call → Answer → Ledger
 booked l c r = let e = entered l c r in choose (eqb (r .number) 0) e l
 
 module _ (row : ℕ) where
-  -- the ledger and the tables after calls; the tables are always lent as the last call left them
+  -- the ledger, and tables and record after calls; these are always lent as the last call left them
   pub record Books : Type 0 where
     pub ledger : Ledger
-    pub room : List ℕ
+    pub room : KeptBytes
 
-  unfoldable pub kept : Ledger → List ℕ → List Asked → Books
+  unfoldable pub kept : Ledger → KeptBytes → List Asked → Books
   kept l t [] = record { ledger = l; room = t }
   kept l t (c ∷ cs) = let r = call row (c .arena) t (c .asks) in kept (booked l (c .asks) (r .answer)) (r .room) cs
 
@@ -77,13 +77,15 @@ module _ (row : ℕ) where
     pub bytes : s .bytes ≡ sum (λ e. e .size) (l .blocks)
     pub rows : s .held + s .free ≡ n / row
 
-  -- what report answers over an arena b and the tables that calls left: it is done, and its values are totals that keep the rules
+  -- what report answers over an arena b and the tables that calls left: it is done, and its values are totals that keep the rules, and those
+  -- of the record
   pub record Tells (b : List ℕ) (k : Books) (n : ℕ) : Type 0 where
     pub totals : Totals
     pub given : call row b (k .room) reports .answer ≡ done (listed totals)
+    pub recorded : k .room .totals ≡ totals
     pub counts : Counts (k .ledger) totals n
 
   -- HISTORY: from an accepted set up, for every list of calls over any arena at each, and then a report over any arena of the pool's length
   abbrev pub History : Type 0
-  History = (a t : List ℕ) (cs : List Asked) (b : List ℕ) → T (setUpRight row a t) → length b ≡ length a
+  History = (a : List ℕ) (t : KeptBytes) (cs : List Asked) (b : List ℕ) → T (setUpRight row a t) → length b ≡ length a
       → Tells b (kept opening (setUp row a t .room) cs) (length a)

@@ -6,6 +6,7 @@ pub mod AsSaid
 pub mod Demand3
 pub mod Lists
 pub mod History
+pub mod Record
 pub mod Alike
 pub mod Traces
 pub mod Demands

@@ -9,8 +9,7 @@ use Rattle.mem.specs.Lists.{any}
 use Rattle.model.specs.Answers.{done}
 use Rattle.model.specs.Proposals.{entries, accepts, plannable, planned}
 use Rattle.model.specs.Plans.{grants, grantsList}
-use Rattle.model.specs.Tables.{sound}
-use Rattle.model.specs.Calls.{Result, call}
+use Rattle.model.specs.Calls.{KeptBytes, Result, soundKept, call}
 use Rattle.claims.specs.Demand3.{Ended}
 
 -- THE PLANNER: "answers 9 where L or the cap makes it due, else always finds an accepted proposal"; of all that are accepted it has the
@@ -28,8 +27,8 @@ abbrev pub PlansAsSaid : Type 0
 PlansAsSaid = (total cap : ℕ) → PlansAccepted total cap
 
 module _ (row : ℕ) where
-  -- the same grants one after another: the answers, and the arena and the room that they leave
-  unfoldable pub granting : List ℕ → List ℕ → List ℕ → Ended
+  -- the same grants one after another: the answers, and the arena, the room and the record that they leave
+  unfoldable pub granting : List ℕ → KeptBytes → List ℕ → Ended
   granting a t [] = record { answers = []; arena = a; room = t }
   granting a t (n ∷ ns) =
       let r = call row a t (grants n) in
@@ -45,11 +44,11 @@ module _ (row : ℕ) where
     pub room : r .room ≡ g .room
 
   abbrev pub ListsAsGrants : Type 0
-  ListsAsGrants = (a t : List ℕ) (total cap places : ℕ) (ns : List ℕ) → call row a t (grantsList total cap places ns) .answer .number ≡ 0
+  ListsAsGrants = (a : List ℕ) (t : KeptBytes) (total cap places : ℕ) (ns : List ℕ) → call row a t (grantsList total cap places ns) .answer .number ≡ 0
       → AsGrants ns (call row a t (grantsList total cap places ns)) (granting a t ns)
 
   -- "answer 8 exactly if granting the accepted sizes in order would meet it"
   abbrev pub ListsExactly : Type 0
-  ListsExactly = (a t : List ℕ) (total cap places : ℕ) (ns : List ℕ)
-      → T (sound row (length a) t) → T (plannable total cap) → entries ≤ places → T (accepts total cap ns)
+  ListsExactly = (a : List ℕ) (t : KeptBytes) (total cap places : ℕ) (ns : List ℕ)
+      → T (soundKept row (length a) t) → T (plannable total cap) → entries ≤ places → T (accepts total cap ns)
       → (call row a t (grantsList total cap places ns) .answer .number ≡ 8) ↔ T (any (λ r. eqb (r .number) 8) (granting a t ns .answers))

@@ -12,7 +12,7 @@ use Rattle.classes.specs.Classes.{rowBytes}
 use Rattle.model.specs.State.{Pool}
 use Rattle.model.specs.Answers.{Answer, done}
 use Rattle.model.specs.Plans.{Plan, grants, releases, resizes, measures, reports, plan}
-use Rattle.model.specs.Calls.{setUpRight}
+use Rattle.model.specs.Calls.{KeptBytes, setUpRight}
 use Rattle.trace.specs.Trace.{Operation, grant, release, resize, measure, store, report, Item, does, items, traceRight}
 use Rattle.trace.specs.Replay.{arenaBytes, Line, lineThen, replayedOver, replayed}
 use Rattle.claims.specs.Demand3.{fed, requested}
@@ -72,14 +72,14 @@ module _ (row : ℕ) where
   StoresInside n P (Item.bad ∷ xs) = StoresInside n P xs
   StoresInside n P (does x ∷ xs) = Lies P x × StoresInside n (steps n P x .pool) xs
 
-  -- over any arena and room bytes of the right lengths, the lines are the model's
+  -- over any arena and room bytes of the right lengths, and any record, the lines are the model's
   abbrev pub LinesModelled : Type 0
-  LinesModelled = (a t s : List ℕ) → T (setUpRight row a t) → StoresInside (length a) (fed row (length a)) (items s)
+  LinesModelled = (a : List ℕ) (t : KeptBytes) (s : List ℕ) → T (setUpRight row a t) → StoresInside (length a) (fed row (length a)) (items s)
       → replayedOver row a t s ≡ choose (traceRight s) (modelLines (length a) (fed row (length a)) 1 (items s)) (Line.bad 0 ∷ [])
 
   -- THE CLAIM: two traces alike but for the bytes that they store give the same lines
   abbrev pub StoresSteerNothing : Type 0
-  StoresSteerNothing = (a₁ t₁ a₂ t₂ s₁ s₂ : List ℕ) → T (setUpRight row a₁ t₁) → T (setUpRight row a₂ t₂) → length a₁ ≡ length a₂
+  StoresSteerNothing = (a₁ : List ℕ) (t₁ : KeptBytes) (a₂ : List ℕ) (t₂ : KeptBytes) (s₁ s₂ : List ℕ) → T (setUpRight row a₁ t₁) → T (setUpRight row a₂ t₂) → length a₁ ≡ length a₂
       → AlikeButStores s₁ s₂ → StoresInside (length a₁) (fed row (length a₁)) (items s₁)
       → replayedOver row a₁ t₁ s₁ ≡ replayedOver row a₂ t₂ s₂
 

@@ -6,9 +6,10 @@ use Rattle.mem.specs.Bytes.{put}
 use Rattle.mem.proofs.Tests.{choose-case}
 use Rattle.mem.proofs.Laws.{put-nil, put-cons}
 use Rattle.classes.specs.Classes.{classOf, tooLarge}
+use Rattle.model.specs.declared.Totals.{Totals}
 use Rattle.model.specs.State.{Pool, Place, group, poolOf, start}
 use Rattle.model.specs.Blocks.{frame}
-use Rattle.model.specs.Plans.{openFrom, reserve, enframe, placed, placedBy, reserveAll, poolAfter}
+use Rattle.model.specs.Plans.{openFrom, reserve, enframe, placed, placedBy, reserveAll, poolAfter, totals}
 use Rattle.model.specs.Tables.{byMasks, encode, view}
 use Rattle.model.specs.Calls.{written}
 use Rattle.model.proofs.Tables.{masks-laws, view-encode}
@@ -23,24 +24,26 @@ use Rattle.search.proofs.Steps.{open-start}
 use Rattle.ops.specs.declared.Reserved.the-variants.{Taken}
 use Rattle.ops.specs.Blocks.{Standing, reservedAs, roomAfter}
 use Rattle.ops.proofs.Moves.{reserve-leaves, reserved-place}
-use Rattle.lists.specs.Grants.{granted, startOr, firstOr, arenaAfter}
+use Rattle.lists.specs.Grants.{granted, startOr, firstOr, totalsOr, arenaAfter}
 
 -- one grant
 module _ {row len : ℕ} {t : List ℕ} (r : Lent byMasks row len t) (n : ℕ) (h : n < tooLarge) where
-  pub record GrantedOne (a : List ℕ) (b : Block) : Type 0 where
+  pub record GrantedOne (a : List ℕ) (s : Totals) (b : Block) (z : Totals) : Type 0 where
     pub stands : Standing row len b
     pub start : startAt row b ≡ startOr row (reserve row (view row t) n)
     pub first : b .first ≡ firstOr row (reserve row (view row t) n)
+    pub counts : z ≡ totalsOr row s (reserve row (view row t) n)
     pub arena : put (ownedAt row b) (frame (b .class) (b .slot) (b .alloc .disp) (b .alloc .size)) a ≡ arenaAfter row a (reserve row (view row t) n)
 
-  pub granted-one : (a : List ℕ) (b : Block) → reservedAs row (reserve row (view row t) n) ≡ Taken b → GrantedOne a b
+  pub granted-one : (a : List ℕ) (s : Totals) (b : Block) (z : Totals) → reservedAs row (reserve row (view row t) n) ≡ Taken b z → GrantedOne a s b z
   unfolding enframe
-  granted-one a b e =
-      let (q, f, k) = reserved-place row (reserve row (view row t) n) b e in
-      subst (GrantedOne a) k (record {
+  granted-one a s b z e =
+      let (q, f, k, y) = reserved-place row (reserve row (view row t) n) b z e in
+      subst (λ b. GrantedOne a s b z) k (record {
         stands = reserve-leaves r n h q f .stands;
         start = sym (ap (startOr row) f);
         first = sym (ap (firstOr row) f);
+        counts = sym y ∙ sym (ap (totalsOr row s) f);
         arena = sym (ap (arenaAfter row a) f);
       })
 
@@ -54,30 +57,34 @@ granted-next : (q : Place) (o w : Option (List Place)) → placed q o ≡ w → 
 granted-next q none w e h = let z : false ≡ true = ap isSome e ∙ h in let y : _≡_ {A = ℕ} 0 1 = cc in absurd (omega arith)
 granted-next q (some qs) w e h = (sym (ap granted e), refl)
 
-module _ (row : ℕ) (ns A U L : List ℕ) where
-  -- what is left to do: from arena a, room t and list l on, the sizes from place i on make arena A, room U and list L
+module _ (row : ℕ) (ns A : List ℕ) (Q : Pool) (L : List ℕ) where
+  -- what is left to do: from arena a, room t and list l on, the sizes from place i on make arena A, pool Q and list L
   pub record ToGo (i : ℕ) (a t l : List ℕ) : Type 0 where
     pub lent : Lent byMasks row (length a) t
     pub fits : isSome (reserveAll row (view row t) (drop i ns)) ≡ true
     pub arena : written a (map (enframe row) (granted (reserveAll row (view row t) (drop i ns)))) ≡ A
-    pub room : encode row (poolAfter (view row t) (granted (reserveAll row (view row t) (drop i ns)))) ≡ U
+    pub pool : poolAfter (view row t) (granted (reserveAll row (view row t) (drop i ns))) ≡ Q
     pub list : put i (map (start row) (granted (reserveAll row (view row t) (drop i ns)))) l ≡ L
 
   -- nothing is left
-  pub all-done : (i : ℕ) (a t l : List ℕ) → length ns ≤ i → ToGo i a t l → (a ≡ A) × (t ≡ U) × (l ≡ L)
+  pub all-done : (i : ℕ) (a t l : List ℕ) → length ns ≤ i → ToGo i a t l → (a ≡ A) × (t ≡ encode row Q) × (l ≡ L) × (view row t ≡ Q)
   all-done i a t l h g =
-      let e : reserveAll row (view row t) (drop i ns) ≡ some [] = all-placed row (view row t) ns i h in (
+      let e : reserveAll row (view row t) (drop i ns) ≡ some [] = all-placed row (view row t) ns i h in
+      let v : view row t ≡ Q = sym (ap (λ o. poolAfter (view row t) (granted o)) e) ∙ g .pool in (
         sym (ap (λ o. written a (map (enframe row) (granted o))) e) ∙ g .arena,
-        facts (g .lent) .form ∙ sym (ap (λ o. encode row (poolAfter (view row t) (granted o))) e) ∙ g .room,
+        facts (g .lent) .form ∙ ap (encode row) v,
         sym (put-nil i l) ∙ sym (ap (λ o. put i (map (start row) (granted o)) l) e) ∙ g .list,
+        v,
       )
 
   -- one grant further; the search for its class goes on where its group is
   pub one-further : small ns ≡ true → (i : ℕ) (a t l : List ℕ) → i < length ns → ToGo i a t l → (b u : List ℕ) (k : ℕ)
       → k ≡ startOr row (reserve row (view row t) (getD ns i 0)) → b ≡ arenaAfter row a (reserve row (view row t) (getD ns i 0))
       → u ≡ roomAfter row t (reserve row (view row t) (getD ns i 0)) → length b ≡ length a
-      → (f : ℕ) → f ≡ firstOr row (reserve row (view row t) (getD ns i 0)) → ToGo (i + 1) b u (set l i k) × Passed row u (classOf (getD ns i 0)) f
-  one-further s i a t l h g b u k ek eb eu el f ef = go (reserve row (view row t) n) refl
+      → (f : ℕ) → f ≡ firstOr row (reserve row (view row t) (getD ns i 0))
+      → (y z : Totals) → z ≡ totalsOr row y (reserve row (view row t) (getD ns i 0))
+      → ToGo (i + 1) b u (set l i k) × Passed row u (classOf (getD ns i 0)) f × (z ≡ totals row (view row u))
+  one-further s i a t l h g b u k ek eb eu el f ef y z ez = go (reserve row (view row t) n) refl
     where
       n : ℕ
       n = getD ns i 0
@@ -92,7 +99,7 @@ module _ (row : ℕ) (ns A U L : List ℕ) where
           sym (next-placed row (view row t) ns i h ∙ ap (λ o. placedBy o (λ q. reserveAll row (poolOf q) (drop (i + 1) ns))) r)
 
       Further : Type 0
-      Further = ToGo (i + 1) b u (set l i k) × Passed row u (classOf n) f
+      Further = ToGo (i + 1) b u (set l i k) × Passed row u (classOf n) f × (z ≡ totals row (view row u))
 
       next : (q : Place) → reserve row (view row t) n ≡ some q → Further
       next q r =
@@ -109,7 +116,7 @@ module _ (row : ℕ) (ns A U L : List ℕ) where
                   rw says
                   (ap (λ z. written z (map (enframe row) qs)) (eb ∙ ap (arenaAfter row a) r)
                   ∙ sym (ap (λ z. written a (map (enframe row) z)) (m .0)) ∙ g .arena);
-              room = rw says (sym (ap (λ z. encode row (poolAfter (view row t) z)) (m .0)) ∙ g .room);
+              pool = rw says (sym (ap (λ z. poolAfter (view row t) z) (m .0)) ∙ g .pool);
               list =
                   rw says
                   (ap (λ z. put z (map (start row) qs) (set l i k)) (add-one i)
@@ -124,6 +131,7 @@ module _ (row : ℕ) (ns A U L : List ℕ) where
               same = ap (openFrom [] (classOf n)) says
                   ∙ pass-shut (classOf n) [] (q .before) (behind q) (grant-shut row (view row t) n q (facts (g .lent) .formed) r);
             },
+            ez ∙ ap (totalsOr row y) r ∙ sym (ap (totals row) says),
           )
 
       go : (o : Option Place) → reserve row (view row t) n ≡ o → Further

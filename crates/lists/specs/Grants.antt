@@ -2,8 +2,9 @@
 use Prim.Native.Nat.{ℕ}
 use mathlib.Core.Option.{Option, none, some}
 use mathlib.Core.List.{List, []}
-use Rattle.model.specs.State.{Place, start, rows}
-use Rattle.model.specs.Plans.{enframe}
+use Rattle.model.specs.declared.Totals.{Totals}
+use Rattle.model.specs.State.{Place, poolOf, start, rows}
+use Rattle.model.specs.Plans.{enframe, totals}
 use Rattle.model.specs.Calls.{write}
 
 -- the places of a list that is granted whole; no place of one that is refused
@@ -12,7 +13,7 @@ granted none = []
 granted (some qs) = qs
 
 module _ (row : ℕ) where
-  -- one grant: its start, its group's first row, and the arena after it
+  -- one grant: its start, its group's first row, the totals and the arena after it
   abbrev pub startOr : Option Place → ℕ
   startOr none = 0
   startOr (some q) = start row q
@@ -20,6 +21,10 @@ module _ (row : ℕ) where
   abbrev pub firstOr : Option Place → ℕ
   firstOr none = 0
   firstOr (some q) = rows row (q .before)
+
+  abbrev pub totalsOr : Totals → Option Place → Totals
+  totalsOr s none = s
+  totalsOr s (some q) = totals row (poolOf q)
 
   abbrev pub arenaAfter : List ℕ → Option Place → List ℕ
   arenaAfter a none = a

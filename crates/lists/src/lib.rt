@@ -9,38 +9,55 @@ ghost use Rattle.mem.specs.Lists.{choose, every, isSome};
 ghost use Rattle.mem.specs.Bytes.{put};
 ghost use Rattle.classes.specs.Classes.{Lawful, classOf, tooLarge};
 ghost use Rattle.model.specs.State.{start};
-ghost use Rattle.model.specs.Plans.{reserve, enframe, reserveAll, poolAfter};
+ghost use Rattle.model.specs.Plans.{reserve, enframe, reserveAll, poolAfter, totals};
 ghost use Rattle.model.specs.Tables.{sound, view, encode};
 ghost use Rattle.model.specs.Calls.{written};
 ghost use Rattle.search.specs.Found.{Passed};
 ghost use Rattle.ops.specs.Blocks.{roomAfter};
-ghost use Rattle.lists.specs.Grants.{granted, startOr, firstOr, arenaAfter};
+ghost use Rattle.lists.specs.Grants.{granted, startOr, firstOr, totalsOr, arenaAfter};
 use classes::Sized;
+use model::Totals;
 use ops::Reserved;
 
-// Where a granted block is: its start, and the first row of its group.
+// Where a granted block is: its start, and the first row of its group; and the totals with it.
 pub struct Placed {
     pub start: usize,
     pub first: usize,
+    pub totals: Totals,
 }
 
-// Grants a block; zeros where there is no room. No group of its class before row `from` serves.
-fn grant_one(row: usize, arena: &mut [u8], room: &mut [u8], s: Sized, from: usize) -> Placed
+// Grants a block; zeros, and the totals as they were, where there is no room. No group of its class before row `from` serves.
+fn grant_one(
+    row: usize,
+    arena: &mut [u8],
+    room: &mut [u8],
+    t: Totals,
+    s: Sized,
+    from: usize,
+) -> Placed
     requires { ⌜ sound row (length (now arena)) (now room) ≡ true ⌝ }
-    requires { ⌜ (s .size < tooLarge) × (s .class ≡ classOf (s .size)) × (s .class < 48) × Passed row (now room) (s .class) from ⌝ }
+    requires { ⌜ (s .size < tooLarge) × (s .class ≡ classOf (s .size)) × (s .class < 48) × Passed row (now room) (s .class) from
+        × (t ≡ totals row (view row (now room))) ⌝ }
     requires { ⌜ Lawful row ⌝ }
     ensures { λ r. ⌜ (r .start ≡ startOr row (reserve row (view row (now (room .entry))) (s .size)))
-        × (r .first ≡ firstOr row (reserve row (view row (now (room .entry))) (s .size))) ⌝ }
+        × (r .first ≡ firstOr row (reserve row (view row (now (room .entry))) (s .size)))
+        × (r .totals ≡ totalsOr row t (reserve row (view row (now (room .entry))) (s .size))) ⌝ }
     ensures { λ r. ⌜ now (arena .exit) ≡ arenaAfter row (now (arena .entry)) (reserve row (view row (now (room .entry))) (s .size)) ⌝ }
     ensures { λ r. ⌜ now (room .exit) ≡ roomAfter row (now (room .entry)) (reserve row (view row (now (room .entry))) (s .size)) ⌝ }
 {
-    let Reserved::Taken(b) = ops::reserve_in(row, arena.len(), room, s.class, s.size, from) else {
-        return Placed { start: 0, first: 0 };
+    let Reserved::Taken(b, taken) =
+        ops::reserve_in(row, arena.len(), room, t, s.class, s.size, from) else {
+        return Placed {
+            start: 0,
+            first: 0,
+            totals: t,
+        };
     };
     let start = ops::lay_out(row, arena, b);
     Placed {
         start: start,
         first: b.first,
+        totals: taken,
     }
 }
 
@@ -56,12 +73,13 @@ pub fn grant_all(
     row: usize,
     arena: &mut [u8],
     room: &mut [u8],
+    t: Totals,
     sizes: &[usize],
     starts: &mut [usize],
-)
+) -> Totals
     requires { ⌜ sound row (length (now arena)) (now room) ≡ true ⌝ }
     requires { ⌜ (every (λ n. ltb n tooLarge) (now sizes) ≡ true) × (length (now sizes) ≤ length (now starts)) ⌝ }
-    requires { ⌜ isSome (reserveAll row (view row (now room)) (now sizes)) ≡ true ⌝ }
+    requires { ⌜ (isSome (reserveAll row (view row (now room)) (now sizes)) ≡ true) × (t ≡ totals row (view row (now room))) ⌝ }
     requires { ⌜ Lawful row ⌝ }
     ensures { λ _. ⌜ now (arena .exit)
         ≡ written (now (arena .entry)) (map (enframe row) (granted (reserveAll row (view row (now (room .entry))) (now (sizes .entry))))) ⌝ }
@@ -69,16 +87,21 @@ pub fn grant_all(
         ≡ encode row (poolAfter (view row (now (room .entry))) (granted (reserveAll row (view row (now (room .entry))) (now (sizes .entry))))) ⌝ }
     ensures { λ _. ⌜ now (starts .exit)
         ≡ put 0 (map (start row) (granted (reserveAll row (view row (now (room .entry))) (now (sizes .entry))))) (now (starts .entry)) ⌝ }
+    ensures { λ r. ⌜ r
+        ≡ totals row (poolAfter (view row (now (room .entry))) (granted (reserveAll row (view row (now (room .entry))) (now (sizes .entry))))) ⌝ }
 {
+    let mut kept = t;
     let mut last = Sized { size: 0, class: 0 };
     let mut from = 0;
     let mut i = 0;
     while i < sizes.len() {
         let s = classes::with_class(sizes[i], last);
-        let p = grant_one(row, arena, room, s, begin(s.class, last.class, from));
+        let p = grant_one(row, arena, room, kept, s, begin(s.class, last.class, from));
         starts[i] = p.start;
         from = p.first;
+        kept = p.totals;
         last = s;
         i += 1;
     }
+    kept
 }

@@ -1,6 +1,6 @@
 -- The ready set and the waiting set of a group, as masks.
 use Prim.Native.Nat.{ℕ, _+_, _-_, _^_}
-use lib.Count.{trailingZeros}
+use lib.Count.{trailingZeros, ones}
 use lib.Dec.{eqb}
 use Rattle.mem.specs.Lists.{choose}
 use Rattle.masks.specs.declared.Masks.{Masks}
@@ -8,6 +8,9 @@ use Rattle.masks.specs.declared.Masks.{Masks}
 -- "If its ready set is empty, all waiting slots become ready first."
 unfoldable pub refilled : Masks → Masks
 refilled m = choose (eqb (m .ready) 0) (record { ready = m .waiting; waiting = 0 }) m
+
+unfoldable pub toRefill : Masks → ℕ
+toRefill m = choose (eqb (m .ready) 0) (ones (m .waiting)) 0
 
 -- "Take its lowest ready slot."
 unfoldable pub lowest : Masks → ℕ

@@ -2,7 +2,7 @@
 ghost use mathlib.Core.Path.{_≡_};
 ghost use Prim.Native.Nat.{_+_, _-_, _≤_, _<_, _^_};
 ghost use lib.Count.{ones};
-ghost use Rattle.masks.specs.Sets.{refilled, lowest, taken, givenBack};
+ghost use Rattle.masks.specs.Sets.{refilled, toRefill, lowest, taken, givenBack};
 
 pub struct Masks {
     pub ready: u32,
@@ -28,6 +28,17 @@ impl Masks {
             }
         } else {
             self
+        }
+    }
+
+    // How many waiting slots a refill makes ready.
+    pub fn to_refill(self) -> u32
+        ensures { λ r. ⌜ r ≡ toRefill self ⌝ }
+    {
+        if self.ready == 0 {
+            u32::count_ones(self.waiting)
+        } else {
+            0
         }
     }
 

@@ -4,7 +4,7 @@ use Rattle.mem.proofs.Prelude.{append-assoc, _+_, ℕ, _<_, _≤_, _*_,
 use Rattle.mem.proofs.Prelude.{eqb→eq, ltb→lt, eqb-refl, lt→ltb, length, drop, getD, length-append, take, set, length-drop, length-replicate}
 use Rattle.mem.proofs.Prelude.{take-append-drop, drop-drop, drop-cons, getD-drop, length-take-le}
 use native.Mathlib.Nat.{add-suc, suc-add, add-comm, mul-zero, mul-suc}
-use lib.ListN.{replicate-append-replicate}
+use lib.ListN.{replicate, replicate-append-replicate}
 use lib.Seq.{sets, sets-eq, length-sets, take-take, take-set-le, drop-append-add, drop-set-lt, drop-set-add, getD-take, take-at}
 use Rattle.mem.specs.Bytes.{zeros, low, number, same, part, put}
 use Rattle.mem.specs.Lists.{every, join, sum}
@@ -306,6 +306,17 @@ module _ {ℓ} {A : Type ℓ} where
       let u = join-length-of f n ok h xs (and-right (ok x) (every ok xs) t) in
       rw (length-append (f x) (join f xs), h x (and-left (ok x) (every ok xs) t), u, mul-suc)
       (add-comm n (n * length xs))
+
+  pub sum-append : (f : A → ℕ) (xs ys : List A) → sum f (xs ++ ys) ≡ sum f xs + sum f ys
+  sum-append f [] ys = omega arith
+  sum-append f (x ∷ xs) ys = omega (arith, sum-append f xs ys)
+
+  pub sum-snoc : (f : A → ℕ) (xs : List A) (x : A) → sum f (xs ++ (x ∷ [])) ≡ sum f xs + f x
+  sum-snoc f xs x = omega (arith, sum-append f xs (x ∷ []))
+
+  pub sum-replicate : (f : A → ℕ) (n : ℕ) (x : A) → sum f (replicate n x) ≡ f x * n
+  sum-replicate f zero x = sym (mul-zero (f x))
+  sum-replicate f (suc n) x = rw (sum-replicate f n x, mul-suc) (add-comm (f x) (f x * n))
 
   -- where each element that passes a test counts n at most
   pub sum-below : (f : A → ℕ) (n : ℕ) (ok : A → Bool) → ((x : A) → T (ok x) → f x ≤ n) → (xs : List A) → T (every ok xs) → sum f xs ≤ n * length xs

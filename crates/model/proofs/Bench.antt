@@ -9,7 +9,7 @@ use Rattle.model.specs.Proposals.{entries, capRight, sizeRight, accepts,
 use Rattle.model.specs.Plans.{plan, opens, refill, grantSlot, inPlace}
 use Rattle.model.specs.Tables.{slotRecord, rowRecord, laterRecords, roomBytes, viewSlot, viewSlots, viewGroup, viewHolder, spanRecordsBy, encodeBy}
 use Rattle.model.specs.Tables.{viewRowsBy, viewBy, arenaRight, soundBy}
-use Rattle.model.specs.Calls.{callBy, carriedBy, checkedBy, setUpBy, setUpRightBy, unless}
+use Rattle.model.specs.Calls.{sameTotals, callBy, carriedBy, checkedBy, setUpBy, setUpRightBy, unless}
 use Rattle.model.specs.Bench.{sheet, passes, right}
 
 pub bench : T (every right sheet)
@@ -17,4 +17,5 @@ unfolding right passes sheet choose zeros rowBytes tooLarge unitsOf slotBytes sl
     frame headerRight guardRight damageIn
     opens refill grantSlot inPlace plan slotRecord rowRecord laterRecords spanRecordsBy roomBytes viewSlot viewSlots viewGroup viewHolder viewRowsBy
     encodeBy viewBy arenaRight soundBy entries capRight sizeRight accepts plannable fullCaps planned callBy setUpBy setUpRightBy checkedBy carriedBy unless
+    sameTotals
 bench = tt

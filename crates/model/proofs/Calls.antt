@@ -1,6 +1,6 @@
 -- What a call is, case by case: unsound tables, a refusal, a grant, a block that is named.
-use Rattle.mem.proofs.Prelude.{_∙_, _≡_, sym, ap, refl, Bool, true, false, Option, some, none, List, [], ℕ, T, length}
-use Rattle.mem.proofs.Tests.{choose-true, choose-false, choose-case, true-T, T-true}
+use Rattle.mem.proofs.Prelude.{_∙_, _≡_, ap, refl, Bool, true, false, Option, some, none, List, [], ℕ, T, length}
+use Rattle.mem.proofs.Tests.{choose-true, choose-false, choose-case, T-true}
 use Rattle.model.specs.declared.Refusal.{Refusal}
 use Rattle.model.specs.declared.Damage.{Damage}
 use Rattle.model.specs.declared.Damage.the-variants.{Intact, Damaged}
@@ -8,9 +8,10 @@ use Rattle.model.specs.State.{Pool, Place, isLive}
 use Rattle.model.specs.Answers.{refusal}
 use Rattle.model.specs.Plans.{Plan, Call, setsUp, grants, releases, resizes, measures, reports, grantsList, plan, onBlock, lookup, measureAt}
 use Rattle.model.specs.Plans.{measure, report}
-use Rattle.model.specs.Tables.{byMasks, encode, view, sound}
-use Rattle.model.specs.Calls.{Result, masked, call, checked, carried, applied, damaged, keeps, unsound, callBy, carriedBy, checkedBy, unless, written}
-use Rattle.model.proofs.Tables.{sound-facts}
+use Rattle.model.specs.Tables.{view}
+use Rattle.model.specs.Calls.{KeptBytes, Result, engine, soundKept, call, checked, carried, applied, damaged, keeps, unsound, callBy, carriedBy}
+use Rattle.model.specs.Calls.{checkedBy, unless, written}
+use Rattle.model.proofs.Kept.{kept-whole}
 
 -- the calls but set up
 abbrev pub Asks : Call → Type 0
@@ -22,7 +23,7 @@ Asks (measures o) = Unit {0}
 Asks reports = Unit {0}
 Asks (grantsList total cap places sizes) = Unit {0}
 
-module _ (row : ℕ) (a t : List ℕ) where
+module _ (row : ℕ) (a : List ℕ) (t : KeptBytes) where
   call-checked : (c : Call) → Asks c → call row a t c ≡ checked row a t c
   unfolding callBy
   call-checked setsUp k = absurd k
@@ -33,28 +34,28 @@ module _ (row : ℕ) (a t : List ℕ) where
   call-checked reports k = refl
   call-checked (grantsList total cap places sizes) k = refl
 
-  pub call-unsound : (c : Call) → Asks c → sound row (length a) t ≡ false → call row a t c ≡ keeps (unsound c) a t
+  pub call-unsound : (c : Call) → Asks c → soundKept row (length a) t ≡ false → call row a t c ≡ keeps (unsound c) a t
   unfolding checkedBy
-  call-unsound c k e = call-checked c k ∙ choose-false (sound row (length a) t) _ _ e
+  call-unsound c k e = call-checked c k ∙ choose-false (soundKept row (length a) t) _ _ e
 
-  module _ (s : sound row (length a) t ≡ true) where
-    pub call-sound : (c : Call) → Asks c → call row a t c ≡ carried row a t (plan row (view row t) c)
+  module _ (s : soundKept row (length a) t ≡ true) where
+    pub call-sound : (c : Call) → Asks c → call row a t c ≡ carried row a t (plan row (view row (t .tables)) c)
     unfolding checkedBy
-    call-sound c k = call-checked c k ∙ choose-true (sound row (length a) t) _ _ s
+    call-sound c k = call-checked c k ∙ choose-true (soundKept row (length a) t) _ _ s
 
-    -- the room is the form of what it says
-    pub same-room : encode row (view row t) ≡ t
-    same-room = sym (sound-facts byMasks row (length a) t (true-T (sound row (length a) t) s) .form)
+    -- tables and record are the form of what they say
+    pub same-room : engine row .encode (view row (t .tables)) ≡ t
+    same-room = kept-whole row (length a) t s
 
 -- a plan that names no block, and one that names a block that is not damaged, or is
-module _ (row : ℕ) (a t : List ℕ) (p : Plan) where
-  pub carried-whole : damaged row a (p .checks) ≡ Intact → carried row a t p ≡ applied (masked row) a p
+module _ (row : ℕ) (a : List ℕ) (t : KeptBytes) (p : Plan) where
+  pub carried-whole : damaged row a (p .checks) ≡ Intact → carried row a t p ≡ applied (engine row) a p
   unfolding carriedBy unless
-  carried-whole e = ap (λ d. unless d (applied (masked row) a p) (λ r. keeps (refusal r) a t)) e
+  carried-whole e = ap (λ d. unless d (applied (engine row) a p) (λ r. keeps (refusal r) a t)) e
 
   pub carried-damaged : (r : Refusal) → damaged row a (p .checks) ≡ Damaged r → carried row a t p ≡ keeps (refusal r) a t
   unfolding carriedBy unless
-  carried-damaged r e = ap (λ d. unless d (applied (masked row) a p) (λ r. keeps (refusal r) a t)) e
+  carried-damaged r e = ap (λ d. unless d (applied (engine row) a p) (λ r. keeps (refusal r) a t)) e
 
 -- a call on the block at an offset, by what is looked up
 pub on-live : (P : Pool) (f : Place → Plan) (p : Place) → T (isLive (p .state)) → onBlock P f (some p) ≡ f p
@@ -63,33 +64,35 @@ on-live P f p l = choose-true (isLive (p .state)) _ _ (T-true (isLive (p .state)
 -- ---- calls that change nothing
 
 -- what a call leaves is what it was given
-pub record LeftAsIs (a t : List ℕ) (r : Result) : Type 0 where
+pub record LeftAsIs (a : List ℕ) (t : KeptBytes) (r : Result) : Type 0 where
   pub arena : r .arena ≡ a
   pub room : r .room ≡ t
 
-module _ (row : ℕ) (a t : List ℕ) where
+module _ (row : ℕ) (a : List ℕ) (t : KeptBytes) where
   -- a call whose plan has no writes and keeps the state, refused or not
-  left-as-is : (c : Call) → Asks c → (plan row (view row t) c .changes ≡ []) × (plan row (view row t) c .pool ≡ view row t) → LeftAsIs a t (call row a t c)
-  left-as-is c k (e, f) = sounds (sound row (length a) t) refl
+  left-as-is : (c : Call) → Asks c
+      → (plan row (view row (t .tables)) c .changes ≡ []) × (plan row (view row (t .tables)) c .pool ≡ view row (t .tables)) → LeftAsIs a t (call row a t c)
+  left-as-is c k (e, f) = sounds (soundKept row (length a) t) refl
     where
       kept : (r : Result) → ((r .arena ≡ a) × (r .room ≡ t)) → call row a t c ≡ r → LeftAsIs a t (call row a t c)
       kept r (x, y) z = record { arena = ap (λ (q : Result). q .arena) z ∙ x; room = ap (λ (q : Result). q .room) z ∙ y }
 
       p : Plan
-      p = plan row (view row t) c
+      p = plan row (view row (t .tables)) c
 
-      carries : sound row (length a) t ≡ true → (d : Damage) → damaged row a (p .checks) ≡ d → LeftAsIs a t (call row a t c)
+      carries : soundKept row (length a) t ≡ true → (d : Damage) → damaged row a (p .checks) ≡ d → LeftAsIs a t (call row a t c)
       carries s Intact h =
-          kept (applied (masked row) a p) (ap (written a) e, ap (encode row) f ∙ same-room row a t s) (call-sound row a t s c k ∙ carried-whole row a t p h)
+          kept (applied (engine row) a p) (ap (written a) e, ap (engine row .encode) f ∙ same-room row a t s)
+          (call-sound row a t s c k ∙ carried-whole row a t p h)
       carries s (Damaged r) h = kept (keeps (refusal r) a t) (refl, refl) (call-sound row a t s c k ∙ carried-damaged row a t p r h)
 
-      sounds : (b : Bool) → sound row (length a) t ≡ b → LeftAsIs a t (call row a t c)
+      sounds : (b : Bool) → soundKept row (length a) t ≡ b → LeftAsIs a t (call row a t c)
       sounds true s = carries s (damaged row a (p .checks)) refl
       sounds false s = kept (keeps (unsound c) a t) (refl, refl) (call-unsound row a t c k s)
 
   pub measure-keeps : (o : ℕ) → LeftAsIs a t (call row a t (measures o))
   unfolding plan measure
-  measure-keeps o = left-as-is (measures o) tt (nothing (view row t) (lookup row (view row t) o))
+  measure-keeps o = left-as-is (measures o) tt (nothing (view row (t .tables)) (lookup row (view row (t .tables)) o))
     where
       nothing : (P : Pool) (x : Option Place) → (onBlock P (measureAt row P) x .changes ≡ []) × (onBlock P (measureAt row P) x .pool ≡ P)
       nothing P none = (refl, refl)

@@ -1,9 +1,10 @@
 -- What report counts: rows held and rows free are all rows, and no total is large.
-use Rattle.mem.proofs.Prelude.{_≡_, refl, Bool, true, false, [], _∷_, ℕ, _+_, _*_, _<_, _≤_, arith, T, ltb→lt, eqb→eq, length}
+use Rattle.mem.proofs.Prelude.{_∙_, _≡_, ap, refl, Bool, true, false, List, [], _∷_, map, ℕ, _+_, _*_, _<_, _≤_, arith, T, ltb→lt, eqb→eq, length, ones}
 use native.Mathlib.Nat.{mul-le-mul-left}
 use Rattle.mem.specs.Lists.{sum}
-use Rattle.mem.specs.Bytes.{bit}
+use Rattle.mem.specs.Bytes.{bit, mask}
 use Rattle.mem.proofs.Tests.{and-left, and-right}
+use Rattle.mem.proofs.Masks.{ones-sum}
 use Rattle.mem.proofs.Laws.{sum-below}
 use Rattle.classes.specs.Classes.{slotsOf, tooLarge}
 use Rattle.classes.proofs.Laws.{slots-small, rows-pos}
@@ -67,3 +68,19 @@ module _ (row : ℕ) (pos : 0 < row) (P : Pool) (t : T (wellFormed P)) (h : rows
         ready = omega (arith, spans-below (λ x. bit (isReady x)) 1 (λ c x u. bit-small (isReady x)));
         waiting = omega (arith, spans-below (λ x. bit (isWaiting x)) 1 (λ c x u. bit-small (isWaiting x)));
       }
+
+-- the ones of a mask of slots are the slots that it counts
+pub mask-ones : (f : Slot → Bool) (ss : List Slot) → ones (mask (map f ss)) ≡ sum (λ x. bit (f x)) ss
+mask-ones f ss = ones-sum (map f ss) ∙ bits ss
+  where
+    bits : (ss : List Slot) → sum bit (map f ss) ≡ sum (λ x. bit (f x)) ss
+    bits [] = refl
+    bits (x ∷ ss) = ap (λ n. bit (f x) + n) (bits ss)
+
+-- a slot is ready, waiting or live
+pub three-sets : (ss : List Slot) → sum (λ x. bit (isReady x)) ss + sum (λ x. bit (isWaiting x)) ss + sum (λ x. bit (isLive x)) ss ≡ length ss
+three-sets [] = refl
+three-sets (Fresh ∷ ss) = omega (arith, three-sets ss)
+three-sets (Idle true k d ∷ ss) = omega (arith, three-sets ss)
+three-sets (Idle false k d ∷ ss) = omega (arith, three-sets ss)
+three-sets (Live a ∷ ss) = omega (arith, three-sets ss)

@@ -1,19 +1,17 @@
 -- Laws of engines: a call on the form of a state is the same step on that state, whatever the form.
-use Rattle.mem.proofs.Prelude.{_∙_, _≡_, sym, ap, refl, _&&_, List, [], _∷_, ℕ, _<_, _*_, _/_, mul-comm, T, length}
-use native.Mathlib.Nat.{mul-div-cancel}
+use Rattle.mem.proofs.Prelude.{_∙_, _≡_, sym, ap, refl, _&&_, List, [], _∷_, ℕ, _<_, _*_, _/_, T, length}
 use Rattle.mem.specs.Bytes.{zeros, part}
-use Rattle.mem.proofs.Tests.{and-both, T-true, choose-true, eq→eqb}
+use Rattle.mem.proofs.Tests.{and-both, T-true, choose-true}
 use Rattle.mem.proofs.Laws.{put-length, zeros-length}
 use Rattle.model.specs.declared.Refusal.{Refusal}
 use Rattle.model.specs.declared.Damage.{Damage}
 use Rattle.model.specs.declared.Damage.the-variants.{Intact, Damaged}
-use Rattle.model.specs.State.{Pool, rows}
+use Rattle.model.specs.State.{Pool}
 use Rattle.model.specs.Answers.{done, refusal}
 use Rattle.model.specs.Plans.{Plan, Write, writes, copies, Call, setsUp, grants, releases, resizes, measures, reports, grantsList, plan, freshPool}
-use Rattle.model.specs.Tables.{Layout, LayoutLaws, encodeBy, arenaRight, roomBytes}
-use Rattle.model.specs.Calls.{Form, Outcome, Stands, FormLaws, formOf, keeps, written, unless, damaged, carriedBy, setUpRightBy}
+use Rattle.model.specs.Tables.{arenaRight}
+use Rattle.model.specs.Calls.{Form, Outcome, Stands, FormLaws, keeps, written, unless, damaged, carriedBy, setUpRightBy}
 use Rattle.model.specs.Calls.{setUpBy, checkedBy, callBy}
-use Rattle.model.proofs.Tables.{view-encode, encode-length, encode-sound, sound-facts}
 use Rattle.model.proofs.Fresh.{fresh-formed, fresh-rows, whole-rows}
 use Rattle.model.proofs.Formed.{Formed, plan-formed}
 
@@ -31,20 +29,6 @@ unless-case : {A : Type 0} (M : A → Type 0) (d : Damage) (x : A) (g : Refusal 
 unfolding unless
 unless-case M Intact x g m n = m
 unless-case M (Damaged r) x g m n = n r
-
--- tables in a lawful layout are a lawful form
-pub layout-lawful : (L : Layout) → LayoutLaws L → (row : ℕ) → 0 < row → FormLaws row (formOf row L)
-layout-lawful L law row pos = record {
-  says = view-encode law row pos;
-  right = λ n P s. encode-sound law row pos P n (s .formed) (s .lawful) (s .long);
-  only = λ n t h.
-      let f = sound-facts L row n t h in
-      (record { lawful = f .lawful; long = f .long; formed = f .formed }, f .form);
-  taken = λ n P s. eq→eqb (length (encodeBy L row P)) (roomBytes (n / row)) (encode-length law row pos P (s .formed) ∙ ap roomBytes (rows-in n P s));
-}
-  where
-    rows-in : (n : ℕ) (P : Pool) → Stands row n P → rows row P ≡ n / row
-    rows-in n P s = sym (ap (λ k. k / row) (s .long ∙ mul-comm row (rows row P)) ∙ mul-div-cancel (rows row P) pos)
 
 -- ---- one step, whatever the form
 

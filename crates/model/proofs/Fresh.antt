@@ -1,14 +1,15 @@
 -- A pool with no groups, and what an accepted set up leaves.
-use Rattle.mem.proofs.Prelude.{_∙_, _≡_, sym, ap, refl, List, [], _∷_, ℕ, _<_, _*_, _-_, suc, _/_, zero, _%_, arith, T, eqb→eq, length}
+use Rattle.mem.proofs.Prelude.{_∙_, _≡_, sym, ap, refl, List, [], _∷_, ℕ, _<_, _*_, _+_, suc, _/_, zero, _%_, arith, T, eqb→eq, length}
 use native.Mathlib.Nat.{div-add-mod}
 use Rattle.mem.specs.Bytes.{zeros}
 use Rattle.mem.proofs.Tests.{and-left, and-right, T-true, choose-true}
+use Rattle.model.specs.declared.Totals.{Totals}
 use Rattle.model.specs.State.{wellFormed, spanSound, rows}
 use Rattle.model.specs.Answers.{done}
-use Rattle.model.specs.Plans.{freshPool}
-use Rattle.model.specs.Tables.{encode, arenaRight, sound}
-use Rattle.model.specs.Calls.{setUp, setUpRight, setUpBy, setUpRightBy}
-use Rattle.model.proofs.Tables.{masks-laws, encode-sound}
+use Rattle.model.specs.Plans.{freshPool, totals}
+use Rattle.model.specs.Tables.{arenaRight}
+use Rattle.model.specs.Calls.{KeptBytes, engine, soundKept, setUp, setUpRight, setUpBy, setUpRightBy}
+use Rattle.model.proofs.Kept.{engine-lawful}
 
 pub fresh-formed : (n : ℕ) → T (wellFormed (freshPool n))
 unfolding spanSound
@@ -26,16 +27,38 @@ whole-rows row n t =
     let e : n % row ≡ 0 = eqb→eq (n % row) 0 (search (and-left, and-right)) in
     omega (arith, div-add-mod n row)
 
-module _ (row : ℕ) (a t : List ℕ) (h : T (setUpRight row a t)) where
+module _ (row : ℕ) (a : List ℕ) (t : KeptBytes) (h : T (setUpRight row a t)) where
   pub set-up-lawful : T (arenaRight row (length a))
   unfolding setUpRightBy
   set-up-lawful = search and-left
 
-  pub set-up-done : setUp row a t ≡ record { answer = done (0 ∷ []); arena = zeros (length a); room = encode row (freshPool (length a / row)) }
+  pub set-up-done : setUp row a t
+      ≡ record { answer = done (0 ∷ []); arena = zeros (length a); room = engine row .encode (freshPool (length a / row)) }
   unfolding setUpBy
   set-up-done = choose-true (setUpRight row a t) _ _ (T-true (setUpRight row a t) h)
 
-  pub set-up-sound : 0 < row → T (sound row (length a) (encode row (freshPool (length a / row))))
+  pub set-up-sound : 0 < row → T (soundKept row (length a) (engine row .encode (freshPool (length a / row))))
   set-up-sound pos =
-      encode-sound masks-laws row pos (freshPool (length a / row)) (length a) (fresh-formed (length a / row)) set-up-lawful
-      (sym (ap (λ n. row * n) (fresh-rows row (length a / row)) ∙ whole-rows row (length a) set-up-lawful))
+      engine-lawful row pos .right (length a) (freshPool (length a / row)) (record {
+        lawful = set-up-lawful;
+        long = sym (ap (λ n. row * n) (fresh-rows row (length a / row)) ∙ whole-rows row (length a) set-up-lawful);
+        formed = fresh-formed (length a / row);
+      })
+
+one-more : (n : ℕ) → 1 + n ≡ suc n
+one-more n = omega arith
+
+-- no total but rows free
+pub fresh-totals : (row n : ℕ) → totals row (freshPool n) ≡ record { blocks = 0; bytes = 0; held = 0; free = n; ready = 0; waiting = 0 }
+unfolding totals
+fresh-totals row zero = refl
+fresh-totals row (suc n) =
+    ap (λ (s : Totals). record {
+      blocks = 0 + s .blocks;
+      bytes = 0 + s .bytes;
+      held = 0 + s .held;
+      free = 1 + s .free;
+      ready = 0 + s .ready;
+      waiting = 0 + s .waiting;
+    }) (fresh-totals row n)
+    ∙ rw (one-more n)

@@ -1,6 +1,7 @@
 pub mod Bench
 pub mod Tables
 pub mod Rooms
+pub mod Kept
 pub mod Fresh
 pub mod Lookup
 pub mod Reserve

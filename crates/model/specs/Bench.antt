@@ -8,20 +8,24 @@ use lib.ListN.{length, replicate, set}
 use Rattle.mem.specs.Lists.{choose}
 use Rattle.mem.specs.Bytes.{zeros, bit, same, part, put}
 use Rattle.classes.specs.Classes.{rowBytes, slotsOf, rowsOf, classOf}
-use Rattle.model.specs.Plans.{Call, grants, releases, resizes, measures, reports, grantsList}
+use Rattle.model.specs.Plans.{Call, setsUp, grants, releases, resizes, measures, reports, grantsList}
 use Rattle.model.specs.Proposals.{accepts, planned}
 use Rattle.model.specs.Tables.{roomBytes}
-use Rattle.model.specs.Calls.{call, setUp}
+use Rattle.model.specs.declared.Totals.{Totals}
+use Rattle.model.specs.Calls.{KeptBytes, keptIn, sameTotals, call, setUp}
 
 -- a line of the sheet: a call with the number and values due; a list call that is done, with its value and the lent list before and after
--- it; a call that is refused and leaves every byte of arena and tables, and writes nothing to a lent list; bytes due from a place on, or a
--- store into the arena
+-- it; a call that is refused and leaves every byte of arena and tables and the record, and writes nothing to a lent list; bytes due from a
+-- place on, or a store into the arena; the record's numbers due, or a record put in its place; a store into the table room
 pub data Line : Type 0 where
   asks : Call → (number : ℕ) (values : List ℕ) → Line
   lists : Call → (value : ℕ) (before after : List ℕ) → Line
   leaves : Call → (number : ℕ) → Line
   shows : (at : ℕ) → List ℕ → Line
   stores : (at byte : ℕ) → Line
+  holds : Totals → Line
+  writes : Totals → Line
+  spoils : (at byte : ℕ) → Line
 
 -- an entry of the sheet: lines over a fresh pool of some arena length, a size with its class, a class with the slots and rows of its
 -- groups, a proposal with 1 if the check accepts it, or what the planner answers and proposes
@@ -46,6 +50,10 @@ bytes4 a b c d = a ∷ b ∷ c ∷ d ∷ []
 abbrev pub grants160 : ℕ → ℕ → List Line
 grants160 zero at = []
 grants160 (suc n) at = gives (grants 160) at ∷ grants160 n (at + 192)
+
+-- the six totals: live blocks, their bytes, rows held, rows free, ready slots, waiting slots
+abbrev pub six : ℕ → ℕ → ℕ → ℕ → ℕ → ℕ → Totals
+six b n h f r w = record { blocks = b; bytes = n; held = h; free = f; ready = r; waiting = w }
 
 -- k entries of one byte
 abbrev pub ones : ℕ → List ℕ
@@ -135,10 +143,27 @@ sheet =
     -- "Answer 17, bad proposal, exactly if the check refuses it", and before 8
     ∷ fresh 512 (leaves (grantsList 18 2 17 (ones 18)) 17 ∷ leaves (grantsList 1 1 17 (1 ∷ 0 ∷ [])) 17 ∷ leaves (grantsList 13 12 17 (13 ∷ [])) 17
     ∷ leaves (grantsList 14 14 17 (13 ∷ [])) 17 ∷ leaves (grantsList 13 13 17 (13 ∷ [])) 8 ∷ [])
+    -- 02 §4: "kept in one small record beside the tables, brought up to date in place by every call, lists included": a full group, two releases,
+    -- a refill, a resize in place, a move into a new group, which goes again, a list
+    ∷ fresh 8192 (holds (six 0 0 0 16 0 0) ∷ grants160 21 16 ++ (holds (six 21 3360 8 8 0 0) ∷ gives (releases 16) 0 ∷ gives (releases 208) 0
+    ∷ holds (six 19 3040 8 8 0 2) ∷ gives (grants 160) 32 ∷ holds (six 20 3200 8 8 1 0) ∷ gives (resizes 32 150) 32
+    ∷ holds (six 20 3190 8 8 1 0) ∷ gives (resizes 32 13) 4112 ∷ holds (six 20 3053 10 6 31 1) ∷ gives (releases 4112) 0
+    ∷ holds (six 19 3040 8 8 1 1) ∷ lists (grantsList 14 13 17 (13 ∷ 1 ∷ [])) 2 (replicate 17 7) (4112 ∷ 5136 ∷ replicate 15 7)
+    ∷ holds (six 21 3054 11 5 61 1) ∷ gives (measures 5136) 1 ∷ asks reports 0 (21 ∷ 3054 ∷ 11 ∷ 5 ∷ 61 ∷ 1 ∷ []) ∷ gives setsUp 0
+    ∷ holds (six 0 0 0 16 0 0) ∷ []))
+    -- "the stored totals equal those counted from the tables": a requested size with a flipped bit, and with it a record that agrees; a use
+    -- count is in no total
+    ∷ fresh 4096 (gives (grants 160) 16 ∷ spoils 36 161 ∷ leaves (grants 0) 2 ∷ leaves (releases 16) 2 ∷ leaves (resizes 16 7) 2 ∷ leaves (measures 16) 2
+    ∷ leaves (grantsList 1 1 17 (1 ∷ [])) 2 ∷ asks reports 2 (0 ∷ 0 ∷ 0 ∷ 0 ∷ 0 ∷ 0 ∷ []) ∷ writes (six 1 161 8 0 20 0)
+    ∷ asks reports 0 (1 ∷ 161 ∷ 8 ∷ 0 ∷ 20 ∷ 0 ∷ []) ∷ spoils 36 160 ∷ leaves (measures 16) 2 ∷ writes (six 1 160 8 0 20 0) ∷ spoils 33 3
+    ∷ gives (measures 16) 160 ∷ [])
+    -- a mask: a slot of class 0 that waits would be live, with no bytes. "Set up writes the record" whatever stood there
+    ∷ fresh 512 (gives (grants 0) 16 ∷ gives (grants 0) 32 ∷ gives (releases 16) 0 ∷ spoils 28 0 ∷ leaves (measures 32) 2 ∷ writes (six 2 0 1 0 29 0)
+    ∷ gives (measures 32) 0 ∷ writes (six 0 0 0 0 0 0) ∷ leaves (measures 32) 2 ∷ gives setsUp 0 ∷ holds (six 0 0 0 1 0 0) ∷ gives (grants 0) 16 ∷ [])
     ∷ []
 
--- the lines that are so, over an arena and a table room
-unfoldable pub passes : List ℕ → List ℕ → List Line → Bool
+-- the lines that are so, over an arena, a table room and the record
+unfoldable pub passes : List ℕ → KeptBytes → List Line → Bool
 passes a t [] = true
 passes a t (asks c k vs ∷ ls) =
     let r = call rowBytes a t c in
@@ -153,15 +178,18 @@ passes a t (lists c k l m ∷ ls) =
 passes a t (leaves c k ∷ ls) =
     let r = call rowBytes a t c in
     let rest = passes (r .arena) (r .room) ls in
-    let kept : Bool = same (r .arena) a && same (r .room) t && same (r .answer .lent) [] in
+    let kept : Bool = same (r .arena) a && same (r .room .tables) (t .tables) && sameTotals (r .room .totals) (t .totals) && same (r .answer .lent) [] in
     let right : Bool = eqb (r .answer .number) k && same (r .answer .values) (0 ∷ []) && kept in
     choose right rest false
 passes a t (shows p bs ∷ ls) = let rest = passes a t ls in choose (same (part p (length bs) a) bs) rest false
 passes a t (stores p b ∷ ls) = passes (set a p b) t ls
+passes a t (holds s ∷ ls) = let rest = passes a t ls in choose (sameTotals (t .totals) s) rest false
+passes a t (writes s ∷ ls) = passes a (keptIn (t .tables) s) ls
+passes a t (spoils p b ∷ ls) = passes a (keptIn (set (t .tables) p b) (t .totals)) ls
 
 unfoldable pub right : Entry → Bool
 right (fresh n ls) =
-    let r = setUp rowBytes (zeros n) (zeros (roomBytes (n / rowBytes))) in
+    let r = setUp rowBytes (zeros n) (keptIn (zeros (roomBytes (n / rowBytes))) (six 7 7 7 7 7 7)) in
     eqb (r .answer .number) 0 && passes (r .arena) (r .room) ls
 right (class n c) = eqb (classOf n) c
 right (groups c s r) = eqb (slotsOf c) s && eqb (rowsOf rowBytes c) r

@@ -1,4 +1,4 @@
--- The calls over arena and table room, whatever form the tables have in the room; and those of the first engine.
+-- The calls over an arena and what is lent for the tables, whatever form they have; and those of the first engine.
 use Prim.Native.Nat.{ℕ, _*_, _/_}
 use mathlib.Core.Path.{_≡_}
 use mathlib.Core.Bool.{Bool, _&&_}
@@ -7,15 +7,17 @@ use mathlib.Core.List.{List, [], _∷_}
 use lib.Dec.{T, eqb}
 use lib.ListN.{length}
 use Rattle.mem.specs.Lists.{choose}
-use Rattle.mem.specs.Bytes.{zeros, part, put}
+use Rattle.mem.specs.Bytes.{zeros, same, part, put}
 use Rattle.model.specs.declared.Refusal.{Refusal}
 use Rattle.model.specs.declared.Refusal.the-variants.{BadArena, Unsound}
 use Rattle.model.specs.declared.Damage.{Damage}
 use Rattle.model.specs.declared.Damage.the-variants.{Intact, Damaged}
+use Rattle.model.specs.declared.Totals.{Totals}
 use Rattle.model.specs.State.{Pool, Place, wellFormed, rows}
 use Rattle.model.specs.Blocks.{damage}
-use Rattle.model.specs.Answers.{Answer, done, refusal, reportRefusal}
+use Rattle.model.specs.Answers.{Answer, done, refusal, reportRefusal, listed}
 use Rattle.model.specs.Plans.{Plan, Write, writes, copies, Call, setsUp, grants, releases, resizes, measures, reports, grantsList, plan, freshPool}
+use Rattle.model.specs.Plans.{totals}
 use Rattle.model.specs.Tables.{Layout, byMasks, encodeBy, viewBy, soundBy, arenaRight, roomBytes}
 
 -- A form of the tables: what stands in the room for a state, what a room says, whether a room is sound under an arena of n bytes,
@@ -33,9 +35,23 @@ pub record Outcome (R : Type 0) : Type 0 where
   pub arena : List ℕ
   pub room : R
 
--- where the room is bytes
+-- 02 §4: "The six totals are now kept in one small record beside the tables": tables, and the record
+pub record Kept (R : Type 0) : Type 0 where
+  pub tables : R
+  pub totals : Totals
+
+-- where the tables are bytes
+abbrev pub KeptBytes : Type 0
+KeptBytes = Kept (List ℕ)
+
+abbrev pub keptIn : List ℕ → Totals → KeptBytes
+keptIn t s = record { tables = t; totals = s }
+
 abbrev pub Result : Type 0
-Result = Outcome (List ℕ)
+Result = Outcome KeptBytes
+
+unfoldable pub sameTotals : Totals → Totals → Bool
+sameTotals a b = same (listed a) (listed b)
 
 -- "With a refusal .. arena and tables keep every byte."
 abbrev pub keeps : {R : Type 0} → Answer → List ℕ → R → Outcome R
@@ -127,22 +143,40 @@ module _ (row : ℕ) where
     fits = λ n t. eqb (length t) (roomBytes (n / row));
   }
 
-  -- THE FIRST ENGINE, by its form
-
+  -- tables by masks: the soundness of document 01
   abbrev pub masked : Form
   masked = formOf byMasks
 
-  abbrev pub carried : List ℕ → List ℕ → Plan → Outcome (List ℕ)
-  carried a t p = carriedBy masked a t p
+  -- 02 §4: a form with the record beside it. "Soundness gains a rule: the stored totals equal those counted from the tables."
+  abbrev pub counted : Form → Form
+  counted F = record {
+    Room = Kept (F .Room);
+    encode = λ P. record { tables = F .encode P; totals = totals row P };
+    view = λ t. F .view (t .tables);
+    sound = λ n t. F .sound n (t .tables) && sameTotals (t .totals) (totals row (F .view (t .tables)));
+    fits = λ n t. F .fits n (t .tables);
+  }
 
-  abbrev pub setUpRight : List ℕ → List ℕ → Bool
-  setUpRight a t = setUpRightBy masked a t
+  -- THE FIRST ENGINE, by its form
 
-  abbrev pub setUp : List ℕ → List ℕ → Outcome (List ℕ)
-  setUp a t = setUpBy masked a t
+  abbrev pub engine : Form
+  engine = counted masked
 
-  abbrev pub checked : List ℕ → List ℕ → Call → Outcome (List ℕ)
-  checked a t c = checkedBy masked a t c
+  -- what is lent is sound under an arena of n bytes: the tables, and the record beside them
+  abbrev pub soundKept : ℕ → KeptBytes → Bool
+  soundKept n t = engine .sound n t
 
-  abbrev pub call : List ℕ → List ℕ → Call → Outcome (List ℕ)
-  call a t c = callBy masked a t c
+  abbrev pub carried : List ℕ → KeptBytes → Plan → Result
+  carried a t p = carriedBy engine a t p
+
+  abbrev pub setUpRight : List ℕ → KeptBytes → Bool
+  setUpRight a t = setUpRightBy engine a t
+
+  abbrev pub setUp : List ℕ → KeptBytes → Result
+  setUp a t = setUpBy engine a t
+
+  abbrev pub checked : List ℕ → KeptBytes → Call → Result
+  checked a t c = checkedBy engine a t c
+
+  abbrev pub call : List ℕ → KeptBytes → Call → Result
+  call a t c = callBy engine a t c

@@ -49,7 +49,9 @@ pub enum Reply {
     Refused(Refusal),
 }
 
-// The totals of report: live blocks and their requested bytes; rows held and rows free; ready slots and waiting slots.
+// The totals of report, which are kept in a record beside the tables: live blocks and their requested bytes; rows held and rows free; ready
+// slots and waiting slots.
+#[repr(C)]
 pub struct Totals {
     pub blocks: usize,
     pub bytes: usize,
@@ -57,6 +59,12 @@ pub struct Totals {
     pub free: usize,
     pub ready: usize,
     pub waiting: usize,
+}
+
+// What a call answers, and the totals after it.
+pub struct Answered {
+    pub reply: Reply,
+    pub totals: Totals,
 }
 
 // What report answers.

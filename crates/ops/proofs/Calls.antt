@@ -1,25 +1,28 @@
 -- The calls by what the code finds: a grant by what is reserved, and the calls on a block by what is located.
-use Rattle.mem.proofs.Prelude.{_∙_, _≡_, sym, ap, refl, subst, true, Bool, false, some, none, Option, List, [], _∷_, _++_, _+_, ℕ, _<_, _≤_, arith}
+use Rattle.mem.proofs.Prelude.{_∙_, _≡_, sym, ap, refl, ap₂, subst, true, Bool, false, some, none, Option, List, [], _∷_, _++_, _+_, ℕ, _<_, _≤_, arith}
 use Rattle.mem.proofs.Prelude.{le-leb, lt-leb, T, leb, length}
 use Rattle.mem.specs.Lists.{any}
 use Rattle.mem.specs.Bytes.{put}
 use Rattle.mem.proofs.Tests.{choose-case, choose-true, choose-false, true-T}
-use Rattle.classes.specs.Classes.{tooLarge}
+use Rattle.classes.specs.Classes.{Lawful, tooLarge}
 use Rattle.model.specs.declared.Refusal.{Refusal}
 use Rattle.model.specs.declared.Refusal.the-variants.{TooLarge, NoSuchBlock, AlreadyFree, NoRoom}
 use Rattle.model.specs.declared.Damage.{Damage}
 use Rattle.model.specs.declared.Damage.the-variants.{Intact, Damaged}
-use Rattle.model.specs.State.{Pool, Place, isLive, disp, size, slotNumber, owned, start}
+use Rattle.model.specs.declared.Totals.{Totals}
+use Rattle.model.specs.State.{Pool, Place, isLive, disp, size, slotNumber, poolOf, owned, start}
 use Rattle.model.specs.Blocks.{damage, frame}
 use Rattle.model.specs.Answers.{done, refusal, listed}
 use Rattle.model.specs.Plans.{Plan, grants, releases, resizes, measures, reports, refused, plan, grant, grantAt, reserve, enframe, lookup, onBlock}
 use Rattle.model.specs.Plans.{release, releaseAt, resize, resizeAt, resizeInPlace, resizeMove, moveTo, inPlace, measure, measureAt, report, totals}
 use Rattle.model.specs.Tables.{byMasks, view}
-use Rattle.model.specs.Calls.{Result, masked, call, carried, applied, damaged, keeps}
+use Rattle.model.specs.Calls.{KeptBytes, keptIn, Result, engine, soundKept, call, carried, applied, damaged, keeps}
 use Rattle.model.proofs.Lookup.{lookup-found}
+use Rattle.model.proofs.Kept.{kept-sound, kept-totals}
 use Rattle.model.proofs.Calls.{call-sound, same-room, carried-whole, carried-damaged, on-live}
 use Rattle.rows.specs.declared.Block.{Block}
 use Rattle.rows.specs.Rows.{Lent, blockOf, ownedAt, startAt, Holds}
+use Rattle.rows.proofs.Rooms.{by-masks}
 use Rattle.ops.specs.declared.Located.{Located}
 use Rattle.ops.specs.declared.Located.the-variants.{At, Refused}
 use Rattle.ops.specs.declared.Reserved.the-variants as reserved
@@ -27,53 +30,61 @@ use Rattle.ops.specs.Blocks.{Standing, byDamage, located, reservedAs, ro
 use Rattle.ops.proofs.Places.{place-holds}
 use Rattle.ops.proofs.Moves.{reserved-place, reserved-none, reserve-leaves}
 
-module _ {row : ℕ} {t : List ℕ} (a : List ℕ) (r : Lent byMasks row (length a) t) where
+-- what is lent passed the check
+pub record Checked (row : ℕ) (a : List ℕ) (t : KeptBytes) : Type 0 where
+  pub kept : soundKept row (length a) t ≡ true
+  pub room : Lent byMasks row (length a) (t .tables)
+
+pub by-check : {row : ℕ} (a : List ℕ) (t : KeptBytes) → soundKept row (length a) t ≡ true → Lawful row → Checked row a t
+by-check {row} a t s law = record { kept = s; room = by-masks (kept-sound row (length a) t s) law }
+
+module _ {row : ℕ} {t : KeptBytes} (a : List ℕ) (r : Checked row a t) where
   -- a plan that refuses, carried out on sound tables, keeps every byte
-  pub kept : (x : Refusal) → carried row a t (refused x (view row t)) ≡ keeps (refusal x) a t
-  kept x = carried-whole row a t (refused x (view row t)) refl ∙ ap (keeps (refusal x) a) (same-room row a t (r .sound))
+  pub kept : (x : Refusal) → carried row a t (refused x (view row (t .tables))) ≡ keeps (refusal x) a t
+  kept x = carried-whole row a t (refused x (view row (t .tables))) refl ∙ ap (keeps (refusal x) a) (same-room row a t (r .kept))
 
   -- ---- grant
 
   pub grant-too-large : (n : ℕ) → tooLarge ≤ n → call row a t (grants n) ≡ keeps (refusal TooLarge) a t
   unfolding plan grant
   grant-too-large n h =
-      call-sound row a t (r .sound) (grants n) tt ∙ ap (carried row a t) (choose-true (leb tooLarge n) _ _ (le-leb tooLarge n h)) ∙ kept TooLarge
+      call-sound row a t (r .kept) (grants n) tt ∙ ap (carried row a t) (choose-true (leb tooLarge n) _ _ (le-leb tooLarge n h)) ∙ kept TooLarge
 
   module _ (n : ℕ) (small : n < tooLarge) where
-    granting : call row a t (grants n) ≡ carried row a t (grantAt row (view row t) (reserve row (view row t) n))
+    granting : call row a t (grants n) ≡ carried row a t (grantAt row (view row (t .tables)) (reserve row (view row (t .tables)) n))
     unfolding plan grant
-    granting = call-sound row a t (r .sound) (grants n) tt ∙ ap (carried row a t) (choose-false (leb tooLarge n) _ _ (lt-leb tooLarge n small))
+    granting = call-sound row a t (r .kept) (grants n) tt ∙ ap (carried row a t) (choose-false (leb tooLarge n) _ _ (lt-leb tooLarge n small))
 
-    pub granted-none : reservedAs row (reserve row (view row t) n) ≡ reserved.NoRoom
-        → (call row a t (grants n) ≡ keeps (refusal NoRoom) a t) × (roomAfter row t (reserve row (view row t) n) ≡ t)
+    pub granted-none : reservedAs row (reserve row (view row (t .tables)) n) ≡ reserved.NoRoom
+        → (call row a t (grants n) ≡ keeps (refusal NoRoom) a t) × (roomAfter row (t .tables) (reserve row (view row (t .tables)) n) ≡ t .tables)
     granted-none e =
-        let q : reserve row (view row t) n ≡ none = reserved-none row (reserve row (view row t) n) e in
-        (granting ∙ ap (λ o. carried row a t (grantAt row (view row t) o)) q ∙ kept NoRoom, ap (roomAfter row t) q)
+        let q : reserve row (view row (t .tables)) n ≡ none = reserved-none row (reserve row (view row (t .tables)) n) e in
+        (granting ∙ ap (λ o. carried row a t (grantAt row (view row (t .tables)) o)) q ∙ kept NoRoom, ap (roomAfter row (t .tables)) q)
 
     -- what a grant of a reserved block leaves, and where the block stands
-    pub record GrantedAt (b : Block) : Type 0 where
+    pub record GrantedAt (b : Block) (z : Totals) : Type 0 where
       pub result : call row a t (grants n) ≡ record {
         answer = done (startAt row b ∷ []);
         arena = put (ownedAt row b) (frame (b .class) (b .slot) (b .alloc .disp) (b .alloc .size)) a;
-        room = roomAfter row t (reserve row (view row t) n);
+        room = keptIn (roomAfter row (t .tables) (reserve row (view row (t .tables)) n)) z;
       }
       pub stands : Standing row (length a) b
 
-    pub granted-at : (b : Block) → reservedAs row (reserve row (view row t) n) ≡ reserved.Taken b → GrantedAt b
+    pub granted-at : (b : Block) (z : Totals) → reservedAs row (reserve row (view row (t .tables)) n) ≡ reserved.Taken b z → GrantedAt b z
     unfolding enframe
-    granted-at b e =
-        let (q, f, h) = reserved-place row (reserve row (view row t) n) b e in
-        subst GrantedAt h (record {
-          result = granting ∙ ap (λ o. carried row a t (grantAt row (view row t) o)) f ∙ carried-whole row a t (grantAt row (view row t) (some q)) refl
-              ∙ ap (λ u. laid q u) (sym (ap (roomAfter row t) f));
-          stands = reserve-leaves r n small q f .stands;
-        })
+    granted-at b z e =
+        let (q, f, h, k) = reserved-place row (reserve row (view row (t .tables)) n) b z e in
+        subst (GrantedAt b) k (subst (λ b. GrantedAt b (totals row (poolOf q))) h (record {
+          result = granting ∙ ap (λ o. carried row a t (grantAt row (view row (t .tables)) o)) f ∙ carried-whole row a t (grantAt row (view row (t .tables)) (some q)) refl
+              ∙ ap (λ u. laid q u) (sym (ap (roomAfter row (t .tables)) f));
+          stands = reserve-leaves (r .room) n small q f .stands;
+        }))
       where
         laid : Place → List ℕ → Result
         laid q u = record {
           answer = done (start row q ∷ []);
           arena = put (owned row q) (frame (q .cls) (slotNumber q) (disp (q .state)) (size (q .state))) a;
-          room = u;
+          room = keptIn u (totals row (poolOf q));
         }
 
   -- ---- a call on a block
@@ -81,9 +92,9 @@ module _ {row : ℕ} {t : List ℕ} (a : List ℕ) (r : Lent byMasks row (length
   module _ (o : ℕ) (k : Place → Plan) (named : (p : Place) → k p .checks ≡ some p) where
     -- what the call does, by what is located
     data Outcome (q : Option Place) : Located → Type 0 where
-      acts : (p : Place) → q ≡ some p → T (isLive (p .state)) → carried row a t (onBlock (view row t) k q) ≡ applied (masked row) a (k p)
+      acts : (p : Place) → q ≡ some p → T (isLive (p .state)) → carried row a t (onBlock (view row (t .tables)) k q) ≡ applied (engine row) a (k p)
           → Outcome q (At (blockOf row p))
-      refuses : (x : Refusal) → carried row a t (onBlock (view row t) k q) ≡ keeps (refusal x) a t → Outcome q (Refused x)
+      refuses : (x : Refusal) → carried row a t (onBlock (view row (t .tables)) k q) ≡ keeps (refusal x) a t → Outcome q (Refused x)
 
     outcome : (q : Option Place) → Outcome q (located row a q)
     outcome none = refuses NoSuchBlock (kept NoSuchBlock)
@@ -91,9 +102,9 @@ module _ {row : ℕ} {t : List ℕ} (a : List ℕ) (r : Lent byMasks row (length
       where
         tested : T (isLive (p .state)) → (d : Damage) → damage row a p ≡ d → Outcome (some p) (byDamage row (blockOf row p) d)
         tested l Intact e =
-            acts p refl l (ap (carried row a t) (on-live (view row t) k p l) ∙ carried-whole row a t (k p) (ap (damaged row a) (named p) ∙ e))
+            acts p refl l (ap (carried row a t) (on-live (view row (t .tables)) k p l) ∙ carried-whole row a t (k p) (ap (damaged row a) (named p) ∙ e))
         tested l (Damaged x) e =
-            refuses x (ap (carried row a t) (on-live (view row t) k p l) ∙ carried-damaged row a t (k p) x (ap (damaged row a) (named p) ∙ e))
+            refuses x (ap (carried row a t) (on-live (view row (t .tables)) k p l) ∙ carried-damaged row a t (k p) x (ap (damaged row a) (named p) ∙ e))
 
         go : (v : Bool) → isLive (p .state) ≡ v → Outcome (some p) (located row a (some p))
         go true e = subst (Outcome (some p)) (sym (choose-true (isLive (p .state)) _ _ e)) (tested (true-T (isLive (p .state)) e) (damage row a p) refl)
@@ -104,54 +115,54 @@ module _ {row : ℕ} {t : List ℕ} (a : List ℕ) (r : Lent byMasks row (length
     -- the block's place, and that the call carries out the plan for it
     pub record Called (b : Block) : Type 0 where
       pub place : Place
-      pub holds : Holds byMasks row t b place
-      pub result : carried row a t (onBlock (view row t) k (lookup row (view row t) o)) ≡ applied (masked row) a (k place)
+      pub holds : Holds byMasks row (t .tables) b place
+      pub result : carried row a t (onBlock (view row (t .tables)) k (lookup row (view row (t .tables)) o)) ≡ applied (engine row) a (k place)
 
-    pub called-at : (b : Block) → At b ≡ located row a (lookup row (view row t) o) → Called b
-    called-at b e = go (located row a (lookup row (view row t) o)) (outcome (lookup row (view row t) o)) (sym e)
+    pub called-at : (b : Block) → At b ≡ located row a (lookup row (view row (t .tables)) o) → Called b
+    called-at b e = go (located row a (lookup row (view row (t .tables)) o)) (outcome (lookup row (view row (t .tables)) o)) (sym e)
       where
-        go : (l : Located) → Outcome (lookup row (view row t) o) l → l ≡ At b → Called b
+        go : (l : Located) → Outcome (lookup row (view row (t .tables)) o) l → l ≡ At b → Called b
         go (At c) (acts p f l d) e =
             let h : blockOf row p ≡ b = cc in
-            subst Called h (record { place = p; holds = place-holds r p (lookup-found row (r .pos) (view row t) o p f .0) l; result = d })
+            subst Called h (record { place = p; holds = place-holds (r .room) p (lookup-found row (r .room .pos) (view row (t .tables)) o p f .0) l; result = d })
         go (Refused x) (refuses y d) e = let z : _≡_ {A = ℕ} 0 1 = cc in absurd (omega arith)
 
-    pub called-refused : (x : Refusal) → Refused x ≡ located row a (lookup row (view row t) o)
-        → carried row a t (onBlock (view row t) k (lookup row (view row t) o)) ≡ keeps (refusal x) a t
-    called-refused x e = go (located row a (lookup row (view row t) o)) (outcome (lookup row (view row t) o)) (sym e)
+    pub called-refused : (x : Refusal) → Refused x ≡ located row a (lookup row (view row (t .tables)) o)
+        → carried row a t (onBlock (view row (t .tables)) k (lookup row (view row (t .tables)) o)) ≡ keeps (refusal x) a t
+    called-refused x e = go (located row a (lookup row (view row (t .tables)) o)) (outcome (lookup row (view row (t .tables)) o)) (sym e)
       where
-        go : (l : Located) → Outcome (lookup row (view row t) o) l → l ≡ Refused x
-            → carried row a t (onBlock (view row t) k (lookup row (view row t) o)) ≡ keeps (refusal x) a t
+        go : (l : Located) → Outcome (lookup row (view row (t .tables)) o) l → l ≡ Refused x
+            → carried row a t (onBlock (view row (t .tables)) k (lookup row (view row (t .tables)) o)) ≡ keeps (refusal x) a t
         go (At c) (acts p f l d) e = let z : _≡_ {A = ℕ} 0 1 = cc in absurd (omega arith)
         go (Refused y) (refuses z d) e = let h : y ≡ x = cc in d ∙ ap (λ x. keeps (refusal x) a t) h
 
   -- each call on a block, as what is done with it
 
-  pub releasing : (o : ℕ) → call row a t (releases o) ≡ carried row a t (onBlock (view row t) (releaseAt row) (lookup row (view row t) o))
+  pub releasing : (o : ℕ) → call row a t (releases o) ≡ carried row a t (onBlock (view row (t .tables)) (releaseAt row) (lookup row (view row (t .tables)) o))
   unfolding plan release
-  releasing o = call-sound row a t (r .sound) (releases o) tt
+  releasing o = call-sound row a t (r .kept) (releases o) tt
 
-  pub measuring : (o : ℕ) → call row a t (measures o) ≡ carried row a t (onBlock (view row t) (measureAt row (view row t)) (lookup row (view row t) o))
+  pub measuring : (o : ℕ) → call row a t (measures o) ≡ carried row a t (onBlock (view row (t .tables)) (measureAt row (view row (t .tables))) (lookup row (view row (t .tables)) o))
   unfolding plan measure
-  measuring o = call-sound row a t (r .sound) (measures o) tt
+  measuring o = call-sound row a t (r .kept) (measures o) tt
 
   pub resize-too-large : (o n : ℕ) → tooLarge ≤ n → call row a t (resizes o n) ≡ keeps (refusal TooLarge) a t
   unfolding plan resize
   resize-too-large o n h =
-      call-sound row a t (r .sound) (resizes o n) tt ∙ ap (carried row a t) (choose-true (leb tooLarge n) _ _ (le-leb tooLarge n h)) ∙ kept TooLarge
+      call-sound row a t (r .kept) (resizes o n) tt ∙ ap (carried row a t) (choose-true (leb tooLarge n) _ _ (le-leb tooLarge n h)) ∙ kept TooLarge
 
   pub resizing : (o n : ℕ) → n < tooLarge → call row a t (resizes o n)
-      ≡ carried row a t (onBlock (view row t) (resizeAt row (view row t) n) (lookup row (view row t) o))
+      ≡ carried row a t (onBlock (view row (t .tables)) (resizeAt row (view row (t .tables)) n) (lookup row (view row (t .tables)) o))
   unfolding plan resize
-  resizing o n h = call-sound row a t (r .sound) (resizes o n) tt ∙ ap (carried row a t) (choose-false (leb tooLarge n) _ _ (lt-leb tooLarge n h))
+  resizing o n h = call-sound row a t (r .kept) (resizes o n) tt ∙ ap (carried row a t) (choose-false (leb tooLarge n) _ _ (lt-leb tooLarge n h))
 
   -- ---- report
 
-  pub reporting : call row a t reports ≡ keeps (done (listed (totals row (view row t)))) a t
+  pub reporting : call row a t reports ≡ keeps (done (listed (t .totals))) a t
   unfolding plan report
   reporting =
-      call-sound row a t (r .sound) reports tt ∙ carried-whole row a t (report row (view row t)) refl
-      ∙ ap (keeps (done (listed (totals row (view row t)))) a) (same-room row a t (r .sound))
+      call-sound row a t (r .kept) reports tt ∙ carried-whole row a t (report row (view row (t .tables))) refl
+      ∙ ap₂ (λ z u. keeps (done (listed z)) a u) (sym (kept-totals row (length a) t (r .kept))) (same-room row a t (r .kept))
 
 -- ---- the block that a plan names
 

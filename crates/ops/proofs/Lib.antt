@@ -1,3 +1,4 @@
+pub mod Counts
 pub mod Places
 pub mod Reserving
 pub mod Moves

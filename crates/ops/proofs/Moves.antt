@@ -5,13 +5,14 @@ use Rattle.mem.proofs.Tests.{T-true}
 use Rattle.classes.specs.Classes.{slotBytes, tooLarge}
 use Rattle.model.specs.declared.Refusal.the-variants as refusals
 use Rattle.model.specs.declared.Reply.{Reply}
+use Rattle.model.specs.declared.Totals.{Totals}
 use Rattle.model.specs.State.{Place, disp, size, poolOf, slotNumber, rows, owned, start}
 use Rattle.model.specs.Blocks.{frame}
 use Rattle.model.specs.Answers.{done}
-use Rattle.model.specs.Plans.{Plan, reserve, release, releaseAt, resizeMove, moveTo, enframe}
+use Rattle.model.specs.Plans.{Plan, reserve, release, releaseAt, resizeMove, moveTo, enframe, totals}
 use Rattle.model.specs.Tables.{byMasks, view, encode, sound}
 use Rattle.model.specs.Calls.{written}
-use Rattle.model.proofs.Tables.{masks-laws, encode-sound}
+use Rattle.model.proofs.Tables.{masks-laws, view-encode, encode-sound}
 use Rattle.model.proofs.Lookup.{Fits, fits, disp-inside}
 use Rattle.model.proofs.Reserve.{reserve-size, Granted, reserve-formed, Stays}
 use Rattle.model.proofs.Moves.{Old, old, old-released, old-apart}
@@ -34,9 +35,13 @@ stays-block row p q s =
 -- ---- what is reserved, as a place
 
 module _ (row : ℕ) where
-  pub reserved-place : (o : Option Place) (b : Block) → reservedAs row o ≡ Taken b → (q : Place) × (o ≡ some q) × (blockOf row q ≡ b)
-  reserved-place none b e = let z : _≡_ {A = ℕ} 0 1 = cc in absurd (omega arith)
-  reserved-place (some q) b e = let h : blockOf row q ≡ b = cc in (q, refl, h)
+  pub reserved-place : (o : Option Place) (b : Block) (s : Totals) → reservedAs row o ≡ Taken b s
+      → (q : Place) × (o ≡ some q) × (blockOf row q ≡ b) × (totals row (poolOf q) ≡ s)
+  reserved-place none b s e = let z : _≡_ {A = ℕ} 0 1 = cc in absurd (omega arith)
+  reserved-place (some q) b s e =
+      let h : blockOf row q ≡ b = cc in
+      let k : totals row (poolOf q) ≡ s = cc in
+      (q, refl, h, k)
 
   pub reserved-none : (o : Option Place) → reservedAs row o ≡ NoRoom → o ≡ none
   reserved-none none e = refl
@@ -50,6 +55,7 @@ module _ {row len : ℕ} {t : List ℕ} (r : Lent byMasks row len t) (n : ℕ) (
   pub record Left : Type 0 where
     pub room : Lent byMasks row len (encode row (poolOf q))
     pub stands : Standing row len (blockOf row q)
+    pub says : view row (encode row (poolOf q)) ≡ poolOf q
 
   pub reserve-leaves : Left
   reserve-leaves =
@@ -59,6 +65,7 @@ module _ {row len : ℕ} {t : List ℕ} (r : Lent byMasks row len t) (n : ℕ) (
       record {
         room = record { laws = masks-laws; pos = r .pos; sound = s };
         stands = place-stands row (r .pos) len q (grant-formed .formed) (omega (arith, few-rows r, grant-formed .long)) l;
+        says = view-encode masks-laws row (r .pos) (poolOf q) (grant-formed .formed);
       }
 
   module _ {b : Block} {p : Place} (h : Holds byMasks row t b p) where
@@ -106,13 +113,14 @@ module _ {row len : ℕ} {t : List ℕ} (r : Lent byMasks row len t) (n : ℕ) (
     move-plan = ap (moveTo row (poolOf p) p n) (ap (λ P. reserve row P n) (sym (held-pool r h)) ∙ found)
 
     -- over what the calls give: the arena with the new block, with its copy, and after the release
-    pub moved : (c : Block) (a a₁ a₂ a₃ u : List ℕ) (s : ℕ) → blockOf row q ≡ c
+    pub moved : (c : Block) (a a₁ a₂ a₃ u : List ℕ) (s : ℕ) (z : Totals) → blockOf row q ≡ c
         → a₁ ≡ put (ownedAt row c) (frame (c .class) (c .slot) (c .alloc .disp) (c .alloc .size)) a
         → a₂ ≡ put (startAt row c) (part (startAt row b) (min (b .alloc .size) n) a₁) a₁
-        → a₃ ≡ written a₂ (releaseAt row (beside .place) .changes) → u ≡ encode row (releaseAt row (beside .place) .pool) → s ≡ startAt row c
-        → CarriedOut row a (resizeMove row (poolOf p) p n) (Reply.Done s) a₃ u
+        → a₃ ≡ written a₂ (releaseAt row (beside .place) .changes) → u ≡ encode row (releaseAt row (beside .place) .pool)
+        → z ≡ totals row (releaseAt row (beside .place) .pool) → s ≡ startAt row c
+        → CarriedOut row a (resizeMove row (poolOf p) p n) (Reply.Done s) a₃ u z
     unfolding enframe
-    moved c a a₁ a₂ a₃ u s ec e₁ e₂ e₃ eu es =
+    moved c a a₁ a₂ a₃ u s z ec e₁ e₂ e₃ eu ez es =
         let sb : startAt row b ≡ start row p = ap (startAt row) (h .block) in
         let zb : b .alloc .size ≡ size (p .state) = ap (λ b. b .alloc .size) (h .block) in
         let f : a₂ ≡ put (start row q) (part (start row p) (min (size (p .state)) n) laid) laid = e₂ ∙ rw (sb, zb, e₁, ← ec) in
@@ -121,6 +129,7 @@ module _ {row len : ℕ} {t : List ℕ} (r : Lent byMasks row len t) (n : ℕ) (
           answer = ap (λ v. done (v ∷ [])) (es ∙ ap (startAt row) (sym ec));
           arena = e₃ ∙ ap₂ (λ x (y : Plan). written x (y .changes)) f (sym released-old);
           room = eu ∙ ap (λ (x : Plan). encode row (x .pool)) (sym released-old);
+          counts = ez ∙ ap (λ (x : Plan). totals row (x .pool)) (sym released-old);
         })
       where
         laid : List ℕ
@@ -128,7 +137,9 @@ module _ {row len : ℕ} {t : List ℕ} (r : Lent byMasks row len t) (n : ℕ) (
 
 -- no room: nothing changes
 pub moved-nowhere : {row len : ℕ} {t : List ℕ} (r : Lent byMasks row len t) (n : ℕ) {b : Block} {p : Place} (h : Holds byMasks row t b p) (a : List ℕ)
-    → reserve row (view row t) n ≡ none → CarriedOut row a (resizeMove row (poolOf p) p n) (Reply.Refused refusals.NoRoom) a t
+    (s : Totals) → s ≡ totals row (view row t)
+    → reserve row (view row t) n ≡ none → CarriedOut row a (resizeMove row (poolOf p) p n) (Reply.Refused refusals.NoRoom) a t s
 unfolding resizeMove
-moved-nowhere {row} {len} {t} r n {b} {p} h a e =
-    rw (ap (moveTo row (poolOf p) p n) (ap (λ P. reserve row P n) (sym (held-pool r h)) ∙ e)) (record { answer = refl; arena = refl; room = h .bytes })
+moved-nowhere {row} {len} {t} r n {b} {p} h a s f e =
+    rw (ap (moveTo row (poolOf p) p n) (ap (λ P. reserve row P n) (sym (held-pool r h)) ∙ e))
+    (record { answer = refl; arena = refl; room = h .bytes; counts = f ∙ ap (totals row) (held-pool r h) })

@@ -14,6 +14,7 @@ use Rattle.rows.specs.Rows.{blockOf, ownedAt, Holds}
 use Rattle.changes.specs.declared.Left.the-variants.{Kept, Dropped}
 use Rattle.changes.specs.Changes.{leftAs, resized}
 use Rattle.ops.specs.Blocks.{staysIn}
+use Rattle.ops.proofs.Counts.{kept-live, dropped-none}
 
 -- what stays in its slot fits
 pub stays-fits : (b : Block) (n : ℕ) → staysIn b n ≡ true → 16 * b .alloc .disp + 4 ≤ slotBytes (b .class)
@@ -23,27 +24,16 @@ stays-fits b n e h =
     let k : ℕ = slotBytes (b .class) - 4 - 16 * b .alloc .disp in
     omega (arith, leb→le n k (and-left (leb n k) (leb (b .class) (suc (classOf n))) t))
 
--- what is left of the group says whether another slot is live
-kept-live : (v : Bool) → Kept ≡ choose v Kept Dropped → v ≡ true
-unfolding choose
-kept-live true e = refl
-kept-live false e = let z : _≡_ {A = ℕ} 0 1 = cc in absurd (omega arith)
-
-dropped-none : (v : Bool) → Dropped ≡ choose v Kept Dropped → v ≡ false
-unfolding choose
-dropped-none true e = let z : _≡_ {A = ℕ} 0 1 = cc in absurd (omega arith)
-dropped-none false e = refl
-
 module _ {row : ℕ} {t : List ℕ} {b : Block} {p : Place} (h : Holds byMasks row t b p) (a : List ℕ) where
   -- a release: the slot's bytes, or all rows of the group
   pub kept-writes : Kept ≡ leftAs p → put (ownedAt row b) (zeros (slotBytes (b .class))) a ≡ written a (releaseAt row p .changes)
   unfolding releaseAt choose
-  kept-writes e = rw (kept-live (any isLive (p .lower ++ p .upper)) e) (ap (λ c. put (ownedAt row c) (zeros (slotBytes (c .class))) a) (h .block))
+  kept-writes e = rw (kept-live p e) (ap (λ c. put (ownedAt row c) (zeros (slotBytes (c .class))) a) (h .block))
 
-  pub dropped-writes : Dropped ≡ leftAs p → put (row * b .first) (zeros (row * rowsOf row (b .class))) a ≡ written a (releaseAt row p .changes)
+  pub dropped-writes : (r w : ℕ) → Dropped r w ≡ leftAs p → put (row * b .first) (zeros (row * rowsOf row (b .class))) a ≡ written a (releaseAt row p .changes)
   unfolding releaseAt choose
-  dropped-writes e =
-      rw (dropped-none (any isLive (p .lower ++ p .upper)) e) (ap (λ c. put (row * c .first) (zeros (row * rowsOf row (c .class))) a) (h .block))
+  dropped-writes r w e =
+      rw (dropped-none p r w e .0) (ap (λ c. put (row * c .first) (zeros (row * rowsOf row (c .class))) a) (h .block))
 
   -- a resize in place, at being the slot's first owned byte
   pub in-place-writes : (n at kept : ℕ) (u : List ℕ) → at ≡ ownedAt row b → kept ≡ min (b .alloc .size) n

@@ -1,21 +1,30 @@
 -- A slot reserved in the tables, step by step as the code goes: a group that can serve, or a new one at a run of free rows.
-use Rattle.mem.proofs.Prelude.{_∙_, _≡_, sym, ap, refl, ap₂, some, none, Option, List, [], _+_, ℕ, _<_, _≤_, arith, length, replicate}
+use Rattle.mem.proofs.Prelude.{_∙_, _≡_, sym, ap, refl, ap₂, subst, not, some, none, Option, List, [], _∷_, _++_, _+_, ℕ, _<_, _≤_, arith, T, length}
+use Rattle.mem.proofs.Prelude.{replicate}
+use Rattle.mem.specs.Lists.{any}
 use Rattle.mem.specs.Bytes.{put}
-use Rattle.classes.specs.Classes.{classOf, slotsOf, rowsOf}
+use Rattle.classes.specs.Classes.{classOf, slotsOf, rowsOf, tooLarge}
 use Rattle.classes.proofs.Laws.{slots-small}
 use Rattle.model.specs.declared.Slot.the-variants.{Fresh}
-use Rattle.model.specs.State.{group, poolOf, rows}
-use Rattle.model.specs.Plans.{Site, openFrom, runFrom, siteOr, site, reserveIn, reserve, grantIn}
+use Rattle.model.specs.declared.Totals.{Totals}
+use Rattle.model.specs.State.{group, isLive, poolOf, rows}
+use Rattle.model.specs.Plans.{Site, openFrom, runFrom, siteOr, site, reserveIn, reserve, grantIn, totals}
 use Rattle.model.specs.Tables.{rowAt, byMasks, encode, view, spanRecords}
 use Rattle.model.proofs.Tables.{masks-laws}
-use Rattle.model.proofs.Reserve.{Open, open-found, New, run-found, Ground, ground}
+use Rattle.model.proofs.Reserve.{Open, open-found, New, run-found, Ground, ground, reserve-formed}
+use Rattle.model.proofs.Counts.{totals-few}
 use Rattle.rows.specs.declared.Found.the-variants.{At, Nothing}
 use Rattle.rows.specs.declared.Block.{Block}
 use Rattle.rows.specs.Rows.{Lent, siteFound, blockOf, Offers}
 use Rattle.rows.proofs.Rooms.{facts, few-rows, room-length}
 use Rattle.rows.proofs.Spans.{made-encode}
+use Rattle.totals.specs.Changes.{refills, Small, Makes, Takes}
+use Rattle.totals.proofs.Laws.{totals-small, made-small, made-totals, taken-totals}
+use Rattle.ops.specs.declared.Opened.{Opened}
+use Rattle.ops.specs.declared.Opened.the-variants.{In, Nowhere}
+use Rattle.ops.specs.declared.Reserved.{Reserved}
 use Rattle.ops.specs.declared.Reserved.the-variants.{Taken, NoRoom}
-use Rattle.ops.specs.Blocks.{siteRoom, reservedAs, roomAfter}
+use Rattle.ops.specs.Blocks.{opened, siteRoom, reservedAs, roomAfter}
 
 -- a site that is found is one
 site-at : (row : ℕ) (o : Option Site) (i : ℕ) → siteFound row o ≡ At i → (s : Site) × (o ≡ some s) × (rows row (s .before) ≡ i)
@@ -26,16 +35,31 @@ site-nowhere : (row : ℕ) (o : Option Site) → siteFound row o ≡ Nothing →
 site-nowhere row none e = refl
 site-nowhere row (some s) e = let z : _≡_ {A = ℕ} 0 1 = cc in absurd (omega arith)
 
-module _ {row len : ℕ} {t : List ℕ} (r : Lent byMasks row len t) (c : ℕ) where
+opened-at : (row c : ℕ) (o : Option Site) (i : ℕ) (s : Totals) → opened row c o ≡ In i s
+    → (g : Site) × (o ≡ some g) × (rows row (g .before) ≡ i) × (s ≡ totals row (g .before ++ (group c (g .slots) ∷ g .after)))
+opened-at row c none i s e = let z : _≡_ {A = ℕ} 0 1 = cc in absurd (omega arith)
+opened-at row c (some g) i s e =
+    let q : rows row (g .before) ≡ i = cc in
+    let h : s ≡ totals row (g .before ++ (group c (g .slots) ∷ g .after)) = cc in
+    (g, refl, q, h)
+
+opened-nowhere : (row c : ℕ) (o : Option Site) → opened row c o ≡ Nowhere → o ≡ none
+opened-nowhere row c none e = refl
+opened-nowhere row c (some g) e = let z : _≡_ {A = ℕ} 0 1 = cc in absurd (omega arith)
+
+module _ {row len : ℕ} {t : List ℕ} (r : Lent byMasks row len t) (c : ℕ) (s₀ : Totals) (e₀ : s₀ ≡ totals row (view row t)) where
   -- a group that can serve
   pub site-open : (i : ℕ) → At i ≡ siteFound row (openFrom [] c (view row t))
-      → (At i ≡ siteFound row (site row (view row t) c)) × (t ≡ siteRoom row c t (site row (view row t) c))
+      → (In i s₀ ≡ opened row c (site row (view row t) c)) × (t ≡ siteRoom row c t (site row (view row t) c))
   unfolding site
   site-open i e =
       let (g, f, k) = site-at row (openFrom [] c (view row t)) i (sym e) in
       let o : Open (view row t) c g = open-found [] (view row t) c g f in
       let s : site row (view row t) c ≡ some g = ap (λ o. siteOr o (runFrom row [] c (view row t))) f in
-      (e ∙ ap (siteFound row) (f ∙ sym s), facts r .form ∙ ap (encode row) (o .split) ∙ ap (siteRoom row c t) (sym s))
+      (
+        ap₂ {C = Opened} In (sym k) (e₀ ∙ ap (totals row) (o .split)) ∙ ap (opened row c) (sym s),
+        facts r .form ∙ ap (encode row) (o .split) ∙ ap (siteRoom row c t) (sym s),
+      )
 
   module _ (shut : Nothing ≡ siteFound row (openFrom [] c (view row t))) where
     site-run : site row (view row t) c ≡ runFrom row [] c (view row t)
@@ -44,10 +68,10 @@ module _ {row len : ℕ} {t : List ℕ} (r : Lent byMasks row len t) (c : ℕ) w
 
     -- no group, and no run of free rows
     pub site-none : Nothing ≡ siteFound row (runFrom row [] c (view row t))
-        → (Nothing ≡ siteFound row (site row (view row t) c)) × (t ≡ siteRoom row c t (site row (view row t) c))
+        → (Nowhere ≡ opened row c (site row (view row t) c)) × (t ≡ siteRoom row c t (site row (view row t) c))
     site-none e =
         let s : site row (view row t) c ≡ none = site-run ∙ site-nowhere row (runFrom row [] c (view row t)) (sym e) in
-        (ap (siteFound row) (sym s), ap (siteRoom row c t) (sym s))
+        (ap (opened row c) (sym s), ap (siteRoom row c t) (sym s))
 
     -- a run of free rows, which are in the room, and the room with a new group there
     module _ (i : ℕ) (e : At i ≡ siteFound row (runFrom row [] c (view row t))) where
@@ -57,43 +81,58 @@ module _ {row len : ℕ} {t : List ℕ} (r : Lent byMasks row len t) (c : ℕ) w
           let w : Ground row (view row t) c g = ground row (view row t) c g (facts r .formed) (site-run ∙ f) in
           (omega (arith, k, w .long, few-rows r), omega (arith, k, w .long, room-length r))
 
+      -- what the new group does to the totals
+      pub site-counts : (s : Totals) × Makes (rowsOf row c) (slotsOf c) s₀ s × Small s × (In i s ≡ opened row c (site row (view row t) c))
+      site-counts =
+          let (g, f, k) = site-at row (runFrom row [] c (view row t)) i (sym e) in
+          let m : New row (view row t) c g = run-found row [] (view row t) c g f in
+          let P = g .before ++ (group c (g .slots) ∷ g .after) in
+          let d : Makes (rowsOf row c) (slotsOf c) (totals row (view row t)) (totals row P) =
+          rw (ap (totals row) (m .split), m .slots) (made-totals row (g .before) c (g .after)) in
+          (
+            totals row P,
+            subst (λ z. Makes (rowsOf row c) (slotsOf c) z (totals row P)) (sym e₀) d,
+            made-small (rowsOf row c) (slotsOf c) (totals row (view row t)) (totals row P) d
+                (totals-few row (r .pos) (view row t) (facts r .formed) (few-rows r)) (omega (arith, run-inside .0)) (slots-small c),
+            ap (λ j. In j (totals row P)) (sym k) ∙ ap (opened row c) (sym (site-run ∙ f)),
+          )
+
       pub site-made : (u : List ℕ) → u ≡ put (rowAt i) (spanRecords row (group c (replicate (slotsOf c) Fresh))) t
-          → (At i ≡ siteFound row (site row (view row t) c)) × (u ≡ siteRoom row c t (site row (view row t) c))
+          → u ≡ siteRoom row c t (site row (view row t) c)
       site-made u eu =
           let (g, f, k) = site-at row (runFrom row [] c (view row t)) i (sym e) in
           let m : New row (view row t) c g = run-found row [] (view row t) c g f in
           let s : site row (view row t) c ≡ some g = site-run ∙ f in
-          let w : Ground row (view row t) c g = ground row (view row t) c g (facts r .formed) s in (
-            e ∙ ap (siteFound row) (f ∙ sym s),
-            eu ∙ ap₂ (λ j l. put (rowAt j) (spanRecords row (group c l)) t) (sym k) (sym (m .slots))
-                ∙ ap (put (rowAt (rows row (g .before))) (spanRecords row (group c (g .slots)))) (facts r .form ∙ ap (encode row) (m .split))
-                ∙ made-encode masks-laws row (r .pos) (g .before) c (g .slots) (g .after) (w .before) (omega (arith, w .slots, slots-small c))
-                ∙ ap (siteRoom row c t) (sym s),
-          )
+          let w : Ground row (view row t) c g = ground row (view row t) c g (facts r .formed) s in
+          eu ∙ ap₂ (λ j l. put (rowAt j) (spanRecords row (group c l)) t) (sym k) (sym (m .slots))
+          ∙ ap (put (rowAt (rows row (g .before))) (spanRecords row (group c (g .slots)))) (facts r .form ∙ ap (encode row) (m .split))
+          ∙ made-encode masks-laws row (r .pos) (g .before) c (g .slots) (g .after) (w .before) (omega (arith, w .slots, slots-small c))
+          ∙ ap (siteRoom row c t) (sym s)
 
-  -- at a site a slot can be taken
-  pub site-offers : (i : ℕ) (u : List ℕ) → c < 48 → length u ≡ length t → At i ≡ siteFound row (site row (view row t) c) → u
-      ≡ siteRoom row c t (site row (view row t) c)
-      → (g : Site) × (site row (view row t) c ≡ some g) × Offers byMasks row u i c g
-  site-offers i u h l e eu =
-      let (g, s, k) = site-at row (site row (view row t) c) i (sym e) in
-      let w : Ground row (view row t) c g = ground row (view row t) c g (facts r .formed) s in (
-        g,
-        s,
-        record {
-          laws = masks-laws;
-          pos = r .pos;
-          bytes = eu ∙ ap (siteRoom row c t) s;
-          first = sym k;
-          few = omega (arith, k, w .long, few-rows r);
-          room = omega (arith, k, w .long, room-length r);
-          class = h;
-          before = w .before;
-          slots = w .slots;
-          sound = w .sound;
-          spare = w .room;
-        },
-      )
+-- at a site a slot can be taken
+pub site-offers : {row len : ℕ} {t : List ℕ} (r : Lent byMasks row len t) (c i : ℕ) (s : Totals) (u : List ℕ) → c < 48 → length u ≡ length t
+    → In i s ≡ opened row c (site row (view row t) c) → u ≡ siteRoom row c t (site row (view row t) c)
+    → (g : Site) × (site row (view row t) c ≡ some g) × Offers byMasks row u i c g × (s ≡ totals row (g .before ++ (group c (g .slots) ∷ g .after)))
+site-offers {row} {len} {t} r c i s u h l e eu =
+    let (g, f, k, q) = opened-at row c (site row (view row t) c) i s (sym e) in
+    let w : Ground row (view row t) c g = ground row (view row t) c g (facts r .formed) f in (
+      g,
+      f,
+      record {
+        laws = masks-laws;
+        pos = r .pos;
+        bytes = eu ∙ ap (siteRoom row c t) f;
+        first = sym k;
+        few = omega (arith, k, w .long, few-rows r);
+        room = omega (arith, k, w .long, room-length r);
+        class = h;
+        before = w .before;
+        slots = w .slots;
+        sound = w .sound;
+        spare = w .room;
+      },
+      q,
+    )
 
 -- ---- what is reserved, by the site of the size's class
 
@@ -102,16 +141,26 @@ module _ (row : ℕ) (t : List ℕ) (n c : ℕ) (class : c ≡ classOf n) where
   unfolding reserve
   reserve-site = ap (λ c. reserveIn c n (site row (view row t) c)) (sym class)
 
-  pub reserved-nothing : (u : List ℕ) → Nothing ≡ siteFound row (site row (view row t) c) → u ≡ siteRoom row c t (site row (view row t) c)
+  pub reserved-nothing : (u : List ℕ) → Nowhere ≡ opened row c (site row (view row t) c) → u ≡ siteRoom row c t (site row (view row t) c)
       → (NoRoom ≡ reservedAs row (reserve row (view row t) n)) × (u ≡ roomAfter row t (reserve row (view row t) n))
   reserved-nothing u e eu =
-      let s : site row (view row t) c ≡ none = site-nowhere row (site row (view row t) c) (sym e) in
+      let s : site row (view row t) c ≡ none = opened-nowhere row c (site row (view row t) c) (sym e) in
       let q : reserve row (view row t) n ≡ none = reserve-site ∙ ap (reserveIn c n) s in
       (ap (reservedAs row) (sym q), eu ∙ ap (siteRoom row c t) s ∙ ap (roomAfter row t) (sym q))
 
-  pub reserved-slot : (g : Site) → site row (view row t) c ≡ some g → (b : Block) (u : List ℕ) → (b ≡ blockOf row (grantIn c n g))
-      × (u ≡ encode row (poolOf (grantIn c n g)))
-      → (Taken b ≡ reservedAs row (reserve row (view row t) n)) × (u ≡ roomAfter row t (reserve row (view row t) n))
-  reserved-slot g s b u (eb, eu) =
-      let q : reserve row (view row t) n ≡ some (grantIn c n g) = reserve-site ∙ ap (reserveIn c n) s in
-      (ap Taken eb ∙ ap (reservedAs row) (sym q), eu ∙ ap (roomAfter row t) (sym q))
+  module _ (g : Site) (s : site row (view row t) c ≡ some g) where
+    served : reserve row (view row t) n ≡ some (grantIn c n g)
+    served = reserve-site ∙ ap (reserveIn c n) s
+
+    -- what the taken slot does to the totals
+    pub reserved-counts : {len : ℕ} → Lent byMasks row len t → n < tooLarge → T (any (λ x. not (isLive x)) (g .slots))
+        → Takes n (refills (g .slots)) (totals row (g .before ++ (group c (g .slots) ∷ g .after))) (totals row (poolOf (grantIn c n g)))
+        × Small (totals row (poolOf (grantIn c n g)))
+    reserved-counts r h spare =
+        let w = reserve-formed row (view row t) n (grantIn c n g) (facts r .formed) h served in
+        (taken-totals row c n g spare, totals-small row (r .pos) (poolOf (grantIn c n g)) (w .formed) (omega (arith, w .long, few-rows r)))
+
+    pub reserved-slot : (b : Block) (u : List ℕ) (z : Totals) → b ≡ blockOf row (grantIn c n g) → u ≡ encode row (poolOf (grantIn c n g))
+        → z ≡ totals row (poolOf (grantIn c n g))
+        → (Taken b z ≡ reservedAs row (reserve row (view row t) n)) × (u ≡ roomAfter row t (reserve row (view row t) n))
+    reserved-slot b u z eb eu ez = (ap₂ {C = Reserved} Taken eb ez ∙ ap (reservedAs row) (sym served), eu ∙ ap (roomAfter row t) (sym served))

@@ -11,16 +11,19 @@ use Rattle.model.specs.declared.Refusal.the-variants.{NoSuchBlock, AlreadyFree}
 use Rattle.model.specs.declared.Damage.{Damage}
 use Rattle.model.specs.declared.Damage.the-variants.{Intact, Damaged}
 use Rattle.model.specs.declared.Reply.{Reply}
-use Rattle.model.specs.State.{Place, group, isLive, poolOf}
+use Rattle.model.specs.declared.Totals.{Totals}
+use Rattle.model.specs.State.{Place, group, isLive, poolOf, rows}
 use Rattle.model.specs.Blocks.{damage}
 use Rattle.model.specs.Answers.{replyAnswer}
-use Rattle.model.specs.Plans.{Plan, Site}
+use Rattle.model.specs.Plans.{Plan, Site, totals}
 use Rattle.model.specs.Tables.{encode}
 use Rattle.model.specs.Calls.{written}
 use Rattle.rows.specs.declared.Block.{Block}
 use Rattle.rows.specs.Rows.{blockOf}
 use Rattle.ops.specs.declared.Located.{Located}
 use Rattle.ops.specs.declared.Located.the-variants.{At, Refused}
+use Rattle.ops.specs.declared.Opened.{Opened}
+use Rattle.ops.specs.declared.Opened.the-variants.{In, Nowhere}
 use Rattle.ops.specs.declared.Reserved.{Reserved}
 use Rattle.ops.specs.declared.Reserved.the-variants.{Taken, NoRoom}
 
@@ -47,22 +50,27 @@ module _ (row : ℕ) where
   located a none = Refused NoSuchBlock
   located a (some p) = let r = byDamage (blockOf row p) (damage row a p) in choose (isLive (p .state)) r (Refused AlreadyFree)
 
-  -- the room with the group in which a slot is taken
+  -- the group in which a slot is taken, with the totals of the pool that has it, and the room
+  abbrev pub opened : ℕ → Option Site → Opened
+  opened c none = Nowhere
+  opened c (some g) = In (rows row (g .before)) (totals row (g .before ++ (group c (g .slots) ∷ g .after)))
+
   abbrev pub siteRoom : ℕ → List ℕ → Option Site → List ℕ
   siteRoom c t none = t
   siteRoom c t (some g) = encode row (g .before ++ (group c (g .slots) ∷ g .after))
 
-  -- what a grant reserves, and the room after it
+  -- what a grant reserves, with the totals after it, and the room
   abbrev pub reservedAs : Option Place → Reserved
   reservedAs none = NoRoom
-  reservedAs (some q) = Taken (blockOf row q)
+  reservedAs (some q) = Taken (blockOf row q) (totals row (poolOf q))
 
   abbrev pub roomAfter : List ℕ → Option Place → List ℕ
   roomAfter t none = t
   roomAfter t (some q) = encode row (poolOf q)
 
-  -- an answer, an arena and a room are those of a plan carried out on an arena
-  pub record CarriedOut (a : List ℕ) (p : Plan) (r : Reply) (x t : List ℕ) : Type 0 where
+  -- an answer, an arena, a room and totals are those of a plan carried out on an arena
+  pub record CarriedOut (a : List ℕ) (p : Plan) (r : Reply) (x t : List ℕ) (s : Totals) : Type 0 where
     pub answer : replyAnswer r ≡ p .answer
     pub arena : x ≡ written a (p .changes)
     pub room : t ≡ encode row (p .pool)
+    pub counts : s ≡ totals row (p .pool)

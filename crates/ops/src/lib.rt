@@ -7,16 +7,18 @@ ghost use Rattle.mem.specs.Bytes.{put, part};
 ghost use Rattle.classes.specs.Classes.{Lawful, slotBytes, classOf, tooLarge};
 ghost use Rattle.model.specs.State.{Place, poolOf};
 ghost use Rattle.model.specs.Blocks.{damageIn, frame};
-ghost use Rattle.model.specs.Plans.{site, reserve, lookup, releaseAt, resizeInPlace, resizeMove, resizeAt};
+ghost use Rattle.model.specs.Plans.{site, reserve, lookup, releaseAt, resizeInPlace, resizeMove, resizeAt, totals};
 ghost use Rattle.model.specs.Tables.{byMasks, sound, view, encode};
 ghost use Rattle.model.specs.Calls.{written};
-ghost use Rattle.rows.specs.Rows.{ownedAt, startAt, siteFound, Holds};
+ghost use Rattle.rows.specs.Rows.{ownedAt, startAt, Holds};
 ghost use Rattle.search.specs.Found.{Passed};
-ghost use Rattle.ops.specs.Blocks.{Standing, located, siteRoom, reservedAs, roomAfter, staysIn, CarriedOut};
+ghost use Rattle.ops.specs.Blocks.{Standing, located, opened, siteRoom, reservedAs, roomAfter, staysIn, CarriedOut};
 use changes::Left;
+use model::Answered;
 use model::Damage;
 use model::Refusal;
 use model::Reply;
+use model::Totals;
 use rows::Block;
 use rows::Found;
 use search::Looked;
@@ -27,9 +29,15 @@ pub enum Located {
     Refused(Refusal),
 }
 
-// The slot that a grant takes.
+// The group in which a slot is taken: its first row, and the totals of the tables with it.
+pub enum Opened {
+    In(usize, Totals),
+    Nowhere,
+}
+
+// The slot that a grant takes, and the totals with it.
 pub enum Reserved {
-    Taken(Block),
+    Taken(Block, Totals),
     NoRoom,
 }
 
@@ -102,21 +110,28 @@ pub fn lay_out(row: usize, arena: &mut [u8], b: Block) -> usize
 
 // The group in which a slot of class c is taken: the lowest with a slot that is not live, or a new one at the lowest run of free rows. No
 // group before row `from` serves.
-fn site_for(row: usize, len: usize, room: &mut [u8], c: usize, from: usize) -> Found
+fn site_for(
+    row: usize,
+    len: usize,
+    room: &mut [u8],
+    t: Totals,
+    c: usize,
+    from: usize,
+) -> Opened
     requires { ⌜ sound row len (now room) ≡ true ⌝ }
-    requires { ⌜ (c < 48) × Passed row (now room) c from ⌝ }
+    requires { ⌜ (c < 48) × Passed row (now room) c from × (t ≡ totals row (view row (now room))) ⌝ }
     requires { ⌜ Lawful row ⌝ }
-    ensures { λ r. ⌜ r ≡ siteFound row (site row (view row (now (room .entry))) c) ⌝ }
+    ensures { λ r. ⌜ r ≡ opened row c (site row (view row (now (room .entry))) c) ⌝ }
     ensures { λ r. ⌜ now (room .exit) ≡ siteRoom row c (now (room .entry)) (site row (view row (now (room .entry))) c) ⌝ }
 {
     if let Found::At(i) = search::find_open(row, len, room, c, from) {
-        return Found::At(i);
+        return Opened::In(i, t);
     }
     let Found::At(i) = rows::find_run(row, len, room, c) else {
-        return Found::Nothing;
+        return Opened::Nowhere;
     };
     records::make_group(row, room, i, c);
-    Found::At(i)
+    Opened::In(i, totals::made(t, classes::rows(row, c), classes::slots(c)))
 }
 
 // Reserves a slot for n bytes, whose class is c. No group of the class before row `from` serves.
@@ -124,31 +139,34 @@ pub fn reserve_in(
     row: usize,
     len: usize,
     room: &mut [u8],
+    t: Totals,
     c: usize,
     n: usize,
     from: usize,
 ) -> Reserved
     requires { ⌜ sound row len (now room) ≡ true ⌝ }
-    requires { ⌜ (n < tooLarge) × (c ≡ classOf n) × (c < 48) × Passed row (now room) c from ⌝ }
+    requires { ⌜ (n < tooLarge) × (c ≡ classOf n) × (c < 48) × Passed row (now room) c from × (t ≡ totals row (view row (now room))) ⌝ }
     requires { ⌜ Lawful row ⌝ }
     ensures { λ r. ⌜ r ≡ reservedAs row (reserve row (view row (now (room .entry))) n) ⌝ }
     ensures { λ r. ⌜ now (room .exit) ≡ roomAfter row (now (room .entry)) (reserve row (view row (now (room .entry))) n) ⌝ }
 {
-    let Found::At(i) = site_for(row, len, room, c, from) else {
+    let Opened::In(i, s) = site_for(row, len, room, t, c, from) else {
         return Reserved::NoRoom;
     };
-    Reserved::Taken(changes::take_slot(room, i, c, n))
+    let taken = changes::take_slot(room, i, c, n);
+    let block = taken.block;
+    Reserved::Taken(block, totals::taken(s, n, taken.refilled))
 }
 
 // Reserves a slot for n bytes.
-pub fn reserve_slot(row: usize, len: usize, room: &mut [u8], n: usize) -> Reserved
+pub fn reserve_slot(row: usize, len: usize, room: &mut [u8], t: Totals, n: usize) -> Reserved
     requires { ⌜ sound row len (now room) ≡ true ⌝ }
-    requires { ⌜ n < tooLarge ⌝ }
+    requires { ⌜ (n < tooLarge) × (t ≡ totals row (view row (now room))) ⌝ }
     requires { ⌜ Lawful row ⌝ }
     ensures { λ r. ⌜ r ≡ reservedAs row (reserve row (view row (now (room .entry))) n) ⌝ }
     ensures { λ r. ⌜ now (room .exit) ≡ roomAfter row (now (room .entry)) (reserve row (view row (now (room .entry))) n) ⌝ }
 {
-    reserve_in(row, len, room, classes::class_of(n), n, 0)
+    reserve_in(row, len, room, t, classes::class_of(n), n, 0)
 }
 
 // The block at an offset, if it is live and undamaged.
@@ -168,12 +186,13 @@ pub fn locate(row: usize, arena: &[u8], room: &[u8], offset: usize) -> Located
 }
 
 // Gives a live block back: its slot waits and its bytes become zero, or the group goes with its last live slot.
-pub fn discard(row: usize, arena: &mut [u8], room: &mut [u8], b: Block)
-    requires { ⌜ sound row (length (now arena)) (now room) ≡ true ⌝ }
+pub fn discard(row: usize, arena: &mut [u8], room: &mut [u8], t: Totals, b: Block) -> Totals
+    requires { ⌜ (sound row (length (now arena)) (now room) ≡ true) × (t ≡ totals row (view row (now room))) ⌝ }
     requires { ⌜ ((p : Place) × Holds byMasks row (now room) b p) ⌝ }
     requires { ⌜ Lawful row ⌝ }
-    ensures { λ _. ⌜ ((p : Place) → Holds byMasks row (now (room .entry)) b p
-        → (now (arena .exit) ≡ written (now (arena .entry)) (releaseAt row p .changes)) × (now (room .exit) ≡ encode row (releaseAt row p .pool))) ⌝ }
+    ensures { λ r. ⌜ ((p : Place) → Holds byMasks row (now (room .entry)) b p
+        → (now (arena .exit) ≡ written (now (arena .entry)) (releaseAt row p .changes)) × (now (room .exit) ≡ encode row (releaseAt row p .pool))
+        × (r ≡ totals row (releaseAt row p .pool))) ⌝ }
 {
     let first = b.first;
     let c = b.class;
@@ -181,10 +200,13 @@ pub fn discard(row: usize, arena: &mut [u8], room: &mut [u8], b: Block)
         Left::Kept => {
             let at = owned_of(row, b);
             mem::clear(arena, at, at + 16 * classes::units(c));
+            totals::given(t, b.alloc.size)
         }
-        Left::Dropped => {
+        Left::Dropped { ready, waiting } => {
             let at = row * first;
-            mem::clear(arena, at, at + row * classes::rows(row, c));
+            let k = classes::rows(row, c);
+            mem::clear(arena, at, at + row * k);
+            totals::dropped(t, b.alloc.size, k, ready, waiting)
         }
     }
 }
@@ -196,14 +218,21 @@ fn lesser(a: usize, b: usize) -> usize
 }
 
 // Changes a block's size where it is: the first bytes stay, and header and guard are written anew.
-fn resize_in_place(row: usize, arena: &mut [u8], room: &mut [u8], b: Block, n: usize)
-    requires { ⌜ sound row (length (now arena)) (now room) ≡ true ⌝ }
+fn resize_in_place(
+    row: usize,
+    arena: &mut [u8],
+    room: &mut [u8],
+    t: Totals,
+    b: Block,
+    n: usize,
+) -> Totals
+    requires { ⌜ (sound row (length (now arena)) (now room) ≡ true) × (t ≡ totals row (view row (now room))) ⌝ }
     requires { ⌜ ((p : Place) × Holds byMasks row (now room) b p) ⌝ }
     requires { ⌜ (staysIn b n ≡ true) × (n < tooLarge) ⌝ }
     requires { ⌜ Lawful row ⌝ }
-    ensures { λ _. ⌜ ((p : Place) → Holds byMasks row (now (room .entry)) b p
+    ensures { λ r. ⌜ ((p : Place) → Holds byMasks row (now (room .entry)) b p
         → (now (arena .exit) ≡ written (now (arena .entry)) (resizeInPlace row p n .changes))
-        × (now (room .exit) ≡ encode row (resizeInPlace row p n .pool))) ⌝ }
+        × (now (room .exit) ≡ encode row (resizeInPlace row p n .pool)) × (r ≡ totals row (resizeInPlace row p n .pool))) ⌝ }
 {
     let kept = lesser(b.alloc.size, n);
     blocks::reframe_at(
@@ -216,24 +245,38 @@ fn resize_in_place(row: usize, arena: &mut [u8], room: &mut [u8], b: Block, n: u
         n,
     );
     changes::resize_slot(room, b, n);
+    totals::sized(t, b.alloc.size, n)
 }
 
 // Moves a block: a grant while the old one is live, a copy of the first bytes, then the old one is given back.
-fn resize_by_move(row: usize, arena: &mut [u8], room: &mut [u8], b: Block, n: usize) -> Reply
-    requires { ⌜ sound row (length (now arena)) (now room) ≡ true ⌝ }
+fn resize_by_move(
+    row: usize,
+    arena: &mut [u8],
+    room: &mut [u8],
+    t: Totals,
+    b: Block,
+    n: usize,
+) -> Answered
+    requires { ⌜ (sound row (length (now arena)) (now room) ≡ true) × (t ≡ totals row (view row (now room))) ⌝ }
     requires { ⌜ ((p : Place) × Holds byMasks row (now room) b p) ⌝ }
     requires { ⌜ n < tooLarge ⌝ }
     requires { ⌜ Lawful row ⌝ }
     ensures { λ r. ⌜ ((p : Place) → Holds byMasks row (now (room .entry)) b p
-        → CarriedOut row (now (arena .entry)) (resizeMove row (poolOf p) p n) r (now (arena .exit)) (now (room .exit))) ⌝ }
+        → CarriedOut row (now (arena .entry)) (resizeMove row (poolOf p) p n) (r .reply) (now (arena .exit)) (now (room .exit)) (r .totals)) ⌝ }
 {
-    let Reserved::Taken(q) = reserve_slot(row, arena.len(), room, n) else {
-        return Reply::Refused(Refusal::NoRoom);
+    let Reserved::Taken(q, s) = reserve_slot(row, arena.len(), room, t, n) else {
+        return Answered {
+            reply: Reply::Refused(Refusal::NoRoom),
+            totals: t,
+        };
     };
     let start = lay_out(row, arena, q);
     mem::copy_within(arena, start_of(row, b), start, lesser(b.alloc.size, n));
-    discard(row, arena, room, b);
-    Reply::Done(start)
+    let left = discard(row, arena, room, s, b);
+    Answered {
+        reply: Reply::Done(start),
+        totals: left,
+    }
 }
 
 // Whether a block of n bytes can stay in its slot: it fits, and its class is at most one above that of n.
@@ -249,17 +292,27 @@ fn stays_in(b: Block, n: usize) -> bool
 }
 
 // Changes the size of a live block, in place or by a move.
-pub fn change_size(row: usize, arena: &mut [u8], room: &mut [u8], b: Block, n: usize) -> Reply
-    requires { ⌜ sound row (length (now arena)) (now room) ≡ true ⌝ }
+pub fn change_size(
+    row: usize,
+    arena: &mut [u8],
+    room: &mut [u8],
+    t: Totals,
+    b: Block,
+    n: usize,
+) -> Answered
+    requires { ⌜ (sound row (length (now arena)) (now room) ≡ true) × (t ≡ totals row (view row (now room))) ⌝ }
     requires { ⌜ ((p : Place) × Holds byMasks row (now room) b p) ⌝ }
     requires { ⌜ n < tooLarge ⌝ }
     requires { ⌜ Lawful row ⌝ }
     ensures { λ r. ⌜ ((p : Place) → Holds byMasks row (now (room .entry)) b p
-        → CarriedOut row (now (arena .entry)) (resizeAt row (poolOf p) n p) r (now (arena .exit)) (now (room .exit))) ⌝ }
+        → CarriedOut row (now (arena .entry)) (resizeAt row (poolOf p) n p) (r .reply) (now (arena .exit)) (now (room .exit)) (r .totals)) ⌝ }
 {
     if stays_in(b, n) {
-        resize_in_place(row, arena, room, b, n);
-        return Reply::Done(start_of(row, b));
+        let sized = resize_in_place(row, arena, room, t, b, n);
+        return Answered {
+            reply: Reply::Done(start_of(row, b)),
+            totals: sized,
+        };
     }
-    resize_by_move(row, arena, room, b, n)
+    resize_by_move(row, arena, room, t, b, n)
 }

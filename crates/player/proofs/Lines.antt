@@ -8,8 +8,9 @@ use Rattle.model.specs.declared.Totals.{Totals}
 use Rattle.model.specs.Answers.{Answer, done, reportRefusal, listed}
 use Rattle.model.specs.Plans.{reports, plan, report, totals}
 use Rattle.model.specs.Tables.{byMasks, arenaRight, sound, view}
-use Rattle.model.specs.Calls.{Result, call}
+use Rattle.model.specs.Calls.{KeptBytes, Result, soundKept, call}
 use Rattle.model.proofs.Tables.{sound-facts}
+use Rattle.model.proofs.Kept.{kept-sound}
 use Rattle.model.proofs.Counts.{Few, totals-few}
 use Rattle.model.proofs.Calls.{call-unsound, call-sound, carried-whole}
 use Rattle.text.specs.Decimal.{decimalIn, decimal}
@@ -41,20 +42,20 @@ unsound-short : short (reportRefusal Unsound)
 unfolding lineText field decimal decimalIn choose
 unsound-short = lit≤ tt
 
-module _ (a t : List ℕ) where
-  sound-short : sound rowBytes (length a) t ≡ true → short (call rowBytes a t reports .answer)
+module _ (a : List ℕ) (t : KeptBytes) where
+  sound-short : soundKept rowBytes (length a) t ≡ true → short (call rowBytes a t reports .answer)
   unfolding plan report rowBytes arenaRight
   sound-short e =
-      let P = view rowBytes t in
-      let q = sound-facts byMasks rowBytes (length a) t (true-T (sound rowBytes (length a) t) e) in
+      let P = view rowBytes (t .tables) in
+      let q = sound-facts byMasks rowBytes (length a) (t .tables) (true-T (sound rowBytes (length a) (t .tables)) (kept-sound rowBytes (length a) t e)) in
       let n : length a ≤ 262144 = leb→le (length a) 262144 (let l = q .lawful in search (and-left, and-right)) in
       let f = totals-few rowBytes (lit≤ tt) P (q .formed) (omega (arith, q .long)) in
       subst short (sym (ap (λ (r : Result). r .answer) (call-sound rowBytes a t e reports tt ∙ carried-whole rowBytes a t (report rowBytes P) refl)))
       (few-short (totals rowBytes P) f)
 
   pub report-short : short (call rowBytes a t reports .answer)
-  report-short = go (sound rowBytes (length a) t) refl
+  report-short = go (soundKept rowBytes (length a) t) refl
     where
-      go : (b : Bool) → sound rowBytes (length a) t ≡ b → short (call rowBytes a t reports .answer)
+      go : (b : Bool) → soundKept rowBytes (length a) t ≡ b → short (call rowBytes a t reports .answer)
       go true e = sound-short e
       go false e = subst short (sym (ap (λ (r : Result). r .answer) (call-unsound rowBytes a t reports tt e))) unsound-short

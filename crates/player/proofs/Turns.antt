@@ -1,11 +1,12 @@
 -- A record of a trace after the other: the text of those that are left, by what stands at a place.
-use Rattle.mem.proofs.Prelude.{_∙_, _≡_, sym, ap, refl, Option, some, none, true, false, true≢false, List, [], _++_, append-nil}
+use Rattle.mem.proofs.Prelude.{_∙_, _≡_, sym, ap, ap₂, refl, Option, some, none, true, false, true≢false, List, [], _++_, append-nil}
 use Rattle.mem.proofs.Prelude.{ℕ, suc, _+_, _-_, _≤_, arith, length}
 use Rattle.mem.proofs.Tests.{choose-true, choose-false}
 use Rattle.classes.specs.Classes.{rowBytes}
+use Rattle.model.specs.declared.Totals.{Totals}
 use Rattle.model.specs.Answers.{Answer}
 use Rattle.model.specs.Plans.{setsUp}
-use Rattle.model.specs.Calls.{call}
+use Rattle.model.specs.Calls.{KeptBytes, keptIn, call}
 use Rattle.trace.specs.declared.Op.{Op}
 use Rattle.trace.specs.declared.Step.{Step}
 use Rattle.trace.specs.Trace.{Item, stepAt, operationOf, itemsBy, itemsFrom, items, traceRight}
@@ -13,20 +14,20 @@ use Rattle.trace.specs.Replay.{Line, performed, lineOf, goOn, linesFrom, replay
 use Rattle.player.specs.Printed.{lineText, linesText, printed, playedText, isBad}
 
 -- the text of the records from a place on, the first of which is record i
-abbrev pub Rest : List ℕ → List ℕ → List ℕ → ℕ → ℕ → List ℕ
+abbrev pub Rest : List ℕ → KeptBytes → List ℕ → ℕ → ℕ → List ℕ
 Rest a t s i at = linesText (linesFrom rowBytes a t i (itemsFrom (suc (length s) - i) s at))
 
--- the text behind a record that told x, by what it left of arena and room
-abbrev pub Behind : Option Answer → List ℕ → List ℕ → List ℕ → ℕ → ℕ → List ℕ
+-- the text behind a record that told x, by what it left of arena, room and record
+abbrev pub Behind : Option Answer → List ℕ → KeptBytes → List ℕ → ℕ → ℕ → List ℕ
 Behind x a t s i at = linesText (goOn x (linesFrom rowBytes a t i (itemsFrom (suc (length s) - i) s at)))
 
 -- all of them
-pub all-left : (a t s : List ℕ) → Rest a t s 1 1 ≡ playedText a t s
+pub all-left : (a : List ℕ) (t : KeptBytes) (s : List ℕ) → Rest a t s 1 1 ≡ playedText a t s
 unfolding playedText items
 all-left a t s = let k : suc (length s) - 1 ≡ length s = omega arith in ap (λ n. linesText (linesFrom rowBytes a t 1 (itemsFrom n s 1))) k
 
 -- a bad record is the last, and behind any other one the trace goes on
-module _ (a t s : List ℕ) (i at : ℕ) where
+module _ (a : List ℕ) (t : KeptBytes) (s : List ℕ) (i at : ℕ) where
   pub last-one : (x : Option Answer) → isBad x ≡ true → Behind x a t s i at ≡ []
   unfolding linesText
   last-one none e = refl
@@ -36,7 +37,7 @@ module _ (a t s : List ℕ) (i at : ℕ) where
   goes-on none e = absurd (true≢false e)
   goes-on (some r) e = refl
 
-module _ (a t s : List ℕ) (i at : ℕ) (h : i ≤ length s) where
+module _ (a : List ℕ) (t : KeptBytes) (s : List ℕ) (i at : ℕ) (h : i ≤ length s) where
   -- there can be one record more
   here : (r : Step) → r ≡ stepAt s at → itemsFrom (suc (length s) - i) s at ≡ itemsBy s (itemsFrom (length s - i) s) r
   unfolding itemsFrom
@@ -56,19 +57,20 @@ module _ (a t s : List ℕ) (i at : ℕ) (h : i ≤ length s) where
   turn-bad e = by Step.Bad e ∙ append-nil (lineText (Line.bad i))
 
   -- the line of a record, and what is behind it
-  module _ (op : Op) (q : ℕ) (e : Step.Record op q ≡ stepAt s at) (x : Option Answer) (b u : List ℕ)
+  module _ (op : Op) (q : ℕ) (e : Step.Record op q ≡ stepAt s at) (x : Option Answer) (b u : List ℕ) (z : Totals)
       (d : x ≡ performed rowBytes a t (operationOf s op) .tells) (f : b ≡ performed rowBytes a t (operationOf s op) .arena)
-      (g : u ≡ performed rowBytes a t (operationOf s op) .room) where
-    pub turn : Rest a t s i at ≡ lineText (lineOf i x) ++ Behind x b u s (i + 1) q
+      (g : u ≡ performed rowBytes a t (operationOf s op) .room .tables) (k : z ≡ performed rowBytes a t (operationOf s op) .room .totals) where
+    pub turn : Rest a t s i at ≡ lineText (lineOf i x) ++ Behind x b (keptIn u z) s (i + 1) q
     unfolding linesText linesFrom
     turn =
         let n : length s - i ≡ suc (length s) - (i + 1) = omega arith in
         let j : suc i ≡ i + 1 = omega arith in
+        let w : performed rowBytes a t (operationOf s op) .room ≡ keptIn u z = sym (ap₂ keptIn g k) in
         by (Step.Record op q) e ∙ cc
 
 -- ---- the whole trace
 
-module _ (a t s : List ℕ) where
+module _ (a : List ℕ) (t : KeptBytes) (s : List ℕ) where
   pub printed-bad : traceRight s ≡ false → printed a t s ≡ lineText (Line.bad 0)
   unfolding printed replayedOver linesText
   printed-bad e = ap linesText (choose-false (traceRight s) _ _ e) ∙ append-nil (lineText (Line.bad 0))

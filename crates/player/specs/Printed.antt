@@ -7,6 +7,7 @@ use lib.ListN.{length}
 use Rattle.mem.specs.Lists.{join}
 use Rattle.classes.specs.Classes.{rowBytes}
 use Rattle.model.specs.Answers.{Answer, replyAnswer, reportAnswer}
+use Rattle.model.specs.Calls.{KeptBytes}
 use Rattle.text.specs.Decimal.{decimal}
 use Rattle.trace.specs.Trace.{items}
 use Rattle.trace.specs.Replay.{Line, told, bad, linesFrom, replayedOver}
@@ -26,12 +27,12 @@ lineText (bad k) = (98 ∷ 97 ∷ 100 ∷ []) ++ (field k ++ (10 ∷ []))
 unfoldable pub linesText : List Line → List ℕ
 linesText ls = join lineText ls
 
--- what a replay prints over an arena and a table room
-unfoldable pub printed : List ℕ → List ℕ → List ℕ → List ℕ
+-- what a replay prints over an arena, a table room and the record
+unfoldable pub printed : List ℕ → KeptBytes → List ℕ → List ℕ
 printed a t s = linesText (replayedOver rowBytes a t s)
 
 -- the part of it that records make, over a pool that was set up
-unfoldable pub playedText : List ℕ → List ℕ → List ℕ → List ℕ
+unfoldable pub playedText : List ℕ → KeptBytes → List ℕ → List ℕ
 playedText a t s = linesText (linesFrom rowBytes a t 1 (items s))
 
 -- the answer that the code tells, none where the record is bad

@@ -8,11 +8,15 @@ ghost use Rattle.io.specs.Counts.{Counts};
 ghost use Rattle.mem.specs.Lists.{choose, join};
 ghost use Rattle.mem.specs.Bytes.{put};
 ghost use Rattle.classes.specs.Classes.{rowBytes};
+ghost use Rattle.model.specs.Calls.{keptIn};
 ghost use Rattle.trace.specs.Trace.{Within, operationOf};
 ghost use Rattle.trace.specs.Replay.{Line, performed, lineOf};
+ghost use Rattle.player.specs.declared.Told.{Told};
 ghost use Rattle.player.specs.Printed.{field, lineText, printed, playedText, answerOf, isBad, Short};
+use model::Answered;
 use model::Reply;
 use model::Report;
+use model::Totals;
 use trace::Op;
 use trace::Step;
 
@@ -24,6 +28,24 @@ pub enum Told {
     One(Reply),
     Six(Report),
     Bad,
+}
+
+// What a record tells, and the totals after it.
+pub struct Played {
+    pub told: Told,
+    pub totals: Totals,
+}
+
+// What a call tells.
+fn tell(r: Answered) -> Played
+    ensures { λ p. ⌜ (p .told ≡ Told.One (r .reply)) × (p .totals ≡ r .totals) ⌝ }
+{
+    let reply = r.reply;
+    let totals = r.totals;
+    Played {
+        told: Told::One(reply),
+        totals: totals,
+    }
 }
 
 // Stores bytes in the arena, where they end inside it. The sum of offset and count is not made: it could wrap.
@@ -44,26 +66,43 @@ fn store(arena: &mut [u8], offset: usize, bytes: &[u8]) -> bool
 }
 
 // What a record does. The bytes of a store are lent from the trace.
-pub fn perform(arena: &mut [u8], room: &mut [u8], trace: &[u8], op: Op) -> Told
+pub fn perform(arena: &mut [u8], room: &mut [u8], t: Totals, trace: &[u8], op: Op) -> Played
     requires { ⌜ Within op (length (now trace)) ⌝ }
-    ensures short { λ r. ⌜ Short r ⌝ }
-    ensures { λ r. ⌜ answerOf r ≡ performed rowBytes (now (arena .entry)) (now (room .entry)) (operationOf (now (trace .entry)) op) .tells ⌝ }
-    ensures { λ r. ⌜ now (arena .exit) ≡ performed rowBytes (now (arena .entry)) (now (room .entry)) (operationOf (now (trace .entry)) op) .arena ⌝ }
-    ensures { λ r. ⌜ now (room .exit) ≡ performed rowBytes (now (arena .entry)) (now (room .entry)) (operationOf (now (trace .entry)) op) .room ⌝ }
+    ensures short { λ r. ⌜ Short (r .told) ⌝ }
+    ensures { λ r. ⌜ answerOf (r .told)
+        ≡ performed rowBytes (now (arena .entry)) (keptIn (now (room .entry)) t) (operationOf (now (trace .entry)) op) .tells ⌝ }
+    ensures { λ r. ⌜ now (arena .exit)
+        ≡ performed rowBytes (now (arena .entry)) (keptIn (now (room .entry)) t) (operationOf (now (trace .entry)) op) .arena ⌝ }
+    ensures { λ r. ⌜ now (room .exit)
+        ≡ performed rowBytes (now (arena .entry)) (keptIn (now (room .entry)) t) (operationOf (now (trace .entry)) op) .room .tables ⌝ }
+    ensures { λ r. ⌜ r .totals
+        ≡ performed rowBytes (now (arena .entry)) (keptIn (now (room .entry)) t) (operationOf (now (trace .entry)) op) .room .totals ⌝ }
 {
     match op {
-        Op::Grant(n) => Told::One(pool::grant(arena, room, n)),
-        Op::Release(offset) => Told::One(pool::release(arena, room, offset)),
-        Op::Resize(offset, n) => Told::One(pool::resize(arena, room, offset, n)),
-        Op::Measure(offset) => Told::One(pool::measure(arena, room, offset)),
+        Op::Grant(n) => tell(pool::grant(arena, room, t, n)),
+        Op::Release(offset) => tell(pool::release(arena, room, t, offset)),
+        Op::Resize(offset, n) => tell(pool::resize(arena, room, t, offset, n)),
+        Op::Measure(offset) => Played {
+            told: Told::One(pool::measure(arena, room, t, offset)),
+            totals: t,
+        },
         Op::Store { offset, from, to } => {
             if store(arena, offset, &trace[from..to]) {
-                Told::One(Reply::Done(0))
+                Played {
+                    told: Told::One(Reply::Done(0)),
+                    totals: t,
+                }
             } else {
-                Told::Bad
+                Played {
+                    told: Told::Bad,
+                    totals: t,
+                }
             }
         }
-        Op::Report => Told::Six(pool::report(arena, room)),
+        Op::Report => Played {
+            told: Told::Six(pool::report(arena, room, t)),
+            totals: t,
+        },
     }
 }
 
@@ -152,23 +191,26 @@ fn is_bad(told: Told) -> bool
 }
 
 // Performs the records behind the version byte, one after the other, and writes their lines.
-fn play(arena: &mut [u8], room: &mut [u8], trace: &[u8], out: &mut [u8]) -> usize
+fn play(arena: &mut [u8], room: &mut [u8], t: Totals, trace: &[u8], out: &mut [u8]) -> usize
     requires { ⌜ (1 ≤ length (now trace)) × (length (now trace) ≤ 65535) × (1048576 ≤ length (now out)) ⌝ }
-    ensures { λ r. ⌜ r ≡ length (playedText (now (arena .entry)) (now (room .entry)) (now (trace .entry))) ⌝ }
-    ensures { λ r. ⌜ now (out .exit) ≡ put 0 (playedText (now (arena .entry)) (now (room .entry)) (now (trace .entry))) (now (out .entry)) ⌝ }
+    ensures { λ r. ⌜ r ≡ length (playedText (now (arena .entry)) (keptIn (now (room .entry)) t) (now (trace .entry))) ⌝ }
+    ensures { λ r. ⌜ now (out .exit) ≡ put 0 (playedText (now (arena .entry)) (keptIn (now (room .entry)) t) (now (trace .entry))) (now (out .entry)) ⌝ }
     ensures small { λ r. ⌜ r ≤ 1048576 ⌝ }
 {
+    let mut kept = t;
     let mut at = 1;
     let mut count = 1;
     let mut end = 0;
     loop {
         match trace::read(trace, at) {
             Step::Record(op, next) => {
-                let told = perform(arena, room, trace, op);
+                let p = perform(arena, room, kept, trace, op);
+                let told = p.told;
                 end = put_line(out, end, count, told);
                 if is_bad(told) {
                     return end;
                 }
+                kept = p.totals;
                 at = next;
                 count += 1;
             }
@@ -179,14 +221,21 @@ fn play(arena: &mut [u8], room: &mut [u8], trace: &[u8], out: &mut [u8]) -> usiz
 }
 
 // Replays a trace over a pool that is set up first: writes all that is to be printed, and gives its length.
-pub fn replay(arena: &mut [u8], room: &mut [u8], trace: &[u8], out: &mut [u8; TEXT]) -> usize
-    ensures { λ r. ⌜ r ≡ length (printed (now (arena .entry)) (now (room .entry)) (now (trace .entry))) ⌝ }
-    ensures { λ r. ⌜ now (out .exit) ≡ put 0 (printed (now (arena .entry)) (now (room .entry)) (now (trace .entry))) (now (out .entry)) ⌝ }
+pub fn replay(
+    arena: &mut [u8],
+    room: &mut [u8],
+    t: Totals,
+    trace: &[u8],
+    out: &mut [u8; TEXT],
+) -> usize
+    ensures { λ r. ⌜ r ≡ length (printed (now (arena .entry)) (keptIn (now (room .entry)) t) (now (trace .entry))) ⌝ }
+    ensures { λ r. ⌜ now (out .exit) ≡ put 0 (printed (now (arena .entry)) (keptIn (now (room .entry)) t) (now (trace .entry))) (now (out .entry)) ⌝ }
     ensures { λ r. ⌜ Counts r (now (out .exit)) ⌝ }
 {
     if !trace::readable(trace) {
         return put_bad(out, 0, 0);
     }
-    pool::set_up(arena, room);
-    play(arena, room, trace, out)
+    let made = pool::set_up(arena, room, t);
+    let totals = made.totals;
+    play(arena, room, totals, trace, out)
 }

@@ -9,21 +9,25 @@ use Rattle.model.specs.State.{rows}
 use Rattle.model.specs.Answers.{done, refusal}
 use Rattle.model.specs.Plans.{setsUp, freshPool}
 use Rattle.model.specs.Tables.{byMasks, rowAt, encode, encodeBy, arenaRight, roomBytes, roomFor, rowRecordBytes}
-use Rattle.model.specs.Calls.{Result, call, setUp, setUpRight, keeps, callBy, setUpBy, setUpRightBy}
+use Rattle.model.specs.Calls.{KeptBytes, Result, engine, call, setUp, setUpRight, keeps, callBy, setUpBy, setUpRightBy}
 use Rattle.model.proofs.Fresh.{fresh-rows, whole-rows}
 use Rattle.rows.proofs.Spans.{free-records}
 
 -- equal results leave the same
-pub parts : {r s : Result} → r ≡ s → (r .answer ≡ s .answer) × ((r .arena ≡ s .arena) × (r .room ≡ s .room))
-parts e = (ap (λ (r : Result). r .answer) e, (ap (λ (r : Result). r .arena) e, ap (λ (r : Result). r .room) e))
+pub parts : {r s : Result} → r ≡ s
+    → (r .answer ≡ s .answer) × ((r .arena ≡ s .arena) × ((r .room .tables ≡ s .room .tables) × (r .room .totals ≡ s .room .totals)))
+parts e = (
+  ap (λ (r : Result). r .answer) e,
+  (ap (λ (r : Result). r .arena) e, (ap (λ (r : Result). r .room .tables) e, ap (λ (r : Result). r .room .totals) e)),
+)
 
-module _ (row : ℕ) (a t : List ℕ) where
+module _ (row : ℕ) (a : List ℕ) (t : KeptBytes) where
   -- a room of the right size for a lawful arena
   pub record Fitting : Type 0 where
     pub lawful : T (arenaRight row (length a))
-    pub long : length t ≡ roomBytes (length a / row)
+    pub long : length (t .tables) ≡ roomBytes (length a / row)
 
-  pub fitting : (length t ≡ roomFor row (length a)) → (roomFor row (length a) ≡ 0 → ⊥) → Fitting
+  pub fitting : (length (t .tables) ≡ roomFor row (length a)) → (roomFor row (length a) ≡ 0 → ⊥) → Fitting
   unfolding roomFor
   fitting e d = go (arenaRight row (length a)) refl
     where
@@ -32,37 +36,38 @@ module _ (row : ℕ) (a t : List ℕ) where
       go false h = absurd (d (choose-false (arenaRight row (length a)) _ _ h))
 
   -- the room that set up takes is the one of that size, which is not 0
-  right-room : T (setUpRight row a t) → (length t ≡ roomFor row (length a)) × (16 ≤ roomFor row (length a))
+  right-room : T (setUpRight row a t) → (length (t .tables) ≡ roomFor row (length a)) × (16 ≤ roomFor row (length a))
   unfolding setUpRightBy roomFor roomBytes
   right-room h =
       let l : T (arenaRight row (length a)) = search and-left in
       let r : roomFor row (length a) ≡ rowAt (length a / row) = choose-true (arenaRight row (length a)) _ _ (T-true (arenaRight row (length a)) l) in
-      let e : length t ≡ rowAt (length a / row) = eqb→eq (length t) (rowAt (length a / row)) (search (and-left, and-right)) in
+      let e : length (t .tables) ≡ rowAt (length a / row) = eqb→eq (length (t .tables)) (rowAt (length a / row)) (search (and-left, and-right)) in
       (e ∙ sym r, omega (arith, r))
 
-  pub set-up-refused : ((length t ≡ roomFor row (length a)) → roomFor row (length a) ≡ 0) → call row a t setsUp ≡ keeps (refusal BadArena) a t
+  pub set-up-refused : ((length (t .tables) ≡ roomFor row (length a)) → roomFor row (length a) ≡ 0) → call row a t setsUp ≡ keeps (refusal BadArena) a t
   unfolding callBy setUpBy
   set-up-refused f = go (setUpRight row a t) refl
     where
       go : (b : Bool) → setUpRight row a t ≡ b → setUp row a t ≡ keeps (refusal BadArena) a t
       go true e =
-          let r : (length t ≡ roomFor row (length a)) × (16 ≤ roomFor row (length a)) = right-room (true-T (setUpRight row a t) e) in
+          let r : (length (t .tables) ≡ roomFor row (length a)) × (16 ≤ roomFor row (length a)) = right-room (true-T (setUpRight row a t) e) in
           absurd (omega (arith, r .1, f (r .0)))
       go false e = choose-false (setUpRight row a t) _ _ e
 
-  pub set-up-made : Fitting → call row a t setsUp ≡ record { answer = done (0 ∷ []); arena = zeros (length a); room = encode row (freshPool (length a / row)) }
+  pub set-up-made : Fitting → call row a t setsUp
+      ≡ record { answer = done (0 ∷ []); arena = zeros (length a); room = engine row .encode (freshPool (length a / row)) }
   unfolding callBy setUpBy setUpRightBy
   set-up-made f =
-      choose-true (arenaRight row (length a) && eqb (length t) (roomBytes (length a / row))) _ _
-      (T-true _ (and-both (arenaRight row (length a)) (eqb (length t) (roomBytes (length a / row))) (f .lawful)
-      (eq→eqb (length t) (roomBytes (length a / row)) (f .long))))
+      choose-true (arenaRight row (length a) && eqb (length (t .tables)) (roomBytes (length a / row))) _ _
+      (T-true _ (and-both (arenaRight row (length a)) (eqb (length (t .tables)) (roomBytes (length a / row))) (f .lawful)
+      (eq→eqb (length (t .tables)) (roomBytes (length a / row)) (f .long))))
 
   -- tables with no groups: the arena's length, and zeros
-  pub formatted : Fitting → put 0 (low 4 (length a)) (zeros (length t)) ≡ encode row (freshPool (length a / row))
+  pub formatted : Fitting → put 0 (low 4 (length a)) (zeros (length (t .tables))) ≡ encode row (freshPool (length a / row))
   unfolding encodeBy roomBytes
   formatted f =
       let k : ℕ = length a / row in
-      let n : length t ≡ 4 + (12 + rowRecordBytes * k) = f .long ∙ arithmetic k in
+      let n : length (t .tables) ≡ 4 + (12 + rowRecordBytes * k) = f .long ∙ arithmetic k in
       let w : row * rows row (freshPool k) ≡ length a = ap (λ j. row * j) (fresh-rows row k) ∙ whole-rows row (length a) (f .lawful) in
       ap (λ m. put 0 (low 4 (length a)) (zeros m)) n
       ∙ ap (put 0 (low 4 (length a))) (zeros-add 4 (12 + rowRecordBytes * k))

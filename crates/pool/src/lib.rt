@@ -1,7 +1,8 @@
-// The calls of the slot pool, over a lent arena and a lent table room.
+// The calls of the slot pool, over a lent arena, a lent table room and the totals in the record beside it, by value: a call that can change
+// them gives those after it back.
 //
-// Each is a paragraph of document 01. It says with equations what it answers and what it leaves in arena and room, for any
-// bytes, offset and size.
+// Each is a paragraph of document 01. It says with equations what it answers and what it leaves of arena, room and totals, for any bytes,
+// totals, offset and size.
 ghost use mathlib.Core.Path.{_≡_};
 ghost use mathlib.Core.Bool.{true};
 ghost use Prim.Native.Nat.{_≤_, _<_};
@@ -12,10 +13,12 @@ ghost use Rattle.model.specs.Answers.{replyAnswer, reportAnswer};
 ghost use Rattle.model.specs.Proposals.{accepts, planned};
 ghost use Rattle.model.specs.Plans.{setsUp, grants, releases, resizes, measures, reports, grantsList};
 ghost use Rattle.model.specs.Tables.{roomFor};
-ghost use Rattle.model.specs.Calls.{call};
+ghost use Rattle.model.specs.Calls.{keptIn, call};
+use model::Answered;
 use model::Refusal;
 use model::Reply;
 use model::Report;
+use model::Totals;
 use ops::Located;
 use ops::Reserved;
 
@@ -45,86 +48,136 @@ fn format(room: &mut [u8], len: usize)
     mem::copy_in(room, 0, &head);
 }
 
-// Set up: zero over the whole arena, and tables with no groups.
-pub fn set_up(arena: &mut [u8], room: &mut [u8]) -> Reply
-    ensures { λ r. ⌜ replyAnswer r ≡ call rowBytes (now (arena .entry)) (now (room .entry)) setsUp .answer ⌝ }
-    ensures { λ r. ⌜ now (arena .exit) ≡ call rowBytes (now (arena .entry)) (now (room .entry)) setsUp .arena ⌝ }
-    ensures { λ r. ⌜ now (room .exit) ≡ call rowBytes (now (arena .entry)) (now (room .entry)) setsUp .room ⌝ }
+// Set up: zero over the whole arena, tables with no groups, and their totals, whatever they were.
+pub fn set_up(arena: &mut [u8], room: &mut [u8], t: Totals) -> Answered
+    ensures { λ r. ⌜ replyAnswer (r .reply) ≡ call rowBytes (now (arena .entry)) (keptIn (now (room .entry)) t) setsUp .answer ⌝ }
+    ensures { λ r. ⌜ now (arena .exit) ≡ call rowBytes (now (arena .entry)) (keptIn (now (room .entry)) t) setsUp .arena ⌝ }
+    ensures { λ r. ⌜ now (room .exit) ≡ call rowBytes (now (arena .entry)) (keptIn (now (room .entry)) t) setsUp .room .tables ⌝ }
+    ensures { λ r. ⌜ r .totals ≡ call rowBytes (now (arena .entry)) (keptIn (now (room .entry)) t) setsUp .room .totals ⌝ }
 {
     let len = arena.len();
     let size = room_len(len);
     if size == 0 {
-        return Reply::Refused(Refusal::BadArena);
+        return Answered {
+            reply: Reply::Refused(Refusal::BadArena),
+            totals: t,
+        };
     }
     if room.len() != size {
-        return Reply::Refused(Refusal::BadArena);
+        return Answered {
+            reply: Reply::Refused(Refusal::BadArena),
+            totals: t,
+        };
     }
     mem::fill_zero(arena);
     format(room, len);
-    Reply::Done(0)
+    Answered {
+        reply: Reply::Done(0),
+        totals: Totals {
+            blocks: 0,
+            bytes: 0,
+            held: 0,
+            free: len / classes::ROW,
+            ready: 0,
+            waiting: 0,
+        },
+    }
 }
 
 // Grant: a slot is reserved in the tables, and its block laid out in the arena.
-pub fn grant(arena: &mut [u8], room: &mut [u8], n: usize) -> Reply
-    ensures { λ r. ⌜ replyAnswer r ≡ call rowBytes (now (arena .entry)) (now (room .entry)) (grants n) .answer ⌝ }
-    ensures { λ r. ⌜ now (arena .exit) ≡ call rowBytes (now (arena .entry)) (now (room .entry)) (grants n) .arena ⌝ }
-    ensures { λ r. ⌜ now (room .exit) ≡ call rowBytes (now (arena .entry)) (now (room .entry)) (grants n) .room ⌝ }
+pub fn grant(arena: &mut [u8], room: &mut [u8], t: Totals, n: usize) -> Answered
+    ensures { λ r. ⌜ replyAnswer (r .reply) ≡ call rowBytes (now (arena .entry)) (keptIn (now (room .entry)) t) (grants n) .answer ⌝ }
+    ensures { λ r. ⌜ now (arena .exit) ≡ call rowBytes (now (arena .entry)) (keptIn (now (room .entry)) t) (grants n) .arena ⌝ }
+    ensures { λ r. ⌜ now (room .exit) ≡ call rowBytes (now (arena .entry)) (keptIn (now (room .entry)) t) (grants n) .room .tables ⌝ }
+    ensures { λ r. ⌜ r .totals ≡ call rowBytes (now (arena .entry)) (keptIn (now (room .entry)) t) (grants n) .room .totals ⌝ }
 {
     let len = arena.len();
-    if !soundness::sound(classes::ROW, len, room) {
-        return Reply::Refused(Refusal::Unsound);
+    if !soundness::sound(classes::ROW, len, room, t) {
+        return Answered {
+            reply: Reply::Refused(Refusal::Unsound),
+            totals: t,
+        };
     }
     if classes::TOO_LARGE <= n {
-        return Reply::Refused(Refusal::TooLarge);
+        return Answered {
+            reply: Reply::Refused(Refusal::TooLarge),
+            totals: t,
+        };
     }
-    let Reserved::Taken(b) = ops::reserve_slot(classes::ROW, len, room, n) else {
-        return Reply::Refused(Refusal::NoRoom);
+    let Reserved::Taken(b, taken) = ops::reserve_slot(classes::ROW, len, room, t, n) else {
+        return Answered {
+            reply: Reply::Refused(Refusal::NoRoom),
+            totals: t,
+        };
     };
     let start = ops::lay_out(classes::ROW, arena, b);
-    Reply::Done(start)
+    Answered {
+        reply: Reply::Done(start),
+        totals: taken,
+    }
 }
 
 // Release: the slot waits and its bytes become zero, or the group goes with its last live slot.
-pub fn release(arena: &mut [u8], room: &mut [u8], offset: usize) -> Reply
-    ensures { λ r. ⌜ replyAnswer r ≡ call rowBytes (now (arena .entry)) (now (room .entry)) (releases offset) .answer ⌝ }
-    ensures { λ r. ⌜ now (arena .exit) ≡ call rowBytes (now (arena .entry)) (now (room .entry)) (releases offset) .arena ⌝ }
-    ensures { λ r. ⌜ now (room .exit) ≡ call rowBytes (now (arena .entry)) (now (room .entry)) (releases offset) .room ⌝ }
+pub fn release(arena: &mut [u8], room: &mut [u8], t: Totals, offset: usize) -> Answered
+    ensures { λ r. ⌜ replyAnswer (r .reply) ≡ call rowBytes (now (arena .entry)) (keptIn (now (room .entry)) t) (releases offset) .answer ⌝ }
+    ensures { λ r. ⌜ now (arena .exit) ≡ call rowBytes (now (arena .entry)) (keptIn (now (room .entry)) t) (releases offset) .arena ⌝ }
+    ensures { λ r. ⌜ now (room .exit) ≡ call rowBytes (now (arena .entry)) (keptIn (now (room .entry)) t) (releases offset) .room .tables ⌝ }
+    ensures { λ r. ⌜ r .totals ≡ call rowBytes (now (arena .entry)) (keptIn (now (room .entry)) t) (releases offset) .room .totals ⌝ }
 {
-    if !soundness::sound(classes::ROW, arena.len(), room) {
-        return Reply::Refused(Refusal::Unsound);
+    if !soundness::sound(classes::ROW, arena.len(), room, t) {
+        return Answered {
+            reply: Reply::Refused(Refusal::Unsound),
+            totals: t,
+        };
     }
     match ops::locate(classes::ROW, arena, room, offset) {
         Located::At(b) => {
-            ops::discard(classes::ROW, arena, room, b);
-            Reply::Done(0)
+            let left = ops::discard(classes::ROW, arena, room, t, b);
+            Answered {
+                reply: Reply::Done(0),
+                totals: left,
+            }
         }
-        Located::Refused(r) => Reply::Refused(r),
+        Located::Refused(r) => Answered {
+            reply: Reply::Refused(r),
+            totals: t,
+        },
     }
 }
 
 // Resize: in place where the block's slot serves the new size, or else by a move.
-pub fn resize(arena: &mut [u8], room: &mut [u8], offset: usize, n: usize) -> Reply
-    ensures { λ r. ⌜ replyAnswer r ≡ call rowBytes (now (arena .entry)) (now (room .entry)) (resizes offset n) .answer ⌝ }
-    ensures { λ r. ⌜ now (arena .exit) ≡ call rowBytes (now (arena .entry)) (now (room .entry)) (resizes offset n) .arena ⌝ }
-    ensures { λ r. ⌜ now (room .exit) ≡ call rowBytes (now (arena .entry)) (now (room .entry)) (resizes offset n) .room ⌝ }
+pub fn resize(arena: &mut [u8], room: &mut [u8], t: Totals, offset: usize, n: usize) -> Answered
+    ensures { λ r. ⌜ replyAnswer (r .reply) ≡ call rowBytes (now (arena .entry)) (keptIn (now (room .entry)) t) (resizes offset n) .answer ⌝ }
+    ensures { λ r. ⌜ now (arena .exit) ≡ call rowBytes (now (arena .entry)) (keptIn (now (room .entry)) t) (resizes offset n) .arena ⌝ }
+    ensures { λ r. ⌜ now (room .exit) ≡ call rowBytes (now (arena .entry)) (keptIn (now (room .entry)) t) (resizes offset n) .room .tables ⌝ }
+    ensures { λ r. ⌜ r .totals ≡ call rowBytes (now (arena .entry)) (keptIn (now (room .entry)) t) (resizes offset n) .room .totals ⌝ }
 {
-    if !soundness::sound(classes::ROW, arena.len(), room) {
-        return Reply::Refused(Refusal::Unsound);
+    if !soundness::sound(classes::ROW, arena.len(), room, t) {
+        return Answered {
+            reply: Reply::Refused(Refusal::Unsound),
+            totals: t,
+        };
     }
     if classes::TOO_LARGE <= n {
-        return Reply::Refused(Refusal::TooLarge);
+        return Answered {
+            reply: Reply::Refused(Refusal::TooLarge),
+            totals: t,
+        };
     }
     match ops::locate(classes::ROW, arena, room, offset) {
-        Located::At(b) => ops::change_size(classes::ROW, arena, room, b, n),
-        Located::Refused(r) => Reply::Refused(r),
+        Located::At(b) => ops::change_size(classes::ROW, arena, room, t, b, n),
+        Located::Refused(r) => Answered {
+            reply: Reply::Refused(r),
+            totals: t,
+        },
     }
 }
 
 // Measure: the requested size.
-pub fn measure(arena: &[u8], room: &[u8], offset: usize) -> Reply
-    ensures { λ r. ⌜ replyAnswer r ≡ call rowBytes (now (arena .entry)) (now (room .entry)) (measures offset) .answer ⌝ }
+pub fn measure(arena: &[u8], room: &[u8], t: Totals, offset: usize) -> Reply
+    ensures { λ r. ⌜ replyAnswer r ≡ call rowBytes (now (arena .entry)) (keptIn (now (room .entry)) t) (measures offset) .answer ⌝ }
 {
-    if !soundness::sound(classes::ROW, arena.len(), room) {
+    if !soundness::sound(classes::ROW, arena.len(), room, t) {
         return Reply::Refused(Refusal::Unsound);
     }
     match ops::locate(classes::ROW, arena, room, offset) {
@@ -133,16 +186,14 @@ pub fn measure(arena: &[u8], room: &[u8], offset: usize) -> Reply
     }
 }
 
-// Report: the six totals.
-pub fn report(arena: &[u8], room: &[u8]) -> Report
-    ensures { λ r. ⌜ reportAnswer r ≡ call rowBytes (now (arena .entry)) (now (room .entry)) reports .answer ⌝ }
+// Report: the six totals, as the record has them.
+pub fn report(arena: &[u8], room: &[u8], t: Totals) -> Report
+    ensures { λ r. ⌜ reportAnswer r ≡ call rowBytes (now (arena .entry)) (keptIn (now (room .entry)) t) reports .answer ⌝ }
 {
-    let len = arena.len();
-    if !soundness::sound(classes::ROW, len, room) {
+    if !soundness::sound(classes::ROW, arena.len(), room, t) {
         return Report::Refused(Refusal::Unsound);
     }
-    let counted = totals::count(classes::ROW, len, room);
-    Report::Counted(counted)
+    Report::Counted(t)
 }
 
 // Check list: whether a proposal for a list of total bytes is accepted.
@@ -171,38 +222,59 @@ pub fn plan_list(total: usize, cap: usize, sizes: &mut [usize; 17]) -> Reply
 pub fn grant_list(
     arena: &mut [u8],
     room: &mut [u8],
+    t: Totals,
     total: usize,
     cap: usize,
     sizes: &[usize],
     starts: &mut [usize],
-) -> Reply
-    ensures { λ r. ⌜ replyAnswer r .number ≡ call rowBytes (now (arena .entry)) (now (room .entry))
+) -> Answered
+    ensures { λ r. ⌜ replyAnswer (r .reply) .number ≡ call rowBytes (now (arena .entry)) (keptIn (now (room .entry)) t)
         (grantsList «total» cap (length (now (starts .entry))) (now (sizes .entry))) .answer .number ⌝ }
-    ensures { λ r. ⌜ replyAnswer r .values ≡ call rowBytes (now (arena .entry)) (now (room .entry))
+    ensures { λ r. ⌜ replyAnswer (r .reply) .values ≡ call rowBytes (now (arena .entry)) (keptIn (now (room .entry)) t)
         (grantsList «total» cap (length (now (starts .entry))) (now (sizes .entry))) .answer .values ⌝ }
-    ensures { λ r. ⌜ now (starts .exit) ≡ put 0 (call rowBytes (now (arena .entry)) (now (room .entry))
+    ensures { λ r. ⌜ now (starts .exit) ≡ put 0 (call rowBytes (now (arena .entry)) (keptIn (now (room .entry)) t)
         (grantsList «total» cap (length (now (starts .entry))) (now (sizes .entry))) .answer .lent) (now (starts .entry)) ⌝ }
-    ensures { λ r. ⌜ now (arena .exit) ≡ call rowBytes (now (arena .entry)) (now (room .entry))
+    ensures { λ r. ⌜ now (arena .exit) ≡ call rowBytes (now (arena .entry)) (keptIn (now (room .entry)) t)
         (grantsList «total» cap (length (now (starts .entry))) (now (sizes .entry))) .arena ⌝ }
-    ensures { λ r. ⌜ now (room .exit) ≡ call rowBytes (now (arena .entry)) (now (room .entry))
-        (grantsList «total» cap (length (now (starts .entry))) (now (sizes .entry))) .room ⌝ }
+    ensures { λ r. ⌜ now (room .exit) ≡ call rowBytes (now (arena .entry)) (keptIn (now (room .entry)) t)
+        (grantsList «total» cap (length (now (starts .entry))) (now (sizes .entry))) .room .tables ⌝ }
+    ensures { λ r. ⌜ r .totals ≡ call rowBytes (now (arena .entry)) (keptIn (now (room .entry)) t)
+        (grantsList «total» cap (length (now (starts .entry))) (now (sizes .entry))) .room .totals ⌝ }
 {
     let len = arena.len();
-    if !soundness::sound(classes::ROW, len, room) {
-        return Reply::Refused(Refusal::Unsound);
+    if !soundness::sound(classes::ROW, len, room, t) {
+        return Answered {
+            reply: Reply::Refused(Refusal::Unsound),
+            totals: t,
+        };
     }
     if !proposals::plannable(total, cap) {
-        return Reply::Refused(Refusal::TooLong);
+        return Answered {
+            reply: Reply::Refused(Refusal::TooLong),
+            totals: t,
+        };
     }
     if starts.len() < proposals::ENTRIES {
-        return Reply::Refused(Refusal::TooLong);
+        return Answered {
+            reply: Reply::Refused(Refusal::TooLong),
+            totals: t,
+        };
     }
     if !proposals::accepts(total, cap, sizes) {
-        return Reply::Refused(Refusal::BadProposal);
+        return Answered {
+            reply: Reply::Refused(Refusal::BadProposal),
+            totals: t,
+        };
     }
     if !survey::fits(classes::ROW, len, room, sizes) {
-        return Reply::Refused(Refusal::NoRoom);
+        return Answered {
+            reply: Reply::Refused(Refusal::NoRoom),
+            totals: t,
+        };
     }
-    lists::grant_all(classes::ROW, arena, room, sizes, starts);
-    Reply::Done(sizes.len())
+    let granted = lists::grant_all(classes::ROW, arena, room, t, sizes, starts);
+    Answered {
+        reply: Reply::Done(sizes.len()),
+        totals: granted,
+    }
 }

@@ -27,21 +27,6 @@ use Rattle.records.specs.Records.{has, masksIn, slotIn, stored}
 abbrev pub masksOf : List Slot → Masks
 masksOf ss = record { ready = mask (map isReady ss); waiting = mask (map isWaiting ss) }
 
-pub mask-ones : (f : Slot → Bool) (ss : List Slot) → ones (mask (map f ss)) ≡ sum (λ x. bit (f x)) ss
-mask-ones f ss = ones-sum (map f ss) ∙ bits ss
-  where
-    bits : (ss : List Slot) → sum bit (map f ss) ≡ sum (λ x. bit (f x)) ss
-    bits [] = refl
-    bits (x ∷ ss) = ap (λ n. bit (f x) + n) (bits ss)
-
--- a slot is ready, waiting or live
-pub three-sets : (ss : List Slot) → sum (λ x. bit (isReady x)) ss + sum (λ x. bit (isWaiting x)) ss + sum (λ x. bit (isLive x)) ss ≡ length ss
-three-sets [] = refl
-three-sets (Fresh ∷ ss) = omega (arith, three-sets ss)
-three-sets (Idle true k d ∷ ss) = omega (arith, three-sets ss)
-three-sets (Idle false k d ∷ ss) = omega (arith, three-sets ss)
-three-sets (Live a ∷ ss) = omega (arith, three-sets ss)
-
 -- ---- a write to one slot of a group
 
 -- two pieces of a list are written, each over one of its length

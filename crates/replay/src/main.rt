@@ -7,9 +7,10 @@ ghost use Rattle.trace.specs.Replay.{replayed};
 ghost use Rattle.player.specs.Printed.{linesText};
 use libc::STDIN_FILENO;
 use libc::STDOUT_FILENO;
+use model::Totals;
 
 // Writes the text of a trace's lines, and gives its length. Arena and table room are arrays of this program, lent to the library: 16,384
-// bytes, and the size of the tables for as many (docs/TABLES.md).
+// bytes, and the size of the tables for as many (docs/TABLES.md). The totals go with them by value.
 fn replay_text(trace: &[u8], out: &mut [u8; player::TEXT]) -> usize
     ensures { λ r. ⌜ r ≡ length (linesText (replayed (now (trace .entry)))) ⌝ }
     ensures { λ r. ⌜ now (out .exit) ≡ put 0 (linesText (replayed (now (trace .entry)))) (now (out .entry)) ⌝ }
@@ -17,7 +18,15 @@ fn replay_text(trace: &[u8], out: &mut [u8; player::TEXT]) -> usize
 {
     let mut arena = [0u8; 16384];
     let mut room = [0u8; 8464];
-    player::replay(&mut arena, &mut room, trace, out)
+    let totals = Totals {
+        blocks: 0,
+        bytes: 0,
+        held: 0,
+        free: 0,
+        ready: 0,
+        waiting: 0,
+    };
+    player::replay(&mut arena, &mut room, totals, trace, out)
 }
 
 // Reads one byte more than the longest trace has, if there is one, so that a longer one is told.

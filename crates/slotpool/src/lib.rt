@@ -1,13 +1,24 @@
 // The C interface of the slot pool: include/slotpool.h. A slice is passed as a pointer and a length.
+//
+// Each call has two functions. One takes the totals by value and gives those after the call back; the exported one is lent the record: it reads
+// the totals, makes the call, and brings the record up to date.
 ghost use mathlib.Core.Path.{_≡_};
 ghost use mathlib.Core.Bool.{true};
 ghost use lib.ListN.{length, getD};
 ghost use Rattle.mem.specs.Bytes.{bit, put};
 ghost use Rattle.classes.specs.Classes.{rowBytes};
+ghost use Rattle.model.specs.Answers.{listed};
 ghost use Rattle.model.specs.Proposals.{accepts, planned};
 ghost use Rattle.model.specs.Plans.{setsUp, grants, releases, resizes, measures, reports, grantsList};
 ghost use Rattle.model.specs.Tables.{roomFor};
-ghost use Rattle.model.specs.Calls.{call};
+ghost use Rattle.model.specs.Calls.{keptIn, call};
+use model::Totals;
+
+// What a call tells: its number, and the totals after it.
+pub struct Told {
+    pub number: u32,
+    pub totals: Totals,
+}
 
 #[no_mangle]
 pub extern "C" fn slotpool_room_len(arena_len: usize) -> usize
@@ -16,55 +27,156 @@ pub extern "C" fn slotpool_room_len(arena_len: usize) -> usize
     pool::room_len(arena_len)
 }
 
-#[no_mangle]
-pub extern "C" fn slotpool_set_up(arena: &mut [u8], room: &mut [u8]) -> u32
-    ensures { λ r. ⌜ r ≡ call rowBytes (now (arena .entry)) (now (room .entry)) setsUp .answer .number ⌝ }
-    ensures { λ r. ⌜ now (arena .exit) ≡ call rowBytes (now (arena .entry)) (now (room .entry)) setsUp .arena ⌝ }
-    ensures { λ r. ⌜ now (room .exit) ≡ call rowBytes (now (arena .entry)) (now (room .entry)) setsUp .room ⌝ }
+fn set_up_by(arena: &mut [u8], room: &mut [u8], t: Totals) -> Told
+    ensures { λ r. ⌜ r .number ≡ call rowBytes (now (arena .entry)) (keptIn (now (room .entry)) t) setsUp .answer .number ⌝ }
+    ensures { λ r. ⌜ now (arena .exit) ≡ call rowBytes (now (arena .entry)) (keptIn (now (room .entry)) t) setsUp .arena ⌝ }
+    ensures { λ r. ⌜ now (room .exit) ≡ call rowBytes (now (arena .entry)) (keptIn (now (room .entry)) t) setsUp .room .tables ⌝ }
+    ensures { λ r. ⌜ r .totals ≡ call rowBytes (now (arena .entry)) (keptIn (now (room .entry)) t) setsUp .room .totals ⌝ }
 {
-    answers::number_of(pool::set_up(arena, room))
+    let r = pool::set_up(arena, room, t);
+    let reply = r.reply;
+    let totals = r.totals;
+    Told {
+        number: answers::number_of(reply),
+        totals: totals,
+    }
+}
+
+#[no_mangle]
+pub extern "C" fn slotpool_set_up(arena: &mut [u8], room: &mut [u8], totals: &mut Totals) -> u32
+    ensures { λ r. ⌜ r ≡ call rowBytes (now (arena .entry)) (keptIn (now (room .entry)) (now (totals .entry))) setsUp .answer .number ⌝ }
+    ensures { λ r. ⌜ now (arena .exit) ≡ call rowBytes (now (arena .entry)) (keptIn (now (room .entry)) (now (totals .entry))) setsUp .arena ⌝ }
+    ensures { λ r. ⌜ now (room .exit) ≡ call rowBytes (now (arena .entry)) (keptIn (now (room .entry)) (now (totals .entry))) setsUp .room .tables ⌝ }
+    ensures { λ r. ⌜ now (totals .exit) ≡ call rowBytes (now (arena .entry)) (keptIn (now (room .entry)) (now (totals .entry))) setsUp .room .totals ⌝ }
+{
+    let told = set_up_by(arena, room, *totals);
+    totals::record(totals, told.totals);
+    told.number
+}
+
+fn grant_by(arena: &mut [u8], room: &mut [u8], t: Totals, n: usize, value: &mut usize) -> Told
+    ensures { λ r. ⌜ r .number ≡ call rowBytes (now (arena .entry)) (keptIn (now (room .entry)) t) (grants n) .answer .number ⌝ }
+    ensures { λ r. ⌜ now (value .exit) ≡ getD (call rowBytes (now (arena .entry)) (keptIn (now (room .entry)) t) (grants n) .answer .values) 0 0 ⌝ }
+    ensures { λ r. ⌜ now (arena .exit) ≡ call rowBytes (now (arena .entry)) (keptIn (now (room .entry)) t) (grants n) .arena ⌝ }
+    ensures { λ r. ⌜ now (room .exit) ≡ call rowBytes (now (arena .entry)) (keptIn (now (room .entry)) t) (grants n) .room .tables ⌝ }
+    ensures { λ r. ⌜ r .totals ≡ call rowBytes (now (arena .entry)) (keptIn (now (room .entry)) t) (grants n) .room .totals ⌝ }
+{
+    let r = pool::grant(arena, room, t, n);
+    let reply = r.reply;
+    let totals = r.totals;
+    *value = answers::value_of(reply);
+    Told {
+        number: answers::number_of(reply),
+        totals: totals,
+    }
 }
 
 #[no_mangle]
 pub extern "C" fn slotpool_grant(
     arena: &mut [u8],
     room: &mut [u8],
+    totals: &mut Totals,
     n: usize,
     value: &mut usize,
 ) -> u32
-    ensures { λ r. ⌜ r ≡ call rowBytes (now (arena .entry)) (now (room .entry)) (grants n) .answer .number ⌝ }
-    ensures { λ r. ⌜ now (value .exit) ≡ getD (call rowBytes (now (arena .entry)) (now (room .entry)) (grants n) .answer .values) 0 0 ⌝ }
-    ensures { λ r. ⌜ now (arena .exit) ≡ call rowBytes (now (arena .entry)) (now (room .entry)) (grants n) .arena ⌝ }
-    ensures { λ r. ⌜ now (room .exit) ≡ call rowBytes (now (arena .entry)) (now (room .entry)) (grants n) .room ⌝ }
+    ensures { λ r. ⌜ r ≡ call rowBytes (now (arena .entry)) (keptIn (now (room .entry)) (now (totals .entry))) (grants n) .answer .number ⌝ }
+    ensures { λ r. ⌜ now (value .exit) ≡ getD (call rowBytes (now (arena .entry)) (keptIn (now (room .entry)) (now (totals .entry)))
+        (grants n) .answer .values) 0 0 ⌝ }
+    ensures { λ r. ⌜ now (arena .exit) ≡ call rowBytes (now (arena .entry)) (keptIn (now (room .entry)) (now (totals .entry))) (grants n) .arena ⌝ }
+    ensures { λ r. ⌜ now (room .exit) ≡ call rowBytes (now (arena .entry)) (keptIn (now (room .entry)) (now (totals .entry))) (grants n) .room .tables ⌝ }
+    ensures { λ r. ⌜ now (totals .exit) ≡ call rowBytes (now (arena .entry)) (keptIn (now (room .entry)) (now (totals .entry))) (grants n) .room .totals ⌝ }
 {
-    let r = pool::grant(arena, room, n);
-    *value = answers::value_of(r);
-    answers::number_of(r)
+    let told = grant_by(arena, room, *totals, n, value);
+    totals::record(totals, told.totals);
+    told.number
+}
+
+fn release_by(arena: &mut [u8], room: &mut [u8], t: Totals, offset: usize) -> Told
+    ensures { λ r. ⌜ r .number ≡ call rowBytes (now (arena .entry)) (keptIn (now (room .entry)) t) (releases offset) .answer .number ⌝ }
+    ensures { λ r. ⌜ now (arena .exit) ≡ call rowBytes (now (arena .entry)) (keptIn (now (room .entry)) t) (releases offset) .arena ⌝ }
+    ensures { λ r. ⌜ now (room .exit) ≡ call rowBytes (now (arena .entry)) (keptIn (now (room .entry)) t) (releases offset) .room .tables ⌝ }
+    ensures { λ r. ⌜ r .totals ≡ call rowBytes (now (arena .entry)) (keptIn (now (room .entry)) t) (releases offset) .room .totals ⌝ }
+{
+    let r = pool::release(arena, room, t, offset);
+    let reply = r.reply;
+    let totals = r.totals;
+    Told {
+        number: answers::number_of(reply),
+        totals: totals,
+    }
 }
 
 #[no_mangle]
-pub extern "C" fn slotpool_release(arena: &mut [u8], room: &mut [u8], offset: usize) -> u32
-    ensures { λ r. ⌜ r ≡ call rowBytes (now (arena .entry)) (now (room .entry)) (releases offset) .answer .number ⌝ }
-    ensures { λ r. ⌜ now (arena .exit) ≡ call rowBytes (now (arena .entry)) (now (room .entry)) (releases offset) .arena ⌝ }
-    ensures { λ r. ⌜ now (room .exit) ≡ call rowBytes (now (arena .entry)) (now (room .entry)) (releases offset) .room ⌝ }
+pub extern "C" fn slotpool_release(
+    arena: &mut [u8],
+    room: &mut [u8],
+    totals: &mut Totals,
+    offset: usize,
+) -> u32
+    ensures { λ r. ⌜ r ≡ call rowBytes (now (arena .entry)) (keptIn (now (room .entry)) (now (totals .entry))) (releases offset) .answer .number ⌝ }
+    ensures { λ r. ⌜ now (arena .exit) ≡ call rowBytes (now (arena .entry)) (keptIn (now (room .entry)) (now (totals .entry))) (releases offset) .arena ⌝ }
+    ensures { λ r. ⌜ now (room .exit) ≡ call rowBytes (now (arena .entry)) (keptIn (now (room .entry)) (now (totals .entry)))
+        (releases offset) .room .tables ⌝ }
+    ensures { λ r. ⌜ now (totals .exit) ≡ call rowBytes (now (arena .entry)) (keptIn (now (room .entry)) (now (totals .entry)))
+        (releases offset) .room .totals ⌝ }
 {
-    answers::number_of(pool::release(arena, room, offset))
+    let told = release_by(arena, room, *totals, offset);
+    totals::record(totals, told.totals);
+    told.number
+}
+
+fn resize_by(
+    arena: &mut [u8],
+    room: &mut [u8],
+    t: Totals,
+    offset: usize,
+    n: usize,
+    value: &mut usize,
+) -> Told
+    ensures { λ r. ⌜ r .number ≡ call rowBytes (now (arena .entry)) (keptIn (now (room .entry)) t) (resizes offset n) .answer .number ⌝ }
+    ensures { λ r. ⌜ now (value .exit) ≡ getD (call rowBytes (now (arena .entry)) (keptIn (now (room .entry)) t) (resizes offset n) .answer .values) 0 0 ⌝ }
+    ensures { λ r. ⌜ now (arena .exit) ≡ call rowBytes (now (arena .entry)) (keptIn (now (room .entry)) t) (resizes offset n) .arena ⌝ }
+    ensures { λ r. ⌜ now (room .exit) ≡ call rowBytes (now (arena .entry)) (keptIn (now (room .entry)) t) (resizes offset n) .room .tables ⌝ }
+    ensures { λ r. ⌜ r .totals ≡ call rowBytes (now (arena .entry)) (keptIn (now (room .entry)) t) (resizes offset n) .room .totals ⌝ }
+{
+    let r = pool::resize(arena, room, t, offset, n);
+    let reply = r.reply;
+    let totals = r.totals;
+    *value = answers::value_of(reply);
+    Told {
+        number: answers::number_of(reply),
+        totals: totals,
+    }
 }
 
 #[no_mangle]
 pub extern "C" fn slotpool_resize(
     arena: &mut [u8],
     room: &mut [u8],
+    totals: &mut Totals,
     offset: usize,
     n: usize,
     value: &mut usize,
 ) -> u32
-    ensures { λ r. ⌜ r ≡ call rowBytes (now (arena .entry)) (now (room .entry)) (resizes offset n) .answer .number ⌝ }
-    ensures { λ r. ⌜ now (value .exit) ≡ getD (call rowBytes (now (arena .entry)) (now (room .entry)) (resizes offset n) .answer .values) 0 0 ⌝ }
-    ensures { λ r. ⌜ now (arena .exit) ≡ call rowBytes (now (arena .entry)) (now (room .entry)) (resizes offset n) .arena ⌝ }
-    ensures { λ r. ⌜ now (room .exit) ≡ call rowBytes (now (arena .entry)) (now (room .entry)) (resizes offset n) .room ⌝ }
+    ensures { λ r. ⌜ r ≡ call rowBytes (now (arena .entry)) (keptIn (now (room .entry)) (now (totals .entry))) (resizes offset n) .answer .number ⌝ }
+    ensures { λ r. ⌜ now (value .exit) ≡ getD (call rowBytes (now (arena .entry)) (keptIn (now (room .entry)) (now (totals .entry)))
+        (resizes offset n) .answer .values) 0 0 ⌝ }
+    ensures { λ r. ⌜ now (arena .exit) ≡ call rowBytes (now (arena .entry)) (keptIn (now (room .entry)) (now (totals .entry))) (resizes offset n) .arena ⌝ }
+    ensures { λ r. ⌜ now (room .exit) ≡ call rowBytes (now (arena .entry)) (keptIn (now (room .entry)) (now (totals .entry)))
+        (resizes offset n) .room .tables ⌝ }
+    ensures { λ r. ⌜ now (totals .exit) ≡ call rowBytes (now (arena .entry)) (keptIn (now (room .entry)) (now (totals .entry)))
+        (resizes offset n) .room .totals ⌝ }
 {
-    let r = pool::resize(arena, room, offset, n);
+    let told = resize_by(arena, room, *totals, offset, n, value);
+    totals::record(totals, told.totals);
+    told.number
+}
+
+fn measure_by(arena: &[u8], room: &[u8], t: Totals, offset: usize, value: &mut usize) -> u32
+    ensures { λ r. ⌜ r ≡ call rowBytes (now (arena .entry)) (keptIn (now (room .entry)) t) (measures offset) .answer .number ⌝ }
+    ensures { λ r. ⌜ now (value .exit) ≡ getD (call rowBytes (now (arena .entry)) (keptIn (now (room .entry)) t) (measures offset) .answer .values) 0 0 ⌝ }
+{
+    let r = pool::measure(arena, room, t, offset);
     *value = answers::value_of(r);
     answers::number_of(r)
 }
@@ -73,25 +185,42 @@ pub extern "C" fn slotpool_resize(
 pub extern "C" fn slotpool_measure(
     arena: &[u8],
     room: &[u8],
+    totals: &Totals,
     offset: usize,
     value: &mut usize,
 ) -> u32
-    ensures { λ r. ⌜ r ≡ call rowBytes (now (arena .entry)) (now (room .entry)) (measures offset) .answer .number ⌝ }
-    ensures { λ r. ⌜ now (value .exit) ≡ getD (call rowBytes (now (arena .entry)) (now (room .entry)) (measures offset) .answer .values) 0 0 ⌝ }
+    ensures { λ r. ⌜ r ≡ call rowBytes (now (arena .entry)) (keptIn (now (room .entry)) (now (totals .entry))) (measures offset) .answer .number ⌝ }
+    ensures { λ r. ⌜ now (value .exit) ≡ getD (call rowBytes (now (arena .entry)) (keptIn (now (room .entry)) (now (totals .entry)))
+        (measures offset) .answer .values) 0 0 ⌝ }
 {
-    let r = pool::measure(arena, room, offset);
-    *value = answers::value_of(r);
-    answers::number_of(r)
+    measure_by(arena, room, *totals, offset, value)
+}
+
+fn report_by(arena: &[u8], room: &[u8], t: Totals) -> Told
+    ensures { λ r. ⌜ r .number ≡ call rowBytes (now (arena .entry)) (keptIn (now (room .entry)) t) reports .answer .number ⌝ }
+    ensures { λ r. ⌜ listed (r .totals) ≡ call rowBytes (now (arena .entry)) (keptIn (now (room .entry)) t) reports .answer .values ⌝ }
+{
+    let r = pool::report(arena, room, t);
+    Told {
+        number: answers::report_number(r),
+        totals: answers::report_totals(r),
+    }
 }
 
 #[no_mangle]
-pub extern "C" fn slotpool_report(arena: &[u8], room: &[u8], totals: &mut [usize; 6]) -> u32
-    ensures { λ r. ⌜ r ≡ call rowBytes (now (arena .entry)) (now (room .entry)) reports .answer .number ⌝ }
-    ensures { λ r. ⌜ now (totals .exit) ≡ call rowBytes (now (arena .entry)) (now (room .entry)) reports .answer .values ⌝ }
+pub extern "C" fn slotpool_report(
+    arena: &[u8],
+    room: &[u8],
+    totals: &Totals,
+    out: &mut Totals,
+) -> u32
+    ensures { λ r. ⌜ r ≡ call rowBytes (now (arena .entry)) (keptIn (now (room .entry)) (now (totals .entry))) reports .answer .number ⌝ }
+    ensures { λ r. ⌜ listed (now (out .exit)) ≡ call rowBytes (now (arena .entry)) (keptIn (now (room .entry)) (now (totals .entry)))
+        reports .answer .values ⌝ }
 {
-    let r = pool::report(arena, room);
-    *totals = answers::report_values(r);
-    answers::report_number(r)
+    let told = report_by(arena, room, *totals);
+    totals::record(out, told.totals);
+    told.number
 }
 
 #[no_mangle]
@@ -122,28 +251,64 @@ pub extern "C" fn slotpool_plan_list(
     answers::number_of(r)
 }
 
+fn grant_list_by(
+    arena: &mut [u8],
+    room: &mut [u8],
+    t: Totals,
+    total: usize,
+    cap: usize,
+    sizes: &[usize],
+    starts: &mut [usize],
+    value: &mut usize,
+) -> Told
+    ensures { λ r. ⌜ r .number ≡ call rowBytes (now (arena .entry)) (keptIn (now (room .entry)) t)
+        (grantsList «total» cap (length (now (starts .entry))) (now (sizes .entry))) .answer .number ⌝ }
+    ensures { λ r. ⌜ now (value .exit) ≡ getD (call rowBytes (now (arena .entry)) (keptIn (now (room .entry)) t)
+        (grantsList «total» cap (length (now (starts .entry))) (now (sizes .entry))) .answer .values) 0 0 ⌝ }
+    ensures { λ r. ⌜ now (starts .exit) ≡ put 0 (call rowBytes (now (arena .entry)) (keptIn (now (room .entry)) t)
+        (grantsList «total» cap (length (now (starts .entry))) (now (sizes .entry))) .answer .lent) (now (starts .entry)) ⌝ }
+    ensures { λ r. ⌜ now (arena .exit) ≡ call rowBytes (now (arena .entry)) (keptIn (now (room .entry)) t)
+        (grantsList «total» cap (length (now (starts .entry))) (now (sizes .entry))) .arena ⌝ }
+    ensures { λ r. ⌜ now (room .exit) ≡ call rowBytes (now (arena .entry)) (keptIn (now (room .entry)) t)
+        (grantsList «total» cap (length (now (starts .entry))) (now (sizes .entry))) .room .tables ⌝ }
+    ensures { λ r. ⌜ r .totals ≡ call rowBytes (now (arena .entry)) (keptIn (now (room .entry)) t)
+        (grantsList «total» cap (length (now (starts .entry))) (now (sizes .entry))) .room .totals ⌝ }
+{
+    let r = pool::grant_list(arena, room, t, total, cap, sizes, starts);
+    let reply = r.reply;
+    let totals = r.totals;
+    *value = answers::value_of(reply);
+    Told {
+        number: answers::number_of(reply),
+        totals: totals,
+    }
+}
+
 #[no_mangle]
 pub extern "C" fn slotpool_grant_list(
     arena: &mut [u8],
     room: &mut [u8],
+    totals: &mut Totals,
     total: usize,
     cap: usize,
     sizes: &[usize],
     starts: &mut [usize],
     value: &mut usize,
 ) -> u32
-    ensures { λ r. ⌜ r ≡ call rowBytes (now (arena .entry)) (now (room .entry))
+    ensures { λ r. ⌜ r ≡ call rowBytes (now (arena .entry)) (keptIn (now (room .entry)) (now (totals .entry)))
         (grantsList «total» cap (length (now (starts .entry))) (now (sizes .entry))) .answer .number ⌝ }
-    ensures { λ r. ⌜ now (value .exit) ≡ getD (call rowBytes (now (arena .entry)) (now (room .entry))
+    ensures { λ r. ⌜ now (value .exit) ≡ getD (call rowBytes (now (arena .entry)) (keptIn (now (room .entry)) (now (totals .entry)))
         (grantsList «total» cap (length (now (starts .entry))) (now (sizes .entry))) .answer .values) 0 0 ⌝ }
-    ensures { λ r. ⌜ now (starts .exit) ≡ put 0 (call rowBytes (now (arena .entry)) (now (room .entry))
+    ensures { λ r. ⌜ now (starts .exit) ≡ put 0 (call rowBytes (now (arena .entry)) (keptIn (now (room .entry)) (now (totals .entry)))
         (grantsList «total» cap (length (now (starts .entry))) (now (sizes .entry))) .answer .lent) (now (starts .entry)) ⌝ }
-    ensures { λ r. ⌜ now (arena .exit) ≡ call rowBytes (now (arena .entry)) (now (room .entry))
+    ensures { λ r. ⌜ now (arena .exit) ≡ call rowBytes (now (arena .entry)) (keptIn (now (room .entry)) (now (totals .entry)))
         (grantsList «total» cap (length (now (starts .entry))) (now (sizes .entry))) .arena ⌝ }
-    ensures { λ r. ⌜ now (room .exit) ≡ call rowBytes (now (arena .entry)) (now (room .entry))
-        (grantsList «total» cap (length (now (starts .entry))) (now (sizes .entry))) .room ⌝ }
+    ensures { λ r. ⌜ now (room .exit) ≡ call rowBytes (now (arena .entry)) (keptIn (now (room .entry)) (now (totals .entry)))
+        (grantsList «total» cap (length (now (starts .entry))) (now (sizes .entry))) .room .tables ⌝ }
+    ensures { λ r. ⌜ now (totals .exit) ≡ call rowBytes (now (arena .entry)) (keptIn (now (room .entry)) (now (totals .entry)))
+        (grantsList «total» cap (length (now (starts .entry))) (now (sizes .entry))) .room .totals ⌝ }
 {
-    let r = pool::grant_list(arena, room, total, cap, sizes, starts);
-    *value = answers::value_of(r);
-    answers::number_of(r)
+    let told = grant_list_by(arena, room, *totals, total, cap, sizes, starts, value);
+    totals::record(totals, told.totals);
+    told.number
 }

@@ -242,12 +242,12 @@ members-law s B at c n r w most h en er ew em =
 
 -- ---- the first row of a group
 
-group-length : (c : ℕ) (t : List ℕ) → length (viewGroup c t) ≡ slotsOf c
+pub group-length : (c : ℕ) (t : List ℕ) → length (viewGroup c t) ≡ slotsOf c
 unfolding viewGroup
 group-length c t = view-length (slotsOf c) (number (part 8 4 t)) (number (part 12 4 t)) (drop 16 t)
 
-group-order : (z r w j o l e : Bool) → ((z && (r && (w && (j && o)))) && (l && e)) ≡ (z && (r && w && j && l && e) && o)
-group-order z r w j o l e = simp (and-assoc, and-comm, and-left-comm)
+group-order : (z r w j o l e : Bool) → ((z && (r && (w && (j && o)))) && (l && e)) ≡ (z && o && (r && w && j && l && e))
+group-order z r w j o l e = simp (and-assoc, and-left-comm)
 
 module _ (s : List ℕ) (B : (i : ℕ) → getD s i 0 < 256) (at c : ℕ) (fit : at + rowRecordBytes ≤ length s) where
   group-starts : (ss : List Slot) → length ss ≤ 31
@@ -273,8 +273,8 @@ module _ (s : List ℕ) (B : (i : ℕ) → getD s i 0 < 256) (at c : ℕ) (fit :
 
   pub group-law : (n : ℕ) → n ≡ slotsOf c → viewHolder (drop at s) ≡ First c → c < 48
       → groupChecked byMasks c (drop at s)
-      ≡ (same (part (at + 2) 6 s) (zeros 6) && membersChecked c (drop at s)
-      && same (part (at + 16 + 8 * n) (8 * (31 - n)) s) (zeros (8 * (31 - n))))
+      ≡ (same (part (at + 2) 6 s) (zeros 6) && same (part (at + 16 + 8 * n) (8 * (31 - n)) s) (zeros (8 * (31 - n)))
+      && membersChecked c (drop at s))
   unfolding groupChecked membersChecked spanSound
   group-law n en held h =
       let k = holder-first-bytes (drop at s) c held in

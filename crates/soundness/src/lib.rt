@@ -1,16 +1,26 @@
-// Whether the bytes of a room are sound tables. The room is walked once, span by span.
+// Whether the bytes of a room are sound tables, and the record beside them has their totals. The room is walked once, span by span; what
+// report counts is counted on the way.
 ghost use mathlib.Core.Path.{_≡_};
 ghost use Prim.Native.Nat.{_+_, _*_, _-_, _/_, _%_, _^_, _≤_, _<_};
 ghost use lib.ListN.{length, drop};
 ghost use lib.Dec.{eqb};
+ghost use lib.Count.{ones};
 ghost use Rattle.mem.specs.Bytes.{zeros, same, part};
 ghost use Rattle.classes.specs.Classes.{Lawful, slotsOf, below2};
 ghost use Rattle.model.specs.declared.Holder.the-variants.{First};
-ghost use Rattle.model.specs.Tables.{headBytes, rowRecordBytes, slotsAt, mostSlots, slotRecordBytes, rowAt, byMasks, viewHolder, sizesIn, sound};
-ghost use Rattle.rows.specs.Checks.{groupChecked, spanChecked, rowsChecked};
+ghost use Rattle.model.specs.Tables.{headBytes, rowRecordBytes, mostSlots, slotRecordBytes, rowAt, byMasks, viewGroup, viewHolder, sizesIn};
+ghost use Rattle.model.specs.Calls.{keptIn, sameTotals, soundKept};
+ghost use Rattle.rows.specs.Checks.{groupChecked};
 ghost use Rattle.soundness.specs.Checks.{recordChecked, slotsChecked, membersChecked};
+ghost use Rattle.soundness.specs.Counts.{PerRow, plus, countedIf, groupTotals, masksTotals, spanCounted, rowsCounted};
 use model::Holder;
-use rows::Tile;
+use model::Totals;
+
+// What is counted of rows that are sound, or that they are not.
+pub enum Counted {
+    Sound(Totals),
+    Unsound,
+}
 
 // Whether bit i of a mask is set.
 fn has(m: u32, i: usize) -> bool
@@ -117,20 +127,36 @@ fn below(c: usize) -> usize
     16 * classes::units(c - 2)
 }
 
-// The masks and the n slots of a group of class c. One slot is live: else the masks would have all n bits.
-fn members_found(s: &[u8], at: usize, c: usize, n: usize) -> Slots
+// What a group of k rows counts, by the masks and the bytes of its n slots.
+fn group_totals(k: usize, n: usize, ready: u32, waiting: u32, bytes: u32) -> Totals
+    requires { ⌜ (n ≤ mostSlots) × (ones ready + ones waiting ≤ n) ⌝ }
+    ensures { λ r. ⌜ r ≡ masksTotals k n ready waiting bytes ⌝ }
+{
+    let idle = u32::count_ones(ready) + u32::count_ones(waiting);
+    Totals {
+        blocks: n - idle as usize,
+        bytes: bytes as usize,
+        held: k,
+        free: 0,
+        ready: u32::count_ones(ready) as usize,
+        waiting: u32::count_ones(waiting) as usize,
+    }
+}
+
+// The masks and the n slots of a group of class c, which has k rows. One slot is live: else the masks would have all n bits.
+fn members_counted(s: &[u8], at: usize, c: usize, n: usize, k: usize) -> Counted
     requires { ⌜ (at + rowRecordBytes ≤ length (now s)) × (c < 48) × (n ≡ slotsOf c) × (n ≤ mostSlots) ⌝ }
-    ensures { λ r. ⌜ r .sound ≡ membersChecked c (drop at (now (s .entry))) ⌝ }
-    ensures { λ r. ⌜ r .bytes ≡ sizesIn n (drop (at + slotsAt) (now (s .entry))) ⌝ }
+    ensures { λ r. ⌜ r ≡ countedIf (membersChecked c (drop at (now (s .entry)))) (groupTotals k (viewGroup c (drop at (now (s .entry))))) ⌝ }
 {
     let r = mem::quad(s, at + model::READY);
     let w = mem::quad(s, at + model::WAITING);
     let most = (16 * classes::units(c) - 4) as u32;
     let found = slots_found(s, at + model::SLOTS, n, r, w, most, below(c) as u32);
-    Slots {
-        sound: found.sound & (r as usize + w as usize + 1 != masks::bit_of(n as u32) as usize),
-        bytes: found.bytes,
+    let some_live = r as usize + w as usize + 1 != masks::bit_of(n as u32) as usize;
+    if !(found.sound & some_live) {
+        return Counted::Unsound;
     }
+    Counted::Sound(group_totals(k, n, r, w, found.bytes))
 }
 
 // Whether the records from the n-th slot's to the row's end are zero. It counts up: a loop of 31 - n turns is not vectorised.
@@ -150,90 +176,129 @@ fn rest_zero(s: &[u8], at: usize, n: usize) -> bool
     seen == 0
 }
 
-// The first row of a group of class c, which is row i.
-fn group_sound(room: &[u8], i: usize, c: usize) -> bool
+// The first row of a group of class c, which is row i; the group has k rows.
+fn group_counted(room: &[u8], i: usize, c: usize, k: usize) -> Counted
     requires { ⌜ (i < 512) × (rowAt i + rowRecordBytes ≤ length (now room)) ⌝ }
     requires { ⌜ (c < 48) × (viewHolder (drop (rowAt i) (now room)) ≡ First c) ⌝ }
-    ensures { λ r. ⌜ r ≡ groupChecked byMasks c (drop (rowAt i) (now (room .entry))) ⌝ }
+    ensures { λ r. ⌜ r ≡ countedIf (groupChecked byMasks c (drop (rowAt i) (now (room .entry))))
+        (groupTotals k (viewGroup c (drop (rowAt i) (now (room .entry))))) ⌝ }
 {
     let at = rows::row_at(i);
     if !mem::zeros_at(room, at + 2, model::READY - 2) {
-        return false;
+        return Counted::Unsound;
     }
     let n = classes::slots(c);
-    let found = members_found(room, at, c, n);
-    if !found.sound {
-        return false;
+    if !rest_zero(room, at + model::SLOTS, n) {
+        return Counted::Unsound;
     }
-    rest_zero(room, at + model::SLOTS, n)
+    members_counted(room, at, c, n, k)
 }
 
 // The group of class c whose first row is row i, where n rows are left.
-fn held_sound(row: usize, room: &[u8], i: usize, n: usize, c: usize) -> Tile
+fn held_counted(row: usize, room: &[u8], i: usize, n: usize, c: usize) -> Counted
     requires { ⌜ (0 < n) × (i + n ≤ 512) × (rowAt (i + n) ≤ length (now room)) ⌝ }
     requires { ⌜ viewHolder (drop (rowAt i) (now room)) ≡ First c ⌝ }
     requires { ⌜ Lawful row ⌝ }
-    ensures { λ r. ⌜ r ≡ spanChecked byMasks row n (drop (rowAt i) (now (room .entry))) ⌝ }
+    ensures { λ r. ⌜ r ≡ spanCounted row n (drop (rowAt i) (now (room .entry))) ⌝ }
 {
     if classes::CLASSES <= c {
-        return Tile::Unsound;
+        return Counted::Unsound;
     }
     let k = classes::rows(row, c);
     if n < k {
-        return Tile::Unsound;
-    }
-    if !group_sound(room, i, c) {
-        return Tile::Unsound;
+        return Counted::Unsound;
     }
     if !rows::laters_sound(room, i, k - 1) {
-        return Tile::Unsound;
+        return Counted::Unsound;
     }
-    Tile::Rows(k)
+    group_counted(room, i, c, k)
 }
 
 // The span that begins at row i, where n rows are left: a free row, or a group.
-fn span_sound(row: usize, room: &[u8], i: usize, n: usize) -> Tile
+fn span_counted(row: usize, room: &[u8], i: usize, n: usize) -> Counted
     requires { ⌜ (0 < n) × (i + n ≤ 512) × (rowAt (i + n) ≤ length (now room)) ⌝ }
     requires { ⌜ Lawful row ⌝ }
-    ensures { λ r. ⌜ r ≡ spanChecked byMasks row n (drop (rowAt i) (now (room .entry))) ⌝ }
+    ensures { λ r. ⌜ r ≡ spanCounted row n (drop (rowAt i) (now (room .entry))) ⌝ }
 {
     match rows::holder_at(room, i) {
         Holder::Free => {
             if mem::zeros_at(room, rows::row_at(i), model::ROW_RECORD) {
-                Tile::Rows(1)
+                Counted::Sound(Totals {
+                    blocks: 0,
+                    bytes: 0,
+                    held: 0,
+                    free: 1,
+                    ready: 0,
+                    waiting: 0,
+                })
             } else {
-                Tile::Unsound
+                Counted::Unsound
             }
         }
-        Holder::First(c) => held_sound(row, room, i, n, mem::wide(c)),
-        Holder::Later(_) => Tile::Unsound,
+        Holder::First(c) => held_counted(row, room, i, n, mem::wide(c)),
+        Holder::Later(_) => Counted::Unsound,
     }
 }
 
-// The n rows of a room.
-fn rows_sound(row: usize, room: &[u8], n: usize) -> bool
+// The totals of rows and of further rows.
+fn plus(a: Totals, b: Totals) -> Totals
+    requires { ⌜ PerRow a ⌝ }
+    requires { ⌜ PerRow b ⌝ }
+    requires { ⌜ a .held + a .free + (b .held + b .free) ≤ 512 ⌝ }
+    ensures { λ r. ⌜ r ≡ plus a b ⌝ }
+{
+    Totals {
+        blocks: a.blocks + b.blocks,
+        bytes: a.bytes + b.bytes,
+        held: a.held + b.held,
+        free: a.free + b.free,
+        ready: a.ready + b.ready,
+        waiting: a.waiting + b.waiting,
+    }
+}
+
+// The n rows of a room. What is held and what is free are the rows passed.
+fn rows_counted(row: usize, room: &[u8], n: usize) -> Counted
     requires { ⌜ (n ≤ 512) × (length (now room) ≡ rowAt n) ⌝ }
     requires { ⌜ Lawful row ⌝ }
-    ensures { λ r. ⌜ r ≡ rowsChecked byMasks row n (drop headBytes (now (room .entry))) ⌝ }
+    ensures { λ r. ⌜ r ≡ rowsCounted row n (drop headBytes (now (room .entry))) ⌝ }
 {
-    let mut i = 0;
-    while i < n {
-        match span_sound(row, room, i, n - i) {
-            Tile::Rows(k) => {
-                i += k;
+    let mut s = Totals {
+        blocks: 0,
+        bytes: 0,
+        held: 0,
+        free: 0,
+        ready: 0,
+        waiting: 0,
+    };
+    while s.held + s.free < n {
+        let i = s.held + s.free;
+        match span_counted(row, room, i, n - i) {
+            Counted::Sound(u) => {
+                s = plus(s, u);
             }
-            Tile::Unsound => {
-                return false;
+            Counted::Unsound => {
+                return Counted::Unsound;
             }
         }
     }
-    true
+    Counted::Sound(s)
 }
 
-// Whether a room is sound under an arena of len bytes.
-pub fn sound(row: usize, len: usize, room: &[u8]) -> bool
+// Whether two totals are the same, number by number.
+fn same_totals(a: Totals, b: Totals) -> bool
+    ensures { λ r. ⌜ r ≡ sameTotals a b ⌝ }
+{
+    let blocks = (a.blocks == b.blocks) & (a.bytes == b.bytes);
+    let rows = (a.held == b.held) & (a.free == b.free);
+    let slots = (a.ready == b.ready) & (a.waiting == b.waiting);
+    blocks & rows & slots
+}
+
+// Whether a room is sound under an arena of len bytes, and t has its totals.
+pub fn sound(row: usize, len: usize, room: &[u8], t: Totals) -> bool
     requires { ⌜ Lawful row ⌝ }
-    ensures { λ r. ⌜ r ≡ sound row len (now (room .entry)) ⌝ }
+    ensures { λ r. ⌜ r ≡ soundKept row len (keptIn (now (room .entry)) t) ⌝ }
 {
     let n = rows::rows_in(row, len);
     if n == 0 {
@@ -248,5 +313,8 @@ pub fn sound(row: usize, len: usize, room: &[u8]) -> bool
     if !mem::zeros_at(room, 4, model::HEAD - 4) {
         return false;
     }
-    rows_sound(row, room, n)
+    match rows_counted(row, room, n) {
+        Counted::Sound(s) => same_totals(t, s),
+        Counted::Unsound => false,
+    }
 }

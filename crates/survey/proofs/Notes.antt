@@ -7,7 +7,7 @@ use lib.Seq.{take-at, set-at, getD-set-same, getD-set-other}
 use Rattle.mem.specs.Lists.{sum, join}
 use Rattle.mem.specs.Bytes.{zeros, bit, part}
 use Rattle.mem.proofs.Tests.{and-left, and-right, choose-case}
-use Rattle.mem.proofs.Laws.{join-append, zeros-length, zeros-none, zeros-left, zeros-add, zeros-at}
+use Rattle.mem.proofs.Laws.{join-append, sum-snoc, zeros-length, zeros-none, zeros-left, zeros-add, zeros-at}
 use Rattle.classes.specs.Classes.{rowsOf}
 use Rattle.model.specs.declared.Slot.{Slot}
 use Rattle.model.specs.declared.Slot.the-variants.{Fresh, Idle, Live}
@@ -21,15 +21,12 @@ use Rattle.model.proofs.Rooms.{rows-append}
 use Rattle.rows.specs.Rows.{Lent}
 use Rattle.rows.proofs.Rooms.{holderOf, some-rows, row-count, few-rows, row-inside, facts, before-sound, span-sound, span-rows, span-from, span-holder}
 use Rattle.records.specs.Records.{masksIn}
-use Rattle.records.proofs.Laws.{mask-ones, masks-read-span}
+use Rattle.model.proofs.Counts.{mask-ones}
+use Rattle.records.proofs.Laws.{masks-read-span}
 use Rattle.survey.specs.Survey.{openIn, openSlots, rowMap, mapOf, Tells}
 use Rattle.survey.specs.Walk.{Next, Noted}
 
 -- ---- one span more
-
-sum-snoc : {A : Type 0} (f : A → ℕ) (xs : List A) (x : A) → sum f (xs ++ (x ∷ [])) ≡ sum f xs + f x
-sum-snoc f [] x = omega arith
-sum-snoc f (y ∷ xs) x = omega (arith, sum-snoc f xs x)
 
 open-snoc : (c : ℕ) (X : Pool) (s : Span) → openSlots c (X ++ (s ∷ [])) ≡ openSlots c X + openIn c s
 unfolding openSlots

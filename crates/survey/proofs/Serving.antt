@@ -6,7 +6,7 @@ use lib.Seq.{getD-set-same, getD-set-other}
 use Rattle.mem.specs.Lists.{choose, any, isSome, starts, sum}
 use Rattle.mem.specs.Bytes.{zeros, bit, put}
 use Rattle.mem.proofs.Tests.{choose-case, choose-true, choose-false}
-use Rattle.mem.proofs.Laws.{join-append, put-at, zeros-length}
+use Rattle.mem.proofs.Laws.{join-append, sum-append, put-at, zeros-length}
 use Rattle.mem.proofs.Starts.{eqb-sym}
 use Rattle.classes.specs.Classes.{classOf, slotsOf, rowsOf, tooLarge}
 use Rattle.classes.proofs.Laws.{class-facts, rows-pos}
@@ -18,12 +18,6 @@ use Rattle.model.proofs.Rooms.{rows-append}
 use Rattle.model.proofs.Reserve.{Open, open-found, New, run-found, ground, Taken, grant-taken, reserve-formed}
 use Rattle.survey.specs.Survey.{openIn, openSlots, lowestRun, rowMap, mapOf, Tells, Serves}
 use Rattle.survey.proofs.MapRuns.{lowest-inside}
-
--- ---- sums
-
-sum-append : {A : Type 0} (f : A → ℕ) (xs ys : List A) → sum f (xs ++ ys) ≡ sum f xs + sum f ys
-sum-append f [] ys = omega arith
-sum-append f (x ∷ xs) ys = omega (arith, sum-append f xs ys)
 
 -- ---- the slots that are not live
 

@@ -8,7 +8,7 @@ use Rattle.model.specs.Blocks.{header, guard, firstSpare, spare, frame, headerR
 use Rattle.model.specs.Plans.{plan, opens, refill, grantSlot, inPlace}
 use Rattle.model.specs.Tables.{slotRecord, rowRecord, laterRecords, roomBytes, viewSlot, viewSlots, viewGroup, viewHolder, spanRecordsBy, encodeBy}
 use Rattle.model.specs.Tables.{viewRowsBy, viewBy, arenaRight, soundBy}
-use Rattle.model.specs.Calls.{callBy, carriedBy, checkedBy, setUpBy, setUpRightBy, unless}
+use Rattle.model.specs.Calls.{sameTotals, callBy, carriedBy, checkedBy, setUpBy, setUpRightBy, unless}
 use Rattle.trace.specs.Trace.{body, encodeRecord, encodeTrace, fits, opAt, recordAt, stepAt, operationOf, itemsFrom, items, traceRight}
 use Rattle.trace.specs.Replay.{performed, linesFrom, replayedOver, replayed}
 use Rattle.trace.specs.Sheet.{sheet, LinesDue}
@@ -18,5 +18,5 @@ unfolding sheet body encodeRecord encodeTrace fits opAt recordAt stepAt operatio
     choose zeros rowBytes tooLarge unitsOf slotBytes slotsOf rowsOf classOf slotSound spanSound places header guard firstSpare spare
     frame headerRight guardRight damageIn
     opens refill grantSlot inPlace plan slotRecord rowRecord laterRecords spanRecordsBy roomBytes viewSlot viewSlots viewGroup viewHolder viewRowsBy
-    encodeBy viewBy arenaRight soundBy callBy setUpBy setUpRightBy checkedBy carriedBy unless
+    encodeBy viewBy arenaRight soundBy callBy setUpBy setUpRightBy checkedBy carriedBy unless sameTotals
 lines-due = refl

@@ -7,10 +7,11 @@ use lib.ListN.{length}
 use Rattle.mem.specs.Lists.{choose}
 use Rattle.mem.specs.Bytes.{zeros, put}
 use Rattle.classes.specs.Classes.{rowBytes}
+use Rattle.model.specs.declared.Totals.{Totals}
 use Rattle.model.specs.Answers.{Answer, done}
 use Rattle.model.specs.Plans.{setsUp, grants, releases, resizes, measures, reports}
 use Rattle.model.specs.Tables.{roomBytes}
-use Rattle.model.specs.Calls.{Result, call}
+use Rattle.model.specs.Calls.{KeptBytes, keptIn, Result, call}
 use Rattle.trace.specs.Trace.{Operation, grant, release, resize, measure, store, report, Item, does, items, traceRight}
 
 -- "The replay program sets up a pool of 16,384 bytes"
@@ -22,11 +23,11 @@ pub data Line : Type 0 where
   told : Answer → Line
   bad : (number : ℕ) → Line
 
--- what a record does: the answer that its line tells, none if the record is bad, and what it leaves of arena and tables
+-- what a record does: the answer that its line tells, none if the record is bad, and what it leaves of arena, tables and record
 pub record Effect : Type 0 where
   pub tells : Option Answer
   pub arena : List ℕ
-  pub room : List ℕ
+  pub room : KeptBytes
 
 abbrev pub effect : Result → Effect
 effect r = record { tells = some (r .answer); arena = r .arena; room = r .room }
@@ -46,7 +47,7 @@ lineThen i x ls = lineOf i x ∷ goOn x ls
 
 module _ (row : ℕ) where
   -- "a store prints `0 0`"; "a store ending past the arena" is bad, and stores nothing
-  unfoldable pub performed : List ℕ → List ℕ → Operation → Effect
+  unfoldable pub performed : List ℕ → KeptBytes → Operation → Effect
   performed a t (grant n) = effect (call row a t (grants n))
   performed a t (release o) = effect (call row a t (releases o))
   performed a t (resize o n) = effect (call row a t (resizes o n))
@@ -57,19 +58,23 @@ module _ (row : ℕ) where
   performed a t report = effect (call row a t reports)
 
   -- the lines of records, the first of which is record i: "prints `bad` and the record's number from 1 .. and ends"
-  unfoldable pub linesFrom : List ℕ → List ℕ → ℕ → List Item → List Line
+  unfoldable pub linesFrom : List ℕ → KeptBytes → ℕ → List Item → List Line
   linesFrom a t i [] = []
   linesFrom a t i (Item.bad ∷ xs) = Line.bad i ∷ []
   linesFrom a t i (does x ∷ xs) = let d = performed a t x in lineThen i (d .tells) (linesFrom (d .arena) (d .room) (suc i) xs)
 
-  -- a trace replayed over an arena and a table room, which are set up first. "0 for the version"; "An empty trace, or one over 65,535 bytes,
+  -- a trace replayed over an arena, a table room and the record, which are set up first. "0 for the version"; "An empty trace, or one over 65,535 bytes,
   -- prints `bad 0` alone."
-  unfoldable pub replayedOver : List ℕ → List ℕ → List ℕ → List Line
+  unfoldable pub replayedOver : List ℕ → KeptBytes → List ℕ → List Line
   replayedOver a t s =
       let r = call row a t setsUp in
       let ls = linesFrom (r .arena) (r .room) 1 (items s) in
       choose (traceRight s) ls (Line.bad 0 ∷ [])
 
+-- the program's record before the set up
+abbrev pub noTotals : Totals
+noTotals = record { blocks = 0; bytes = 0; held = 0; free = 0; ready = 0; waiting = 0 }
+
 -- THE REPLAY
 unfoldable pub replayed : List ℕ → List Line
-replayed s = replayedOver rowBytes (zeros arenaBytes) (zeros (roomBytes (arenaBytes / rowBytes))) s
+replayed s = replayedOver rowBytes (zeros arenaBytes) (keptIn (zeros (roomBytes (arenaBytes / rowBytes))) noTotals) s

@@ -81,6 +81,24 @@ fn number(bytes: &[u8]) -> usize {
     bytes.iter().rev().fold(0, |n, &b| 256 * n + b as usize)
 }
 
+/// The totals of an arena of so many rows with these groups.
+fn count(rows: usize, groups: &[Group]) -> Totals {
+    let mut t = Totals::default();
+    for s in groups.iter().flat_map(|g| &g.slots) {
+        match s.state {
+            State::Live => {
+                t.live_blocks += 1;
+                t.requested_bytes += s.size;
+            }
+            State::Ready => t.ready_slots += 1,
+            State::Waiting => t.waiting_slots += 1,
+        }
+    }
+    t.rows_held = groups.iter().map(|g| rows_of(g.class)).sum();
+    t.rows_free = rows - t.rows_held;
+    t
+}
+
 impl Tables {
     /// The byte form of docs/TABLES.md.
     pub fn write(&self) -> Vec<u8> {
@@ -112,9 +130,19 @@ impl Tables {
         room
     }
 
-    /// The tables that a room says, if they are sound under an arena of some length: read the fields, test the rules one by one,
-    /// and compare with the form of what was read.
-    pub fn read(arena_len: usize, room: &[u8]) -> Option<Tables> {
+    /// The tables that a room says, if they are sound under an arena of some length and a record of totals.
+    pub fn read(arena_len: usize, room: &[u8], record: &Totals) -> Option<Tables> {
+        Tables::read_alone(arena_len, room).filter(|tables| tables.totals() == *record)
+    }
+
+    /// The record that is due beside these tables.
+    pub fn totals(&self) -> Totals {
+        count(self.rows, &self.groups)
+    }
+
+    /// The tables that a room says, if they are sound but for the record: read the fields, test the rules one by one, and compare with
+    /// the form of what was read.
+    pub fn read_alone(arena_len: usize, room: &[u8]) -> Option<Tables> {
         if !(ROW..=512 * ROW).contains(&arena_len) || arena_len % ROW != 0 {
             return None;
         }
@@ -405,21 +433,9 @@ impl Reference {
         Ok(self.groups[at.group].slots[at.slot].size)
     }
 
+    /// The totals, counted anew: this pool keeps no record.
     pub fn report(&self) -> Totals {
-        let mut t = Totals::default();
-        for s in self.groups.iter().flat_map(|g| &g.slots) {
-            match s.state {
-                State::Live => {
-                    t.live_blocks += 1;
-                    t.requested_bytes += s.size;
-                }
-                State::Ready => t.ready_slots += 1,
-                State::Waiting => t.waiting_slots += 1,
-            }
-        }
-        t.rows_held = self.groups.iter().map(|g| rows_of(g.class)).sum();
-        t.rows_free = self.arena.len() / ROW - t.rows_held;
-        t
+        count(self.arena.len() / ROW, &self.groups)
     }
 
     /// Every live block: start and size.

@@ -1,4 +1,4 @@
-//! One pool in two implementations: answers, whole arenas, tables and totals are compared at every call.
+//! One pool in two implementations: answers, whole arenas, tables, records and totals are compared at every call.
 
 use slotpool::{room_len, Pool, Refusal, Totals};
 use slotpool_reference::Reference;
@@ -80,20 +80,38 @@ fn entries(call: Call, answer: Answer) -> usize {
     }
 }
 
-/// The library's answer to a call.
-pub fn library(arena: &mut [u8], room: &mut [u8], lent: &mut Lent, call: Call) -> Answer {
-    let mut pool = Pool::over(arena, room);
-    match call {
-        Call::SetUp => unit(Pool::set_up(arena, room).map(drop)),
-        Call::Grant(n) => value(pool.grant(n)),
-        Call::GrantList(l) => value(pool.grant_list(l.length, l.cap, l.sizes(), &mut lent[..l.places])),
-        Call::Release(o) => unit(pool.release(o)),
-        Call::Resize(o, n) => value(pool.resize(o, n)),
-        Call::Measure(o) => value(pool.measure(o)),
-        Call::Report => pool.report().map_or_else(Answer::Refused, Answer::Totals),
-        Call::Store(at, byte) => {
-            arena[at] = byte;
-            Answer::Done
+/// What the library is lent for a pool.
+#[derive(Clone, PartialEq)]
+pub struct Buffers {
+    pub arena: Vec<u8>,
+    pub room: Vec<u8>,
+    pub totals: Totals,
+}
+
+impl Buffers {
+    /// Buffers of a lawful length and a record, with old bytes and numbers in them.
+    pub fn old(arena_len: usize, old: u8) -> Buffers {
+        let n = usize::from(old);
+        let totals = Totals { live_blocks: n, requested_bytes: n + 1, rows_held: n + 2, rows_free: n + 3, ready_slots: n + 4, waiting_slots: n + 5 };
+        Buffers { arena: vec![old; arena_len], room: vec![!old; room_len(arena_len)], totals }
+    }
+
+    /// The library's answer to a call.
+    pub fn call(&mut self, lent: &mut Lent, call: Call) -> Answer {
+        let Buffers { arena, room, totals } = self;
+        let mut pool = Pool::over(arena, room, totals);
+        match call {
+            Call::SetUp => unit(Pool::set_up(arena, room, totals).map(drop)),
+            Call::Grant(n) => value(pool.grant(n)),
+            Call::GrantList(l) => value(pool.grant_list(l.length, l.cap, l.sizes(), &mut lent[..l.places])),
+            Call::Release(o) => unit(pool.release(o)),
+            Call::Resize(o, n) => value(pool.resize(o, n)),
+            Call::Measure(o) => value(pool.measure(o)),
+            Call::Report => pool.report().map_or_else(Answer::Refused, Answer::Totals),
+            Call::Store(at, byte) => {
+                arena[at] = byte;
+                Answer::Done
+            }
         }
     }
 }
@@ -120,58 +138,61 @@ fn second(pool: &mut Reference, lent: &mut Lent, call: Call) -> Answer {
 
 /// One pool in two implementations.
 pub struct Both {
-    pub arena: Vec<u8>,
-    pub room: Vec<u8>,
+    pub first: Buffers,
+    pub second: Reference,
     /// The lent list after the last call, in each.
     pub lent: [Lent; 2],
-    pub second: Reference,
 }
 
 impl Both {
-    /// A fresh pool, set up over old bytes.
+    /// A fresh pool, set up over old bytes and numbers.
     pub fn new(arena_len: usize, old: u8) -> Both {
-        let mut both = Both::over(&vec![old; arena_len], &vec![!old; room_len(arena_len)], Reference::set_up(arena_len));
+        let mut both = Both::over(&Buffers::old(arena_len, old), Reference::set_up(arena_len));
         both.call(Call::SetUp).expect("a lawful arena");
         both
     }
 
-    /// A copy of an arena and a room, beside a pool of the second implementation.
-    pub fn over(arena: &[u8], room: &[u8], second: Reference) -> Both {
-        Both { arena: arena.to_vec(), room: room.to_vec(), lent: [lent(); 2], second }
+    /// A copy of some buffers, beside a pool of the second implementation.
+    pub fn over(first: &Buffers, second: Reference) -> Both {
+        Both { first: first.clone(), second, lent: [lent(); 2] }
     }
 
     /// Makes a call in both and gives the two answers.
     pub fn make(&mut self, call: Call) -> (Answer, Answer) {
         self.lent = [lent(); 2];
-        let first = library(&mut self.arena, &mut self.room, &mut self.lent[0], call);
-        (first, second(&mut self.second, &mut self.lent[1], call))
+        (self.first.call(&mut self.lent[0], call), second(&mut self.second, &mut self.lent[1], call))
     }
 
     /// Makes a call in both and gives its answer, or says where they differ or what should not have changed.
     pub fn call(&mut self, call: Call) -> Result<Answer, String> {
-        let before = (self.arena.clone(), self.room.clone());
+        let before = self.first.clone();
         let (first, second) = self.make(call);
         if first != second {
             return Err(format!("{call:?}: the library answers {first:?}, the second implementation {second:?}"));
         }
-        if self.arena != self.second.arena {
-            let at = (0..self.arena.len()).find(|&i| self.arena[i] != self.second.arena[i]).unwrap();
-            return Err(format!("{call:?}: byte {at} is {} and should be {}", self.arena[at], self.second.arena[at]));
+        let Buffers { arena, room, totals } = &self.first;
+        if *arena != self.second.arena {
+            let at = (0..arena.len()).find(|&i| arena[i] != self.second.arena[i]).unwrap();
+            return Err(format!("{call:?}: byte {at} is {} and should be {}", arena[at], self.second.arena[at]));
         }
-        if self.room != self.second.tables().write() {
+        if *room != self.second.tables().write() {
             return Err(format!("{call:?}: the tables differ"));
         }
-        if matches!(first, Answer::Refused(_)) && (&self.arena, &self.room) != (&before.0, &before.1) {
+        let due = self.second.report();
+        if *totals != due {
+            return Err(format!("{call:?}: {first:?}: the record is {totals:?} and should be {due:?}"));
+        }
+        if matches!(first, Answer::Refused(_)) && self.first != before {
             return Err(format!("{call:?}: refused, and something changed"));
         }
-        let (before, [after, due]): (Lent, _) = (lent(), self.lent);
-        let written = entries(call, first);
-        if after != due || after[written..] != before[written..] {
-            return Err(format!("{call:?}: {first:?}: the lent list is {after:?} and should be {due:?}"));
+        let (before, [after, written]): (Lent, _) = (lent(), self.lent);
+        let entries = entries(call, first);
+        if after != written || after[entries..] != before[entries..] {
+            return Err(format!("{call:?}: {first:?}: the lent list is {after:?} and should be {written:?}"));
         }
-        let totals = library(&mut self.arena, &mut self.room, &mut lent(), Call::Report);
-        if totals != Answer::Totals(self.second.report()) {
-            return Err(format!("{call:?}: report gives {totals:?} and should give {:?}", self.second.report()));
+        let told = self.first.call(&mut lent(), Call::Report);
+        if told != Answer::Totals(due) {
+            return Err(format!("{call:?}: report gives {told:?} and should give {due:?}"));
         }
         Ok(first)
     }

@@ -7,7 +7,7 @@ use slotpool_reference::{ENTRIES, TOO_LARGE};
 /// A cap: small, or the size of a live block, or any.
 fn cap(numbers: &mut Numbers, both: &Both) -> usize {
     match numbers.below(8) {
-        0 => size(numbers, both.arena.len()).clamp(1, TOO_LARGE - 1),
+        0 => size(numbers, both.first.arena.len()).clamp(1, TOO_LARGE - 1),
         1..=2 => block(numbers, both).map_or(1, |b| b.1),
         3..=4 => 1 + numbers.below(12),
         _ => 1 + numbers.below(300),

@@ -57,9 +57,9 @@ fn offset(numbers: &mut Numbers, both: &Both) -> usize {
         0..=13 if !live.is_empty() => numbers.of(&live).0,
         14..=15 if !freed.is_empty() => numbers.of(&freed),
         16 if !live.is_empty() => (numbers.of(&live).0 + numbers.below(65)).saturating_sub(32),
-        17 => 16 * numbers.below(both.arena.len() / 16 + 4),
-        18 => numbers.below(both.arena.len() + 64),
-        _ => numbers.of(&[0, 1, 15, 16, 17, 511, 512, usize::MAX, usize::MAX - 16, both.arena.len(), both.arena.len() - 1]),
+        17 => 16 * numbers.below(both.first.arena.len() / 16 + 4),
+        18 => numbers.below(both.first.arena.len() + 64),
+        _ => numbers.of(&[0, 1, 15, 16, 17, 511, 512, usize::MAX, usize::MAX - 16, both.first.arena.len(), both.first.arena.len() - 1]),
     }
 }
 
@@ -86,7 +86,7 @@ pub fn next_call(numbers: &mut Numbers, both: &Both, engine: Engine) -> Call {
             if !live.is_empty() && numbers.one_in(2) {
                 Call::Grant(numbers.of(&live).1)
             } else {
-                Call::Grant(size(numbers, both.arena.len()))
+                Call::Grant(size(numbers, both.first.arena.len()))
             }
         }
         0..=62 => Call::Release(offset(numbers, both)),
@@ -97,7 +97,7 @@ pub fn next_call(numbers: &mut Numbers, both: &Both, engine: Engine) -> Call {
                 0 => old,
                 1 => (old + numbers.below(40)).saturating_sub(20),
                 2 => old / 2 + numbers.below(old + 1),
-                _ => size(numbers, both.arena.len()),
+                _ => size(numbers, both.first.arena.len()),
             };
             Call::Resize(o, n)
         }

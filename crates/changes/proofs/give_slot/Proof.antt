@@ -1,5 +1,6 @@
 -- `give_slot` meets its contract.
 use Rattle.mem.proofs.Prelude.{_+_, _<_, _≤_, arith, now, needs, length}
+use lib.Count.{ones-le}
 use Rattle.classes.proofs.Laws.{rows-pos}
 use Rattle.classes.specs.Classes.{rowsOf}
 use Rattle.model.specs.Tables.{rowAt, rowRecordBytes}
@@ -40,15 +41,16 @@ drop-rows-requires c κs =
 
 returns : tie.Need-returns
 returns c p h =
-    let r = c .before .before .before .rows in
-    let z = c .before .before .before .before .before in
+    let d = c .before .before .before in
+    let r = d .before .before .rows in
+    let z = d .before .before .before .before in
     let n = z .before .before .slots in
     let g = z .before .before .before in
     let m = g .before .before .masks-at in
     let a = g .before .before .before .before .before .args in
     given-last (a .row) (now (a .room)) (a .b) p h (m .result) (m .ensures) (g .give-back .result) (g .give-back .ensures) (z .before .live .result)
-    (rw (← (n .ensures .0)) (z .before .live .ensures)) (c .before .before .drop-rows .last .0) (z .if1 .taken) (r .result) (r .ensures .0)
-    (c .before .before .drop-rows .ensures)
+    (rw (← (n .ensures .0)) (z .before .live .ensures)) (d .before .drop-rows .last .0) (z .if1 .taken) (r .result) (r .ensures .0)
+    (d .before .drop-rows .ensures)
 
 returns-2 : tie.Need-returns-2
 returns-2 c p h =
@@ -60,10 +62,22 @@ returns-2 c p h =
     given-back (a .row) (now (a .room)) (a .b) p h (m .result) (m .ensures) (g .give-back .result) (g .give-back .ensures) (z .before .live .result)
     (rw (← (n .ensures .0)) (z .before .live .ensures)) (c .before .before .store .last .0) (z .if1 .left) (c .before .before .store .ensures)
 
+-- a mask has no more than 32 slots
+cast-t17 : tie.Need-cast-t17
+cast-t17 c =
+    let m = c .before .before .before .before .before .before .before .before .before .before .before .masks-at .result in
+    omega (arith, ones-le 32 (m .ready) (search needs))
+
+cast-t20 : tie.Need-cast-t20
+cast-t20 c =
+    let m = c .before .before .before .before .before .before .before .before .before .before .before .before .masks-at .result in
+    omega (arith, ones-le 32 (m .waiting) (search needs))
+
 pub give-slot-spec : {M : Type 1} → statement M
 give-slot-spec =
     tie.close (tie.spec (λ c κs. inside (c .before .before)) (λ c. omega (arith, held (c .before .before .before .before) .1)) give-back-requires
     (λ c κs. held (c .before .before .before .before .before) .0) (λ c. search needs) live-requires
-    (λ c κs. (held (c .before .before .before .before .before .before .before .before .before) .0, search needs)) drop-rows-requires (λ c. search needs)
-    returns (λ c κs. let s = c .before .before .before .before .before .before .before .before .before in (inside s, held s .1)) (λ c. search needs)
+    (λ c κs. (held (c .before .before .before .before .before .before .before .before .before) .0, search needs)) drop-rows-requires cast-t17 cast-t20
+    (λ c. search needs) returns
+    (λ c κs. let s = c .before .before .before .before .before .before .before .before .before in (inside s, held s .1)) (λ c. search needs)
     returns-2)

@@ -1,9 +1,9 @@
 -- `take_slot` meets its contract.
-use Rattle.mem.proofs.Prelude.{_+_, _<_, _≤_, arith, now, needs, length}
+use Rattle.mem.proofs.Prelude.{_∙_, _+_, _<_, _≤_, arith, now, needs, length}
 use Rattle.classes.proofs.Laws.{rows-pos}
 use Rattle.masks.specs.Sets.{lowest}
 use Rattle.model.specs.Tables.{rowAt, rowRecordBytes}
-use Rattle.changes.proofs.Laws.{ready-number, taken-slot}
+use Rattle.changes.proofs.Laws.{ready-number, refilled-site, taken-slot}
 use Rattle.changes.proofs.take_slot.Statement.{statement}
 use Rattle.changes.proofs.take_slot.Tie as tie
 
@@ -34,17 +34,23 @@ store-requires c κs =
 
 returns : tie.Need-returns
 returns c row g o =
-    let x = c .before .before .before .before .before .before in
+    let w = c .before .before .before .before in
+    let x = w .before .before .before in
     let l = x .before .before in
     let m = l .before in
     let m₀ = m .before in
     let a = m₀ .before .before .before .args in
-    taken-slot (a .i) (a .c) (a .n) (now (a .room)) (m₀ .masks-at .result) (m .refill .result) (m₀ .masks-at .ensures) (m .refill .ensures) row g o
-    (l .lowest .result) (x .slot-at .result) (c .before .before .before .before .before .grant-slot .result) (c .before .before .before .take .result)
-    (c .before .before .store .last .0) (l .lowest .ensures) (x .slot-at .ensures) (c .before .before .before .before .before .grant-slot .ensures)
-    (c .before .before .before .take .ensures) (c .before .before .store .ensures)
+    let d = taken-slot (a .i) (a .c) (a .n) (now (a .room)) (m₀ .masks-at .result) (m .refill .result) (m₀ .masks-at .ensures) (m .refill .ensures) row g o
+    (l .lowest .result) (x .slot-at .result) (w .before .before .grant-slot .result) (w .take .result) (c .before .before .before .store .last .0) (l .lowest .ensures)
+    (x .slot-at .ensures) (w .before .before .grant-slot .ensures) (w .take .ensures) (c .before .before .before .store .ensures) in (
+      d .0,
+      d .1,
+      c .to-refill .ensures
+          ∙ refilled-site (a .i) (a .c) (a .n) (now (a .room)) (m₀ .masks-at .result) (m .refill .result) (m₀ .masks-at .ensures) (m .refill .ensures) row g o,
+    )
 
 pub take-slot-spec : {M : Type 1} → statement M
 take-slot-spec =
     tie.close (tie.spec (λ c κs. inside (c .before .before)) (λ c κs. search needs) (λ c κs. search needs) slot-at-requires grant-slot-requires
-    (λ c κs. ready (c .before .before .before .before .before) .0) (λ c. search needs) store-requires (λ c. search needs) (λ c. search needs) returns)
+    (λ c κs. ready (c .before .before .before .before .before) .0) (λ c. search needs) store-requires (λ c. search needs) (λ c κs. search needs)
+    (λ c. search needs) (λ c. search needs) returns)

@@ -4,29 +4,29 @@ use Rattle.mem.specs.Lists.{choose}
 use Rattle.mem.specs.Bytes.{put}
 use Rattle.classes.specs.Classes.{classOf, units}
 use Rattle.model.specs.State.{start}
-use Rattle.model.specs.Plans.{reserve, enframe, reserveAll, poolAfter}
-use Rattle.model.specs.Tables.{encode, view}
+use Rattle.model.specs.Plans.{reserve, enframe, reserveAll, poolAfter, totals}
+use Rattle.model.specs.Tables.{view}
 use Rattle.model.specs.Calls.{written}
 use Rattle.model.proofs.Lists.{small-at}
 use Rattle.rows.proofs.Rooms.{by-masks}
 use Rattle.search.specs.Found.{Passed}
 use Rattle.search.proofs.Steps.{open-start}
 use Rattle.ops.specs.Blocks.{roomAfter}
-use Rattle.lists.specs.Grants.{granted, startOr, firstOr, arenaAfter}
+use Rattle.lists.specs.Grants.{granted, startOr, firstOr, totalsOr, arenaAfter}
 use Rattle.lists.proofs.Grants.{begins, ToGo, one-further, all-done}
 use Rattle.lists.proofs.grant_all.Statement.{statement}
 use Rattle.lists.proofs.grant_all.Tie as tie
 
 abbrev Inv-loop : tie.InvT-loop
-Inv-loop row arena₀ room₀ sizes starts₀ last₀ from₀ i₀ arena room starts last from i =
+Inv-loop row arena₀ room₀ sizes starts₀ kept₀ last₀ from₀ i₀ arena room starts kept last from i =
     let qs = granted (reserveAll row (view row room₀) sizes) in
     (i ≤ length sizes) × (length arena ≡ length arena₀) × (length room ≡ length room₀) × (length starts ≡ length starts₀)
     × (last .class ≡ classOf (last .size)) × (last .class < 48) × Passed row room (last .class) from
-    × ToGo row sizes (written arena₀ (map (enframe row) qs)) (encode row (poolAfter (view row room₀) qs)) (put 0 (map (start row) qs) starts₀) i
-    arena room starts
+    × ToGo row sizes (written arena₀ (map (enframe row) qs)) (poolAfter (view row room₀) qs) (put 0 (map (start row) qs) starts₀) i
+    arena room starts × (kept ≡ totals row (view row room))
 
 abbrev μ-loop : tie.MeasureT-loop
-μ-loop row arena₀ room₀ sizes starts₀ last₀ from₀ i₀ arena room starts last from i = length sizes - i
+μ-loop row arena₀ room₀ sizes starts₀ kept₀ last₀ from₀ i₀ arena room starts kept last from i = length sizes - i
 
 loop-holds : tie.Need-loop-holds Inv-loop μ-loop
 unfolding classOf units choose
@@ -40,11 +40,12 @@ loop-holds c =
       refl,
       lit≤ tt,
       open-start (s .args .row) (now (s .args .room)) 0,
-      record { lent = by-masks (h .0) (h .1 .1 .1); fits = h .1 .1 .0; arena = refl; room = refl; list = refl },
+      record { lent = by-masks (h .0) (h .1 .1 .1); fits = h .1 .1 .0 .0; arena = refl; pool = refl; list = refl },
+      h .1 .1 .0 .1,
     )
 
 mul-with-class : tie.Need-mul-with-class Inv-loop μ-loop
-mul-with-class c = omega (arith, c .before .before .before .before .before .before .good .1 .1 .1 .0)
+mul-with-class c = omega (arith, c .before .before .before .before .before .before .good .1 .1 .1 .1 .0)
 
 with-class-requires : tie.Need-with-class-requires Inv-loop μ-loop
 with-class-requires c κs =
@@ -61,13 +62,13 @@ grant-one-requires c κs =
     let h = small-at (now (s .args .sizes)) (l .i) (s .pre .1 .0 .0) (d .before .before .loop-test .taken) in
     let p = subst (Passed (s .args .row) (l .room) (d .with-class .result .class)) (sym (c .begin .ensures))
     (begins (d .with-class .result .class) (l .last .class) (l .from) (l .inv .6)) in
-    (l .inv .7 .lent .sound, ((omega (arith, w .0, h), w .1 ∙ ap classOf (sym (w .0)), w .2, p), s .pre .1 .1 .1))
+    (l .inv .7 .lent .sound, ((omega (arith, w .0, h), w .1 ∙ ap classOf (sym (w .0)), w .2, p, l .inv .8), s .pre .1 .1 .1))
 
 mul-starts : tie.Need-mul-starts Inv-loop μ-loop
 mul-starts c =
     let d = c .before .before .before .before .before .before .before .before .before .before in
     let s = d .before .before .before .before .before .before in
-    omega (arith, s .good .1 .1 .1 .0)
+    omega (arith, s .good .1 .1 .1 .1 .0)
 
 slice-write-starts : tie.Need-slice-write-starts Inv-loop μ-loop
 slice-write-starts c =
@@ -77,27 +78,28 @@ slice-write-starts c =
 
 add-i : tie.Need-add-i Inv-loop μ-loop
 add-i c =
-    let d = c .before .before .before .before .before .before .before .before .before .before in
+    let d = c .before .before .before .before .before .before .before .before .before .before .before in
     let s = d .before .before .before .before .before .before in
-    omega (arith, s .good .1 .1 .1 .0, d .loop-test .taken)
+    omega (arith, s .good .1 .1 .1 .1 .0, d .loop-test .taken)
 
 loop-less : tie.Need-loop-less Inv-loop μ-loop
-loop-less c = omega (arith, c .before .before .before .before .before .before .before .before .before .before .loop-test .taken)
+loop-less c = omega (arith, c .before .before .before .before .before .before .before .before .before .before .before .loop-test .taken)
 
 loop-again : tie.Need-loop-again Inv-loop μ-loop
 loop-again c =
-    let g = c .before .before .before .before .grant-one in
-    let w = c .before .before .before .before .before .before .before .before .with-class in
-    let d = c .before .before .before .before .before .before .before .before .before .before in
+    let g = c .before .before .before .before .before .grant-one in
+    let w = c .before .before .before .before .before .before .before .before .before .with-class in
+    let d = c .before .before .before .before .before .before .before .before .before .before .before in
     let l = d .before .loop in
     let s = d .before .before .before .before .before .before in
     let a = s .args in
     let n = reserve (a .row) (view (a .row) (l .room)) in
     let e = w .ensures .0 in
-    let (x, y) = one-further (a .row) (now (a .sizes)) _ _ _ (s .pre .1 .0 .0) (l .i) (l .arena) (l .room) (l .starts) (d .loop-test .taken) (l .inv .7)
+    let (x, y, z) = one-further (a .row) (now (a .sizes)) _ _ _ (s .pre .1 .0 .0) (l .i) (l .arena) (l .room) (l .starts) (d .loop-test .taken) (l .inv .7)
     (g .last .1 .0) (g .last .1 .1 .0) (g .result .start) (g .ensures .0 .0 ∙ ap (λ k. startOr (a .row) (n k)) e)
     (g .ensures .1 .0 ∙ ap (λ k. arenaAfter (a .row) (l .arena) (n k)) e) (g .ensures .1 .1 ∙ ap (λ k. roomAfter (a .row) (l .room) (n k)) e) (g .kept .1 .0)
-    (g .result .first) (g .ensures .0 .1 ∙ ap (λ k. firstOr (a .row) (n k)) e) in (
+    (g .result .first) (g .ensures .0 .1 ∙ ap (λ k. firstOr (a .row) (n k)) e) (l .kept) (g .result .totals)
+    (g .ensures .0 .2 ∙ ap (λ k. totalsOr (a .row) (l .kept) (n k)) e) in (
       omega (arith, d .loop-test .taken),
       g .kept .1 .0 ∙ l .inv .1,
       g .kept .1 .1 .0 ∙ l .inv .2,
@@ -106,6 +108,7 @@ loop-again c =
       w .ensures .2,
       subst (λ k. Passed (a .row) (g .last .1 .1 .0) k (g .result .first)) (sym (w .ensures .1)) y,
       x,
+      z,
     )
 
 returns : tie.Need-returns Inv-loop μ-loop
@@ -113,7 +116,7 @@ returns c =
     let a = c .before .before .before .before .before .before .args in
     let l = c .before .loop in
     let e = all-done (a .row) (now (a .sizes)) _ _ _ (l .i) (l .arena) (l .room) (l .starts) (c .loop-test .left) (l .inv .7) in
-    (e .0, (e .1, e .2))
+    (e .0, (e .1, (e .2, l .inv .8 ∙ ap (totals (a .row)) (e .3))))
 
 pub grant-all-spec : {M : Type 1} → statement M
 grant-all-spec =

@@ -5,7 +5,7 @@ use Rattle.model.specs.Tables.{byMasks, view}
 use Rattle.rows.specs.Rows.{Lent}
 use Rattle.rows.proofs.Rooms.{by-masks}
 use Rattle.ops.proofs.Moves.{reserved-none}
-use Rattle.lists.specs.Grants.{startOr, firstOr, arenaAfter}
+use Rattle.lists.specs.Grants.{startOr, firstOr, totalsOr, arenaAfter}
 use Rattle.lists.proofs.Grants.{GrantedOne, granted-one}
 use Rattle.lists.proofs.grant_one.Statement.{statement}
 use Rattle.lists.proofs.grant_one.Tie as tie
@@ -19,16 +19,17 @@ returns c =
     let a = d .before .before .before .before .args in
     let r = reserved-none (a .row) (reserve (a .row) (view (a .row) (now (a .room))) (a .s .size))
     (sym (d .reserve-in .ensures .0) ∙ c .enum-told .given .1) in
-    ((sym (ap (startOr (a .row)) r), sym (ap (firstOr (a .row)) r)), (sym (ap (arenaAfter (a .row) (now (a .arena))) r), d .reserve-in .ensures .1))
+    ((sym (ap (startOr (a .row)) r), sym (ap (firstOr (a .row)) r), sym (ap (totalsOr (a .row) (a .t)) r)), (sym (ap (arenaAfter (a .row) (now (a .arena))) r), d .reserve-in .ensures .1))
 
 -- the block that is granted
 block : (c : tie.After-known-told) → (let s = c .before .before .before .before .before .before .before .before .before in
-    GrantedOne (lent s) (s .args .s .size) (s .pre .1 .0 .0) (now (s .args .arena)) (c .before .b .given .0 .0))
+    GrantedOne (lent s) (s .args .s .size) (s .pre .1 .0 .0) (now (s .args .arena)) (s .args .t) (c .before .b .given .0 .0)
+    (c .before .b .given .0 .1 .0))
 block c =
     let d = c .before .before .before .before .before in
     let s = d .before .before .before .before in
-    granted-one (lent s) (s .args .s .size) (s .pre .1 .0 .0) (now (s .args .arena)) (c .before .b .given .0 .0)
-    (sym (d .reserve-in .ensures .0) ∙ c .before .b .given .1)
+    granted-one (lent s) (s .args .s .size) (s .pre .1 .0 .0) (now (s .args .arena)) (s .args .t) (c .before .b .given .0 .0)
+    (c .before .b .given .0 .1 .0) (sym (d .reserve-in .ensures .0) ∙ c .before .b .given .1)
 
 lay-out-requires : tie.Need-lay-out-requires
 lay-out-requires c κs =
@@ -40,7 +41,7 @@ returns-2 c =
     let g = block k in
     let d = k .before .before .before .before .before in
     let l = c .before .before .lay-out .ensures in
-    ((l .0 ∙ g .start, g .first), (l .1 ∙ g .arena, d .reserve-in .ensures .1))
+    ((l .0 ∙ g .start, g .first, g .counts), (l .1 ∙ g .arena, d .reserve-in .ensures .1))
 
 pub grant-one-spec : {M : Type 1} → statement M
 grant-one-spec =

@@ -13,7 +13,7 @@ use Rattle.ops.proofs.change_size.Statement.{statement}
 use Rattle.ops.proofs.change_size.Tie as tie
 
 stands : (s : tie.Start) → Standing (s .args .row) (length (now (s .args .arena))) (s .args .b)
-stands s = held-stands (by-masks (s .pre .0) (s .pre .1 .1 .1)) (s .pre .1 .0 .1)
+stands s = held-stands (by-masks (s .pre .0 .0) (s .pre .1 .1 .1)) (s .pre .1 .0 .1)
 
 -- a block can stay in its slot exactly if its place's plan is in place
 stays : (s : tie.Start) (p : Place) → Holds byMasks (s .args .row) (now (s .args .room)) (s .args .b) p → staysIn (s .args .b) (s .args .n)
@@ -45,6 +45,7 @@ returns c p h =
       answer = ap (λ v. done (v ∷ [])) (c .start-of .ensures ∙ ap (startAt (s .args .row)) (h .block));
       arena = r .ensures p h .0;
       room = r .ensures p h .1;
+      counts = r .ensures p h .2;
     })
 
 returns-2 : tie.Need-returns-2

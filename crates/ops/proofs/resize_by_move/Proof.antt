@@ -3,7 +3,7 @@ use Rattle.mem.proofs.Prelude.{_∙_, _≡_, sym, ap, ap₂, subst, ⊎-elim, i
 use Rattle.mem.specs.Bytes.{put, part}
 use Rattle.mem.proofs.Laws.{put-length}
 use Rattle.model.specs.State.{Place, poolOf}
-use Rattle.model.specs.Plans.{reserve}
+use Rattle.model.specs.Plans.{reserve, totals}
 use Rattle.model.specs.Tables.{byMasks, view, sound, encode}
 use Rattle.rows.specs.Rows.{Lent, blockOf, startAt, Holds}
 use Rattle.rows.proofs.Rooms.{by-masks}
@@ -14,7 +14,7 @@ use Rattle.ops.proofs.resize_by_move.Statement.{statement}
 use Rattle.ops.proofs.resize_by_move.Tie as tie
 
 room : (s : tie.Start) → Lent byMasks (s .args .row) (length (now (s .args .arena))) (now (s .args .room))
-room s = by-masks (s .pre .0) (s .pre .1 .1 .1)
+room s = by-masks (s .pre .0 .0) (s .pre .1 .1 .1)
 
 returns : tie.Need-returns
 returns c p h =
@@ -22,16 +22,17 @@ returns c p h =
     let s = d .before .before .before .before in
     let a = s .args in
     let e = reserved-none (a .row) (reserve (a .row) (view (a .row) (now (a .room))) (a .n)) (sym (d .reserve-slot .ensures .0) ∙ c .enum-told .given .1) in
-    rw (d .reserve-slot .ensures .1 ∙ ap (roomAfter (a .row) (now (a .room))) e) (moved-nowhere (room s) (a .n) h (now (a .arena)) e)
+    rw (d .reserve-slot .ensures .1 ∙ ap (roomAfter (a .row) (now (a .room))) e) (moved-nowhere (room s) (a .n) h (now (a .arena)) (a .t) (s .pre .0 .1) e)
 
 -- the place that is taken, and the room with it
 new : (c : tie.After-known-told) → (let d = c .before .before .before .before .before in
     let a = d .before .before .before .before .args in
-    (q : Place) × (reserve (a .row) (view (a .row) (now (a .room))) (a .n) ≡ some q) × (blockOf (a .row) q ≡ c .before .q .given .0 .0))
+    (q : Place) × (reserve (a .row) (view (a .row) (now (a .room))) (a .n) ≡ some q) × (blockOf (a .row) q ≡ c .before .q .given .0 .0)
+    × (totals (a .row) (poolOf q) ≡ c .before .q .given .0 .1 .0))
 new c =
     let d = c .before .before .before .before .before in
     let a = d .before .before .before .before .args in
-    reserved-place (a .row) (reserve (a .row) (view (a .row) (now (a .room))) (a .n)) (c .before .q .given .0 .0)
+    reserved-place (a .row) (reserve (a .row) (view (a .row) (now (a .room))) (a .n)) (c .before .q .given .0 .0) (c .before .q .given .0 .1 .0)
     (sym (d .reserve-slot .ensures .0) ∙ c .before .q .given .1)
 
 after : (c : tie.After-known-told) → (let d = c .before .before .before .before .before in
@@ -46,7 +47,7 @@ stands : (c : tie.After-known-told) → (let a = c .before .before .before .befo
     Standing (a .row) (length (now (a .arena))) (c .before .q .given .0 .0))
 stands c =
     let s = c .before .before .before .before .before .before .before .before .before in
-    let (q, f, e) = new c in
+    let (q, f, e, z₀) = new c in
     rw (sym e) (reserve-leaves (room s) (s .args .n) (s .pre .1 .1 .0) q f .stands)
 
 old : (s : tie.Start) → Standing (s .args .row) (length (now (s .args .arena))) (s .args .b)
@@ -63,7 +64,7 @@ copy-within-requires c κs =
     let k = c .before .before .before .before .before .before .before in
     let s = k .before .before .before .before .before .before .before .before .before in
     let a = s .args in
-    let (q, f, e) = new k in
+    let (q, f, e, z₀) = new k in
     let h = stands k in
     let o = old s in
     let x = c .before .before .before .before .before .lay-out in
@@ -101,8 +102,11 @@ discard-requires c κs =
     let y = c .before .before .before .before .copy-within in
     let l : length (y .last .0) ≡ length (now (a .arena)) = ap length (y .ensures) ∙ put-length _ _ (x .last .1 .0) ∙ ap length (x .ensures .1)
     ∙ put-length _ _ (now (a .arena)) in
-    let (q, f, e) = new k in (
-      ap₂ (sound (a .row)) l (after k) ∙ reserve-leaves (room s) (a .n) (s .pre .1 .1 .0) q f .room .sound,
+    let (q, f, e, z₀) = new k in (
+      (
+        ap₂ (sound (a .row)) l (after k) ∙ reserve-leaves (room s) (a .n) (s .pre .1 .1 .0) q f .room .sound,
+        sym z₀ ∙ ap (totals (a .row)) (sym (ap (view (a .row)) (after k) ∙ reserve-leaves (room s) (a .n) (s .pre .1 .1 .0) q f .says)),
+      ),
       ((_, still k (s .pre .1 .0 .0) (s .pre .1 .0 .1)), s .pre .1 .1 .1),
     )
 
@@ -122,7 +126,7 @@ returns-2 c p h =
     let copied : y .last .0 ≡ put (startAt (a .row) b) (part (startAt (a .row) (a .b)) (min (a .b .alloc .size) (a .n)) (x .last .1 .0)) (x .last .1 .0) =
     y .ensures ∙ rw (x .ensures .0, from .ensures, m .ensures) in
     moved (room s) (a .n) (s .pre .1 .1 .0) (new k .0) (new k .1) h b (now (a .arena)) (x .last .1 .0) (y .last .0) (d .last .1 .0) (d .last .1 .1 .0)
-    (x .result) (new k .2) (x .ensures .1) copied (g .0) (g .1) (x .ensures .0)
+    (x .result) (d .result) (new k .2) (x .ensures .1) copied (g .0) (g .1) (g .2) (x .ensures .0)
 
 pub resize-by-move-spec : {M : Type 1} → statement M
 resize-by-move-spec =

@@ -3,12 +3,13 @@ use Rattle.mem.proofs.Prelude.{_∙_, arith, now, needs, length}
 use Rattle.rows.proofs.Rooms.{by-masks}
 use Rattle.ops.specs.Blocks.{Standing}
 use Rattle.ops.proofs.Places.{held-stands}
+use Rattle.ops.proofs.Counts.{sized-counts}
 use Rattle.ops.proofs.Plans.{stays-fits, in-place-writes, in-place-pool}
 use Rattle.ops.proofs.resize_in_place.Statement.{statement}
 use Rattle.ops.proofs.resize_in_place.Tie as tie
 
 stands : (s : tie.Start) → Standing (s .args .row) (length (now (s .args .arena))) (s .args .b)
-stands s = held-stands (by-masks (s .pre .0) (s .pre .1 .1 .1)) (s .pre .1 .0 .1)
+stands s = held-stands (by-masks (s .pre .0 .0) (s .pre .1 .1 .1)) (s .pre .1 .0 .1)
 
 owned-of-requires : tie.Need-owned-of-requires
 owned-of-requires c κs = let h = stands (c .before .before .before .before) in ((h .class, h .slot, omega (arith, h .few)), search needs)
@@ -26,16 +27,25 @@ resize-slot-requires c κs =
     let s = c .before .before .before .before .before .before .before .before .before in
     (s .args .row, s .pre .1 .0 .0, s .pre .1 .0 .1)
 
+sized-requires : tie.Need-sized-requires
+sized-requires c κs =
+    let s = c .before .before .before .before .before .before .before .before .before .before .before .before in
+    let d = sized-counts (s .pre .1 .0 .1) (s .args .t) (s .pre .0 .1) (s .args .n) (s .pre .1 .1 .0 .1) in
+    (_, d .0, d .1)
+
 returns : tie.Need-returns
 returns c p h =
-    let r = c .before .before .before .before .before .before in
+    let r = c .before .before .before .before .before .before .before in
     let kept = r .before .before .before .lesser in
-    let a = r .before .before .before .before .before .before .args in (
+    let s = r .before .before .before .before .before .before in
+    let a = s .args in (
       in-place-writes h (now (a .arena)) (a .n) (r .before .owned-of .result) (kept .result) (r .reframe-at .last .0) (r .before .owned-of .ensures .0)
           (kept .ensures) (r .reframe-at .ensures),
-      c .before .before .resize-slot .ensures (a .row) p h ∙ in-place-pool (a .row) p (a .n),
+      c .before .before .before .resize-slot .ensures (a .row) p h ∙ in-place-pool (a .row) p (a .n),
+      c .sized .ensures _ (sized-counts h (a .t) (s .pre .0 .1) (a .n) (s .pre .1 .1 .0 .1) .0),
     )
 
 pub resize-in-place-spec : {M : Type 1} → statement M
 resize-in-place-spec =
-    tie.close (tie.spec (λ c κs. search needs) owned-of-requires reframe-at-requires resize-slot-requires (λ c. search needs) (λ c. search needs) returns)
+    tie.close (tie.spec (λ c κs. search needs) owned-of-requires reframe-at-requires resize-slot-requires sized-requires (λ c. search needs)
+    (λ c. search needs) returns)

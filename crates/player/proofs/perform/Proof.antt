@@ -4,14 +4,18 @@ use Rattle.mem.specs.Lists.{choose}
 use Rattle.mem.specs.Bytes.{part}
 use Rattle.mem.proofs.Tests.{choose-true, choose-false}
 use Rattle.classes.specs.Classes.{rowBytes}
-use Rattle.model.specs.Answers.{Answer, done}
+use Rattle.model.specs.declared.Totals.{Totals}
+use Rattle.model.specs.declared.Answered.{Answered}
+use Rattle.model.specs.Answers.{Answer, done, replyAnswer}
 use Rattle.model.specs.Plans.{Call, grants, releases, resizes, measures, reports}
-use Rattle.model.specs.Calls.{call}
-use Rattle.model.proofs.Calls.{measure-keeps, report-keeps}
+use Rattle.model.specs.Calls.{KeptBytes, keptIn, Result, call}
+use Rattle.model.proofs.Calls.{LeftAsIs, measure-keeps, report-keeps}
 use Rattle.trace.specs.declared.Op.{Op}
 use Rattle.trace.specs.Trace.{Within, operationOf}
 use Rattle.trace.specs.Replay.{Line, Effect, effect, performed}
-use Rattle.player.specs.Printed.{lineText}
+use Rattle.player.specs.declared.Told.{Told}
+use Rattle.player.specs.declared.Played.{Played}
+use Rattle.player.specs.Printed.{lineText, answerOf, Short}
 use Rattle.player.proofs.Laws.{Parts, of-call, of-store}
 use Rattle.player.proofs.Lines.{report-short}
 use Rattle.player.proofs.perform.Statement.{statement}
@@ -19,7 +23,7 @@ use Rattle.player.proofs.perform.Tie as tie
 
 -- what an operation does, at the function's entry
 abbrev does : (s : tie.Start) → Op → Effect
-does s o = performed rowBytes (now (s .args .arena)) (now (s .args .room)) (operationOf (now (s .args .trace)) o)
+does s o = performed rowBytes (now (s .args .arena)) (keptIn (now (s .args .room)) (s .args .t)) (operationOf (now (s .args .trace)) o)
 
 -- the bytes of a store lie in the trace
 inside : (c : tie.After-op5) → (let s = c .before .before .before .before .before in
@@ -37,58 +41,79 @@ part-store-end : tie.Need-part-store-end
 part-store-end c = inside (c .before .before) .1
 
 -- a call made at the function's entry, for the operation that was read
-asks : (s : tie.Start) (o : Op) (c : Call) (x : Answer) (b u : List ℕ) → s .args .op ≡ o
-    → does s o ≡ effect (call rowBytes (now (s .args .arena)) (now (s .args .room)) c)
-    → (let r = call rowBytes (now (s .args .arena)) (now (s .args .room)) c in (x ≡ r .answer) × ((b ≡ r .arena) × (u ≡ r .room)))
-    → Parts (record { tells = some x; arena = b; room = u }) (does s (s .args .op))
-asks s o c x b u e d r = of-call (does s (s .args .op)) (call rowBytes (now (s .args .arena)) (now (s .args .room)) c) x b u (ap (does s) e ∙ d) r
+asks : (s : tie.Start) (o : Op) (c : Call) (x : Answer) (b u : List ℕ) (z : Totals) → s .args .op ≡ o
+    → does s o ≡ effect (call rowBytes (now (s .args .arena)) (keptIn (now (s .args .room)) (s .args .t)) c)
+    → (let r = call rowBytes (now (s .args .arena)) (keptIn (now (s .args .room)) (s .args .t)) c in
+    (x ≡ r .answer) × ((b ≡ r .arena) × ((u ≡ r .room .tables) × (z ≡ r .room .totals))))
+    → Parts (record { tells = some x; arena = b; room = keptIn u z }) (does s (s .args .op))
+asks s o c x b u z e d r = of-call (does s (s .args .op)) (call rowBytes (now (s .args .arena)) (keptIn (now (s .args .room)) (s .args .t)) c) x b u z (ap (does s) e ∙ d) r
+
+-- a call that tells one value and its totals
+tells : (s : tie.Start) (p : Played) (r : Answered) (b u : List ℕ) → (p .told ≡ Told.One (r .reply)) × (p .totals ≡ r .totals)
+    → Parts (record { tells = some (replyAnswer (r .reply)); arena = b; room = keptIn u (r .totals) }) (does s (s .args .op))
+    → Short (p .told) × (let d = does s (s .args .op) in
+    (answerOf (p .told) ≡ d .tells) × ((b ≡ d .arena) × ((u ≡ d .room .tables) × (p .totals ≡ d .room .totals))))
+tells s p r b u e h = (
+  subst Short (sym (e .0)) tt,
+  (ap answerOf (e .0) ∙ h .0, (h .1 .0, (h .1 .1 .0, e .1 ∙ h .1 .1 .1))),
+)
 
 returns : tie.Need-returns
 unfolding performed operationOf
 returns c =
-    let g = c .before .before .before .before in
+    let g = c .before .before .before .before .before in
     let o = g .before .before .before .before in
+    let s = o .before .before .before .before .before in
     let x = o .op .given .0 in
-    (tt, asks (o .before .before .before .before .before) (Op.Grant (x .0)) (grants (x .0)) _ _ _ (o .op .given .1) refl (g .grant .ensures))
+    tells s (c .tell .result) (g .grant .result) _ _ (c .tell .ensures)
+    (asks s (Op.Grant (x .0)) (grants (x .0)) _ _ _ _ (o .op .given .1) refl (g .grant .ensures))
 
 returns-2 : tie.Need-returns-2
 unfolding performed operationOf
 returns-2 c =
-    let g = c .before .before .before .before in
+    let g = c .before .before .before .before .before in
     let o = g .before .before .before .before in
+    let s = o .before .before .before .before .before in
     let x = o .op2 .given .0 in
-    (tt, asks (o .before .before .before .before .before) (Op.Release (x .0)) (releases (x .0)) _ _ _ (o .op2 .given .1) refl (g .release .ensures))
+    tells s (c .tell2 .result) (g .release .result) _ _ (c .tell2 .ensures)
+    (asks s (Op.Release (x .0)) (releases (x .0)) _ _ _ _ (o .op2 .given .1) refl (g .release .ensures))
 
 returns-3 : tie.Need-returns-3
 unfolding performed operationOf
 returns-3 c =
-    let g = c .before .before .before .before in
+    let g = c .before .before .before .before .before in
     let o = g .before .before .before .before in
-    let x = o .op3 .given .0 in (
-      tt,
-      asks (o .before .before .before .before .before) (Op.Resize (x .0) (x .1 .0))
-          (resizes (x .0) (x .1 .0)) _ _ _ (o .op3 .given .1) refl (g .resize .ensures),
-    )
+    let s = o .before .before .before .before .before in
+    let x = o .op3 .given .0 in
+    tells s (c .tell3 .result) (g .resize .result) _ _ (c .tell3 .ensures)
+    (asks s (Op.Resize (x .0) (x .1 .0)) (resizes (x .0) (x .1 .0)) _ _ _ _ (o .op3 .given .1) refl (g .resize .ensures))
+
+-- what a call leaves that only reads
+as-they-were : {a : List ℕ} {t : KeptBytes} {r : Result} → LeftAsIs a t r → (a ≡ r .arena) × ((t .tables ≡ r .room .tables) × (t .totals ≡ r .room .totals))
+as-they-were k = (sym (k .arena), (sym (ap (λ (t : KeptBytes). t .tables) (k .room)), sym (ap (λ (t : KeptBytes). t .totals) (k .room))))
 
 returns-4 : tie.Need-returns-4
 unfolding performed operationOf
 returns-4 c =
     let s = c .before .before .before .before .before .before .before .before .before in
     let o = c .before .before .before .before .op4 .given in
-    let k = measure-keeps rowBytes (now (s .args .arena)) (now (s .args .room)) (o .0 .0) in
-    (tt, asks s (Op.Measure (o .0 .0)) (measures (o .0 .0)) _ _ _ (o .1) refl (c .measure .ensures, (sym (k .arena), sym (k .room))))
+    let k = measure-keeps rowBytes (now (s .args .arena)) (keptIn (now (s .args .room)) (s .args .t)) (o .0 .0) in
+    (tt, asks s (Op.Measure (o .0 .0)) (measures (o .0 .0)) _ _ _ _ (o .1) refl (c .measure .ensures, as-they-were k))
 
 -- a store made of a part of the trace
 stores : (g : tie.After-store)
     → (let s = g .before .before .before .before .before .before .before .before .before in
-    Parts (record { tells = choose (g .store .result) (some (done (0 ∷ []))) none; arena = g .store .last .0; room = now (s .args .room) })
-    (does s (s .args .op)))
+    Parts (record {
+      tells = choose (g .store .result) (some (done (0 ∷ []))) none;
+      arena = g .store .last .0;
+      room = keptIn (now (s .args .room)) (s .args .t);
+    }) (does s (s .args .op)))
 unfolding operationOf
 stores g =
     let s = g .before .before .before .before .before .before .before .before .before in
     let o = g .before .before .before .before .op5 .given in
     let bs = part (o .0 .1 .0) (o .0 .1 .1 .0 - o .0 .1 .0) (now (s .args .trace)) in
-    of-store rowBytes (does s (s .args .op)) (now (s .args .arena)) (now (s .args .room)) bs (g .store .last .0) (o .0 .0) (g .store .result)
+    of-store rowBytes (does s (s .args .op)) (now (s .args .arena)) (keptIn (now (s .args .room)) (s .args .t)) bs (g .store .last .0) (o .0 .0) (g .store .result)
     (ap (does s) (o .1)) (g .store .ensures)
 
 returns-5 : tie.Need-returns-5
@@ -101,17 +126,18 @@ returns-7 : tie.Need-returns-7
 unfolding performed operationOf
 returns-7 c =
     let s = c .before .before .before .before .before .before .before .before in
-    let k = report-keeps rowBytes (now (s .args .arena)) (now (s .args .room)) in
+    let k = report-keeps rowBytes (now (s .args .arena)) (keptIn (now (s .args .room)) (s .args .t)) in
     let e = c .report .ensures in (
-      subst (λ (r : Answer). length (lineText (Line.told r)) ≤ 45) (sym e) (report-short (now (s .args .arena)) (now (s .args .room))),
-      asks s Op.Report reports _ _ _ (c .before .before .before .enum-told .given .1) refl (e, (sym (k .arena), sym (k .room))),
+      subst (λ (r : Answer). length (lineText (Line.told r)) ≤ 45) (sym e) (report-short (now (s .args .arena)) (keptIn (now (s .args .room)) (s .args .t))),
+      asks s Op.Report reports _ _ _ _ (c .before .before .before .enum-told .given .1) refl (e, as-they-were k),
     )
 
 pub perform-spec : {M : Type 1} → statement M
 perform-spec =
     tie.close
     (tie.spec
-    (λ c. search needs) (λ c κs. search needs) (λ c. search needs) (λ c κs. search needs) (λ c. search needs) (λ c κs. search needs) (λ c. search needs)
+    (λ c. search needs) (λ c κs. search needs) (λ c κs. search needs) (λ c. search needs) (λ c κs. search needs) (λ c κs. search needs)
+    (λ c. search needs) (λ c κs. search needs) (λ c κs. search needs) (λ c. search needs)
     (λ c κs. search needs) (λ c. search needs) sub-store part-store-start part-store-end (λ c κs. search needs) (λ c. search needs) (λ c κs. search needs)
     (λ c. search needs) (λ c. search needs) returns (λ c. search needs) (λ c. search needs) returns-2 (λ c. search needs) (λ c. search needs) returns-3
     (λ c. search needs) (λ c. search needs) returns-4 (λ c. search needs) returns-5 (λ c. search needs) returns-6 (λ c. search needs) (λ c. search needs)

@@ -3,6 +3,7 @@ use Rattle.mem.proofs.Prelude.{_∙_, sym, ap, ap₂, List, ℕ, arith, not-fal
 use Rattle.mem.specs.Bytes.{put}
 use Rattle.mem.proofs.Laws.{put-length}
 use Rattle.io.proofs.Counting.{counts}
+use Rattle.model.specs.Calls.{keptIn}
 use Rattle.trace.specs.Replay.{Line}
 use Rattle.player.specs.Printed.{lineText, printed, playedText}
 use Rattle.trace.proofs.Laws.{right-length}
@@ -16,14 +17,14 @@ returns c =
     let a = r .before .before .before .before .args in
     let e = c .put-bad .ensures in
     let h = sym (r .readable .ensures) ∙ not-true (r .readable .result) (c .before .before .if1 .taken) in
-    let w = printed-bad (now (a .arena)) (now (a .room)) (now (a .trace)) h in
+    let w = printed-bad (now (a .arena)) (keptIn (now (a .room)) (a .t)) (now (a .trace)) h in
     let o = e .1 .0 ∙ ap (λ (t : List ℕ). put 0 t (now (a .out))) (sym w) in
     let l = put-length 0 (lineText (Line.bad 0)) (now (a .out)) in
     (omega (arith, e .0, ap length w), (o, counts _ _ (omega (arith, e .1 .1, ap length (e .1 .0), l))))
 
 play-requires : tie.Need-play-requires
 play-requires c κs =
-    let i = c .before .before .before .before .before .before .before .before .before .before in
+    let i = c .before .before .before .before .before .before .before .before .before .before .before in
     let a = i .before .before .before .before .before .args in
     let l = right-length (now (a .trace)) (sym (i .before .readable .ensures) ∙ not-false (i .before .readable .result) (i .if1 .left)) in
     (l .0, l .1, search needs)
@@ -31,15 +32,16 @@ play-requires c κs =
 returns-2 : tie.Need-returns-2
 returns-2 c =
     let p = c .before .before .before .before in
-    let u = p .before .before .before .before .before .before .before .before in
+    let u = p .before .before .before .before .before .before .before .before .before in
     let i = u .before .before .before in
     let a = i .before .before .before .before .before .args in
     let e = p .play .ensures in
     let h = sym (i .before .readable .ensures) ∙ not-false (i .before .readable .result) (i .if1 .left) in
-    let w = ap₂ (λ b t. playedText b t (now (a .trace))) (u .set-up .ensures .1 .0) (u .set-up .ensures .1 .1)
-    ∙ sym (printed-played (now (a .arena)) (now (a .room)) (now (a .trace)) h) in
+    let v = u .set-up .ensures .1 in
+    let w = ap₂ (λ b t. playedText b t (now (a .trace))) (v .0) (ap₂ keptIn (v .1 .0) (v .1 .1))
+    ∙ sym (printed-played (now (a .arena)) (keptIn (now (a .room)) (a .t)) (now (a .trace)) h) in
     let o = e .1 .0 ∙ ap (λ (t : List ℕ). put 0 t (now (a .out))) w in
-    let l = put-length 0 (printed (now (a .arena)) (now (a .room)) (now (a .trace))) (now (a .out)) in
+    let l = put-length 0 (printed (now (a .arena)) (keptIn (now (a .room)) (a .t)) (now (a .trace))) (now (a .out)) in
     (e .0 ∙ ap length w, (o, counts _ _ (omega (arith, e .1 .1, ap length o, l))))
 
 pub replay-spec : {M : Type 1} → statement M

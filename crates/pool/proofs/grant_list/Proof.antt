@@ -6,12 +6,13 @@ use Rattle.mem.proofs.Tests.{true-T, T-true}
 use Rattle.classes.specs.Classes.{rowBytes}
 use Rattle.model.specs.Proposals.{entries, accepts, plannable}
 use Rattle.model.specs.declared.Refusal.the-variants.{Unsound, NoRoom, TooLong, BadProposal}
-use Rattle.model.specs.Plans.{grantsList, reserveAll}
-use Rattle.model.specs.Tables.{byMasks, view}
+use Rattle.model.specs.Plans.{grantsList, reserveAll, totals}
+use Rattle.model.specs.Tables.{view}
+use Rattle.model.specs.Calls.{keptIn}
+use Rattle.model.proofs.Kept.{kept-totals}
 use Rattle.model.proofs.Calls.{call-unsound}
 use Rattle.model.proofs.Lists.{small, accepts-small, accepts-few}
-use Rattle.rows.specs.Rows.{Lent}
-use Rattle.rows.proofs.Rooms.{by-masks}
+use Rattle.ops.proofs.Calls.{Checked, by-check}
 use Rattle.pool.proofs.Lists.{refused-parts, too-long, bad-proposal, no-room, whole}
 use Rattle.pool.proofs.grant_list.Statement.{statement}
 use Rattle.pool.proofs.grant_list.Tie as tie
@@ -22,14 +23,20 @@ returns c =
     let w = c .before .sound in
     let a = c .before .before .before .before .before .before .before .args in
     refused-parts Unsound (now (a .starts))
-    (call-unsound rowBytes (now (a .arena)) (now (a .room)) (grantsList (a .total) (a .cap) (length (now (a .starts))) (now (a .sizes))) tt
+    (call-unsound rowBytes (now (a .arena)) (keptIn (now (a .room)) (a .t)) (grantsList (a .total) (a .cap) (length (now (a .starts))) (now (a .sizes))) tt
     (sym (w .ensures) ∙ not-true (w .result) (c .if1 .taken)))
 
 -- the tables are sound
 lent : (c : tie.Else1) → (let a = c .before .before .before .before .before .before .before .args in
-    Lent byMasks rowBytes (length (now (a .arena))) (now (a .room)))
+    Checked rowBytes (now (a .arena)) (keptIn (now (a .room)) (a .t)))
 unfolding rowBytes
-lent c = by-masks (sym (c .before .sound .ensures) ∙ not-false (c .before .sound .result) (c .if1 .left)) (lit≤ tt, lit≤ tt)
+lent c =
+    let a = c .before .before .before .before .before .before .before .args in
+    by-check (now (a .arena)) (keptIn (now (a .room)) (a .t)) (sym (c .before .sound .ensures) ∙ not-false (c .before .sound .result) (c .if1 .left)) (lit≤ tt, lit≤ tt)
+
+counts : (c : tie.Else1) → (let a = c .before .before .before .before .before .before .before .args in a .t ≡ totals rowBytes (view rowBytes (now (a .room))))
+unfolding rowBytes
+counts c = let a = c .before .before .before .before .before .before .before .args in kept-totals rowBytes (length (now (a .arena))) (keptIn (now (a .room)) (a .t)) (lent c .kept)
 
 returns-2 : tie.Need-returns-2
 unfolding rowBytes
@@ -82,7 +89,7 @@ fits-requires c κs =
     let d = c .before in
     let s = d .before .before .before .before .before in
     let a = s .before .before .before .before .before .before .before .args in
-    (lent s .sound, (T-true (small (now (a .sizes))) (accepts-small (a .total) (a .cap) (now (a .sizes)) (true-T _ (right d))), (lit≤ tt, lit≤ tt)))
+    (lent s .room .sound, (T-true (small (now (a .sizes))) (accepts-small (a .total) (a .cap) (now (a .sizes)) (true-T _ (right d))), (lit≤ tt, lit≤ tt)))
 
 returns-5 : tie.Need-returns-5
 unfolding rowBytes
@@ -113,8 +120,8 @@ grant-all-requires c κs =
     let a = s .before .before .before .before .before .before .before .args in
     let t = true-T _ (right d) in
     let f = accepts-few (a .total) (a .cap) (now (a .sizes)) t in (
-      lent s .sound,
-      ((T-true (small (now (a .sizes))) (accepts-small (a .total) (a .cap) (now (a .sizes)) t), omega (arith, f, k .if3 .left)), (fit e, (lit≤ tt, lit≤ tt))),
+      lent s .room .sound,
+      ((T-true (small (now (a .sizes))) (accepts-small (a .total) (a .cap) (now (a .sizes)) t), omega (arith, f, k .if3 .left)), ((fit e, counts s), (lit≤ tt, lit≤ tt))),
     )
 
 returns-6 : tie.Need-returns-6
@@ -127,7 +134,7 @@ returns-6 c =
     let s = k .before .before .before in
     let a = s .before .before .before .before .before .before .before .args in
     let w = whole (now (a .arena)) (lent s) (a .total) (a .cap) (length (now (a .starts))) (now (a .sizes)) (short k) (right d) (fit e) in
-    (w .number, (w .values, (g .ensures .1 .1 ∙ ap (λ l. put 0 l (now (a .starts))) (w .lent), (g .ensures .0 ∙ w .arena, g .ensures .1 .0 ∙ w .room))))
+    (w .number, (w .values, (g .ensures .1 .1 .0 ∙ ap (λ l. put 0 l (now (a .starts))) (w .lent), (g .ensures .0 ∙ w .arena, (g .ensures .1 .0 ∙ w .room, g .ensures .1 .1 .1 ∙ w .counts)))))
 
 pub grant-list-spec : {M : Type 1} → statement M
 grant-list-spec =

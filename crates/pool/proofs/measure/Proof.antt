@@ -3,11 +3,10 @@ use Rattle.mem.proofs.Prelude.{_∙_, sym, ap, refl, [], _∷_, now, needs, not
 use Rattle.classes.specs.Classes.{rowBytes}
 use Rattle.model.specs.Answers.{done}
 use Rattle.model.specs.Plans.{measures, measureAt}
-use Rattle.model.specs.Tables.{byMasks, view}
+use Rattle.model.specs.Tables.{view}
+use Rattle.model.specs.Calls.{keptIn}
 use Rattle.model.proofs.Calls.{call-unsound}
-use Rattle.rows.specs.Rows.{Lent}
-use Rattle.rows.proofs.Rooms.{by-masks}
-use Rattle.ops.proofs.Calls.{called-at, called-refused, measuring}
+use Rattle.ops.proofs.Calls.{Checked, by-check, called-at, called-refused, measuring}
 use Rattle.pool.proofs.Fresh.{parts}
 use Rattle.pool.proofs.measure.Statement.{statement}
 use Rattle.pool.proofs.measure.Tie as tie
@@ -17,16 +16,18 @@ unfolding rowBytes
 returns c =
     let a = c .before .before .before .before .args in
     let w = c .before .sound in
-    parts (sym (call-unsound rowBytes (now (a .arena)) (now (a .room)) (measures (a .offset)) tt (sym (w .ensures) ∙ not-true (w .result) (c .if1 .taken)))) .0
+    parts (sym (call-unsound rowBytes (now (a .arena)) (keptIn (now (a .room)) (a .t)) (measures (a .offset)) tt (sym (w .ensures) ∙ not-true (w .result) (c .if1 .taken)))) .0
 
 -- the tables are sound
-lent : (c : tie.Else1) → (let a = c .before .before .before .before .args in Lent byMasks rowBytes (length (now (a .arena))) (now (a .room)))
+lent : (c : tie.Else1) → (let a = c .before .before .before .before .args in Checked rowBytes (now (a .arena)) (keptIn (now (a .room)) (a .t)))
 unfolding rowBytes
-lent c = by-masks (sym (c .before .sound .ensures) ∙ not-false (c .before .sound .result) (c .if1 .left)) (lit≤ tt, lit≤ tt)
+lent c =
+    let a = c .before .before .before .before .args in
+    by-check (now (a .arena)) (keptIn (now (a .room)) (a .t)) (sym (c .before .sound .ensures) ∙ not-false (c .before .sound .result) (c .if1 .left)) (lit≤ tt, lit≤ tt)
 
 locate-requires : tie.Need-locate-requires
 unfolding rowBytes
-locate-requires c κs = (lent c .sound, (lit≤ tt, lit≤ tt))
+locate-requires c κs = (lent c .room .sound, (lit≤ tt, lit≤ tt))
 
 returns-2 : tie.Need-returns-2
 unfolding rowBytes

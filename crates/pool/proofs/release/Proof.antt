@@ -1,12 +1,12 @@
 -- By what is located.
-use Rattle.mem.proofs.Prelude.{_∙_, sym, now, needs, not-false, not-true, lit≤, length}
+use Rattle.mem.proofs.Prelude.{_∙_, _≡_, sym, now, needs, not-false, not-true, lit≤, length}
 use Rattle.classes.specs.Classes.{rowBytes}
-use Rattle.model.specs.Plans.{releases, releaseAt}
-use Rattle.model.specs.Tables.{byMasks}
+use Rattle.model.specs.Plans.{releases, releaseAt, totals}
+use Rattle.model.specs.Tables.{view}
+use Rattle.model.specs.Calls.{keptIn}
+use Rattle.model.proofs.Kept.{kept-totals}
 use Rattle.model.proofs.Calls.{call-unsound}
-use Rattle.rows.specs.Rows.{Lent}
-use Rattle.rows.proofs.Rooms.{by-masks}
-use Rattle.ops.proofs.Calls.{Called, called-at, called-refused, releasing, release-names, release-done}
+use Rattle.ops.proofs.Calls.{Checked, by-check, Called, called-at, called-refused, releasing, release-names, release-done}
 use Rattle.pool.proofs.Fresh.{parts}
 use Rattle.pool.proofs.release.Statement.{statement}
 use Rattle.pool.proofs.release.Tie as tie
@@ -16,16 +16,22 @@ unfolding rowBytes
 returns c =
     let a = c .before .before .before .before .before .args in
     let w = c .before .sound in
-    parts (sym (call-unsound rowBytes (now (a .arena)) (now (a .room)) (releases (a .offset)) tt (sym (w .ensures) ∙ not-true (w .result) (c .if1 .taken))))
+    parts (sym (call-unsound rowBytes (now (a .arena)) (keptIn (now (a .room)) (a .t)) (releases (a .offset)) tt (sym (w .ensures) ∙ not-true (w .result) (c .if1 .taken))))
 
 -- the tables are sound
-lent : (c : tie.Else1) → (let a = c .before .before .before .before .before .args in Lent byMasks rowBytes (length (now (a .arena))) (now (a .room)))
+lent : (c : tie.Else1) → (let a = c .before .before .before .before .before .args in Checked rowBytes (now (a .arena)) (keptIn (now (a .room)) (a .t)))
 unfolding rowBytes
-lent c = by-masks (sym (c .before .sound .ensures) ∙ not-false (c .before .sound .result) (c .if1 .left)) (lit≤ tt, lit≤ tt)
+lent c =
+    let a = c .before .before .before .before .before .args in
+    by-check (now (a .arena)) (keptIn (now (a .room)) (a .t)) (sym (c .before .sound .ensures) ∙ not-false (c .before .sound .result) (c .if1 .left)) (lit≤ tt, lit≤ tt)
+
+counts : (c : tie.Else1) → (let a = c .before .before .before .before .before .args in a .t ≡ totals rowBytes (view rowBytes (now (a .room))))
+unfolding rowBytes
+counts c = let a = c .before .before .before .before .before .args in kept-totals rowBytes (length (now (a .arena))) (keptIn (now (a .room)) (a .t)) (lent c .kept)
 
 locate-requires : tie.Need-locate-requires
 unfolding rowBytes
-locate-requires c κs = (lent (c .before .before) .sound, (lit≤ tt, lit≤ tt))
+locate-requires c κs = (lent (c .before .before) .room .sound, (lit≤ tt, lit≤ tt))
 
 -- the block that is located
 block : (c : tie.After-known-told) → (let z = c .before .before .before .before .before .before in
@@ -42,7 +48,8 @@ discard-requires : tie.Need-discard-requires
 unfolding rowBytes
 discard-requires c κs =
     let k = c .before .before in
-    (lent (k .before .before .before .before .before .before) .sound, ((block k .place, block k .holds), (lit≤ tt, lit≤ tt)))
+    let z = k .before .before .before .before .before .before in
+    ((lent z .room .sound, counts z), ((block k .place, block k .holds), (lit≤ tt, lit≤ tt)))
 
 returns-2 : tie.Need-returns-2
 unfolding rowBytes
@@ -52,7 +59,7 @@ returns-2 c =
     let a = z .before .before .before .before .before .args in
     let p = parts (sym (releasing (now (a .arena)) (lent z) (a .offset) ∙ block k .result)) in
     let d = c .before .before .before .before .discard .ensures (block k .place) (block k .holds) in
-    (sym (release-done rowBytes (block k .place)) ∙ p .0, (d .0 ∙ p .1 .0, d .1 ∙ p .1 .1))
+    (sym (release-done rowBytes (block k .place)) ∙ p .0, (d .0 ∙ p .1 .0, (d .1 ∙ p .1 .1 .0, d .2 ∙ p .1 .1 .1)))
 
 returns-3 : tie.Need-returns-3
 unfolding rowBytes

@@ -1,8 +1,10 @@
 -- Refused by the room's size, or done: zeros, and tables with no groups.
-use Rattle.mem.proofs.Prelude.{_∙_, sym, _≤_, _*_, arith, now, needs, leb→le, length}
+use Rattle.mem.proofs.Prelude.{_∙_, sym, _≤_, _*_, _/_, arith, now, needs, leb→le, length}
 use Rattle.mem.proofs.Tests.{and-left, and-right}
 use Rattle.classes.specs.Classes.{rowBytes}
 use Rattle.model.specs.Tables.{arenaRight, roomBytes}
+use Rattle.model.specs.Calls.{keptIn}
+use Rattle.model.proofs.Fresh.{fresh-totals}
 use Rattle.pool.proofs.Fresh.{parts, Fitting, fitting, set-up-refused, set-up-made, formatted}
 use Rattle.pool.proofs.set_up.Statement.{statement}
 use Rattle.pool.proofs.set_up.Tie as tie
@@ -11,14 +13,14 @@ returns : tie.Need-returns
 returns c =
     let a = c .before .before .before .before .args in
     let r = c .before .room-len in
-    let e = sym (set-up-refused rowBytes (now (a .arena)) (now (a .room)) (λ h. sym (r .ensures) ∙ c .if1 .taken)) in
+    let e = sym (set-up-refused rowBytes (now (a .arena)) (keptIn (now (a .room)) (a .t)) (λ h. sym (r .ensures) ∙ c .if1 .taken)) in
     parts e
 
 returns-2 : tie.Need-returns-2
 returns-2 c =
     let a = c .before .before .before .before .before .args in
     let r = c .before .before .room-len in
-    let e = sym (set-up-refused rowBytes (now (a .arena)) (now (a .room)) (λ h. absurd (c .if2 .taken (h ∙ sym (r .ensures))))) in
+    let e = sym (set-up-refused rowBytes (now (a .arena)) (keptIn (now (a .room)) (a .t)) (λ h. absurd (c .if2 .taken (h ∙ sym (r .ensures))))) in
     parts e
 
 format-requires : tie.Need-format-requires
@@ -27,25 +29,29 @@ format-requires c κs =
     let a = c .before .before .before .before .before .before .before .before .before .before .args in
     let r = c .before .before .before .before .before .before .before .room-len in
     let m = length (now (a .arena)) in
-    let f : Fitting rowBytes (now (a .arena)) (now (a .room)) =
-    fitting rowBytes (now (a .arena)) (now (a .room)) (c .before .before .before .before .before .if2 .left ∙ r .ensures)
+    let f : Fitting rowBytes (now (a .arena)) (keptIn (now (a .room)) (a .t)) =
+    fitting rowBytes (now (a .arena)) (keptIn (now (a .room)) (a .t)) (c .before .before .before .before .before .if2 .left ∙ r .ensures)
     (λ z. c .before .before .before .before .before .before .if1 .left (r .ensures ∙ z)) in
     let t = f .lawful in
     let l : m ≤ 512 * 512 = leb→le m (512 * 512) (search (and-left, and-right)) in
     (omega (arith, f .long), omega arith)
 
 returns-3 : tie.Need-returns-3
+unfolding rowBytes
 returns-3 c =
     let a = c .before .before .before .before .before .before .before .before .before .before .before .before .before .args in
     let r = c .before .before .before .before .before .before .before .before .before .before .room-len in
     let f =
-    fitting rowBytes (now (a .arena)) (now (a .room)) (c .before .before .before .before .before .before .before .before .if2 .left ∙ r .ensures)
+    fitting rowBytes (now (a .arena)) (keptIn (now (a .room)) (a .t)) (c .before .before .before .before .before .before .before .before .if2 .left ∙ r .ensures)
     (λ z. c .before .before .before .before .before .before .before .before .before .if1 .left (r .ensures ∙ z)) in
-    let e = parts (sym (set-up-made rowBytes (now (a .arena)) (now (a .room)) f)) in (
+    let e = parts (sym (set-up-made rowBytes (now (a .arena)) (keptIn (now (a .room)) (a .t)) f)) in (
       e .0,
       (
         c .before .before .before .before .before .before .fill-zero .ensures ∙ e .1 .0,
-        c .before .before .format .ensures ∙ formatted rowBytes (now (a .arena)) (now (a .room)) f ∙ e .1 .1,
+        (
+          c .before .before .format .ensures ∙ formatted rowBytes (now (a .arena)) (keptIn (now (a .room)) (a .t)) f ∙ e .1 .1 .0,
+          sym (fresh-totals rowBytes (length (now (a .arena)) / rowBytes)) ∙ e .1 .1 .1,
+        ),
       ),
     )
 

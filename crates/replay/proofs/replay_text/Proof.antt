@@ -3,15 +3,17 @@ use Rattle.mem.proofs.Prelude.{_∙_, _≡_, ap, ap₂, refl, List, ℕ, _/_, n
 use Rattle.mem.specs.Bytes.{zeros, put}
 use Rattle.classes.specs.Classes.{rowBytes}
 use Rattle.model.specs.Tables.{roomBytes}
-use Rattle.trace.specs.Replay.{arenaBytes, replayed}
+use Rattle.model.specs.Calls.{keptIn}
+use Rattle.trace.specs.Replay.{arenaBytes, noTotals, replayed}
 use Rattle.player.specs.Printed.{linesText, printed}
 use Rattle.replay.proofs.replay_text.Statement.{statement}
 use Rattle.replay.proofs.replay_text.Tie as tie
 
 -- over arrays of these zeros, what is printed is the replay's lines
-over-zeros : (a t s : List ℕ) → a ≡ zeros arenaBytes → t ≡ zeros (roomBytes (arenaBytes / rowBytes)) → printed a t s ≡ linesText (replayed s)
+over-zeros : (a t s : List ℕ) → a ≡ zeros arenaBytes → t ≡ zeros (roomBytes (arenaBytes / rowBytes))
+    → printed a (keptIn t noTotals) s ≡ linesText (replayed s)
 unfolding printed replayed
-over-zeros a t s e f = ap₂ (λ b u. printed b u s) e f
+over-zeros a t s e f = ap₂ (λ b u. printed b (keptIn u noTotals) s) e f
 
 room-zeros : zeros 8464 ≡ zeros (roomBytes (arenaBytes / rowBytes))
 unfolding roomBytes rowBytes

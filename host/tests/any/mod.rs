@@ -1,0 +1,65 @@
+//! Any bytes and numbers, lent to the library.
+
+use crate::common::{lent, Answer, Both, Buffers, Call, List};
+use crate::random::{next_call, Numbers};
+use slotpool::Refusal;
+use slotpool_reference::{Reference, Tables};
+use std::fmt::Arguments;
+
+/// The byte that stands in an arena before set up.
+pub const OLD: u8 = 0xA5;
+
+/// No store: blocks stay undamaged and groups live long.
+pub fn no_store(_: &mut Numbers, _: &Both) -> Option<Call> {
+    None
+}
+
+/// A pool after a thousand random calls, and as many more as it takes to have a live block.
+pub fn sample(seed: u64, arena_len: usize) -> Both {
+    let mut numbers = Numbers::new(seed);
+    let mut both = Both::new(arena_len, OLD);
+    let mut made = 0;
+    while made < 1000 || both.second.live().is_empty() {
+        both.call(next_call(&mut numbers, &both, no_store)).unwrap();
+        made += 1;
+    }
+    both
+}
+
+/// Every call but set up: those on a block with that block, a grant of its size, a list of two of its size, and one with everything wrong.
+pub fn calls_on((start, n): (usize, usize)) -> [Call; 7] {
+    let size = n.max(1);
+    let lists = [List::new(2 * size, size, &[size, size], 17), List::new(usize::MAX, 0, &[0; 18], 16)].map(Call::GrantList);
+    [Call::Release(start), Call::Grant(n), Call::Resize(start, n / 2), Call::Measure(start), Call::Report, lists[0], lists[1]]
+}
+
+/// A call that the library must refuse, with nothing changed.
+pub fn refused(buffers: &Buffers, call: Call, due: Refusal, told: Arguments) {
+    let (mut after, mut list) = (buffers.clone(), lent());
+    assert_eq!(after.call(&mut list, call), Answer::Refused(due), "{told}: {call:?}");
+    assert!(after == *buffers && list == lent(), "{told}: {call:?} changed something");
+}
+
+/// Makes each call over a copy of any buffers. Unsound ones get answer 2 from all of them, with nothing changed; sound ones the second
+/// implementation's answers. Gives whether they are sound.
+pub fn over_any(buffers: &Buffers, calls: &[Call], told: Arguments) -> bool {
+    let Some(tables) = Tables::read(buffers.arena.len(), &buffers.room, &buffers.totals) else {
+        for &call in calls {
+            refused(buffers, call, Refusal::Unsound, told);
+        }
+        return false;
+    };
+    for &call in calls {
+        let second = Reference::over(buffers.arena.clone(), tables.clone());
+        if let Err(why) = Both::over(buffers, second).call(call) {
+            panic!("{told}: {why}");
+        }
+    }
+    true
+}
+
+/// Set up over any buffers of the right lengths: done, and a fresh pool.
+pub fn set_up_over(buffers: &Buffers, told: Arguments) {
+    let mut both = Both::over(buffers, Reference::set_up(buffers.arena.len()));
+    assert_eq!(both.call(Call::SetUp), Ok(Answer::Done), "{told}");
+}
