@@ -42,7 +42,8 @@ module _ (row : ℕ) where
   -- "A grant is refused exactly if .."
   abbrev pub GrantsExactly : Type 0
   GrantsExactly = (a : List ℕ) (t : KeptBytes) (n : ℕ)
-      → (call row a t (grants n) .answer .number ≡ 0 → ⊥) ↔ ((tooLarge ≤ n) ⊎ (T (not (soundKept row (length a) t)) ⊎ NoPlace row (view row (t .tables)) (classOf n)))
+      → (call row a t (grants n) .answer .number ≡ 0 → ⊥) ↔
+      ((tooLarge ≤ n) ⊎ (T (not (soundKept row (length a) t)) ⊎ NoPlace row (view row (t .tables)) (classOf n)))
 
   -- the group that serves: "Of the groups of n's class with a slot not live, take the one with the lowest first row", or, "If there is
   -- no such group, make one at the lowest run of R free rows, all slots ready"; between X and Y, with slots ss
@@ -94,4 +95,5 @@ module _ (row : ℕ) where
 
   -- "Every accepted call leaves sound tables." A set up makes them sound, whatever they were.
   abbrev pub LeavesSound : Type 0
-  LeavesSound = (a : List ℕ) (t : KeptBytes) (c : Call) → call row a t c .answer .number ≡ 0 → T (soundKept row (length (call row a t c .arena)) (call row a t c .room))
+  LeavesSound = (a : List ℕ) (t : KeptBytes) (c : Call) → call row a t c .answer .number ≡ 0 → T
+      (soundKept row (length (call row a t c .arena)) (call row a t c .room))

@@ -79,7 +79,8 @@ module _ (row : ℕ) where
 
   -- THE CLAIM: two traces alike but for the bytes that they store give the same lines
   abbrev pub StoresSteerNothing : Type 0
-  StoresSteerNothing = (a₁ : List ℕ) (t₁ : KeptBytes) (a₂ : List ℕ) (t₂ : KeptBytes) (s₁ s₂ : List ℕ) → T (setUpRight row a₁ t₁) → T (setUpRight row a₂ t₂) → length a₁ ≡ length a₂
+  StoresSteerNothing = (a₁ : List ℕ) (t₁ : KeptBytes) (a₂ : List ℕ) (t₂ : KeptBytes) (s₁ s₂ : List ℕ) → T (setUpRight row a₁ t₁) → T (setUpRight row a₂ t₂)
+      → length a₁ ≡ length a₂
       → AlikeButStores s₁ s₂ → StoresInside (length a₁) (fed row (length a₁)) (items s₁)
       → replayedOver row a₁ t₁ s₁ ≡ replayedOver row a₂ t₂ s₂
 

@@ -45,8 +45,15 @@ fn grant_one(
     ensures { λ r. ⌜ now (arena .exit) ≡ arenaAfter row (now (arena .entry)) (reserve row (view row (now (room .entry))) (s .size)) ⌝ }
     ensures { λ r. ⌜ now (room .exit) ≡ roomAfter row (now (room .entry)) (reserve row (view row (now (room .entry))) (s .size)) ⌝ }
 {
-    let Reserved::Taken(b, taken) =
-        ops::reserve_in(row, arena.len(), room, t, s.class, s.size, from) else {
+    let Reserved::Taken(b, taken) = ops::reserve_in(
+        row,
+        arena.len(),
+        room,
+        t,
+        s.class,
+        s.size,
+        from,
+    ) else {
         return Placed {
             start: 0,
             first: 0,

@@ -1,5 +1,5 @@
 -- A mask is the list of its bits, lowest first: what is done to the number is done to the list.
-use Rattle.mem.proofs.Prelude.{_∙_, _≡_, sym, ap, refl, true, Bool, false, not, _||_, true≢false, List, [], _∷_, _+_, ℕ, _<_, _≤_, _*_, _-_}
+use Rattle.mem.proofs.Prelude.{_∙_, _≡_, sym, ap, refl, true, Bool, false, not, _||_, true≢false, List, [], _∷_, _+_, ℕ, _<_, _≤_, _*_}
 use Rattle.mem.proofs.Prelude.{suc, _/_, zero, _^_, _%_, pow-suc, arith, ne-eqb, T, eqb, length, getD, set, ones}
 use mathlib.Core.Bool.{false≢true}
 use Prim.Native.Nat.{suc-le-suc}

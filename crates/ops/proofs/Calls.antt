@@ -75,7 +75,8 @@ module _ {row : ℕ} {t : KeptBytes} (a : List ℕ) (r : Checked row a t) where
     granted-at b z e =
         let (q, f, h, k) = reserved-place row (reserve row (view row (t .tables)) n) b z e in
         subst (GrantedAt b) k (subst (λ b. GrantedAt b (totals row (poolOf q))) h (record {
-          result = granting ∙ ap (λ o. carried row a t (grantAt row (view row (t .tables)) o)) f ∙ carried-whole row a t (grantAt row (view row (t .tables)) (some q)) refl
+          result = granting ∙ ap (λ o. carried row a t (grantAt row (view row (t .tables)) o)) f ∙ carried-whole row a t
+              (grantAt row (view row (t .tables)) (some q)) refl
               ∙ ap (λ u. laid q u) (sym (ap (roomAfter row (t .tables)) f));
           stands = reserve-leaves (r .room) n small q f .stands;
         }))
@@ -124,7 +125,12 @@ module _ {row : ℕ} {t : KeptBytes} (a : List ℕ) (r : Checked row a t) where
         go : (l : Located) → Outcome (lookup row (view row (t .tables)) o) l → l ≡ At b → Called b
         go (At c) (acts p f l d) e =
             let h : blockOf row p ≡ b = cc in
-            subst Called h (record { place = p; holds = place-holds (r .room) p (lookup-found row (r .room .pos) (view row (t .tables)) o p f .0) l; result = d })
+            subst Called h (record {
+              place = p;
+              holds = place-holds (r .room) p
+                  (lookup-found row (r .room .pos) (view row (t .tables)) o p f .0) l;
+              result = d;
+            })
         go (Refused x) (refuses y d) e = let z : _≡_ {A = ℕ} 0 1 = cc in absurd (omega arith)
 
     pub called-refused : (x : Refusal) → Refused x ≡ located row a (lookup row (view row (t .tables)) o)
@@ -142,7 +148,8 @@ module _ {row : ℕ} {t : KeptBytes} (a : List ℕ) (r : Checked row a t) where
   unfolding plan release
   releasing o = call-sound row a t (r .kept) (releases o) tt
 
-  pub measuring : (o : ℕ) → call row a t (measures o) ≡ carried row a t (onBlock (view row (t .tables)) (measureAt row (view row (t .tables))) (lookup row (view row (t .tables)) o))
+  pub measuring : (o : ℕ) → call row a t (measures o) ≡ carried row a t
+      (onBlock (view row (t .tables)) (measureAt row (view row (t .tables))) (lookup row (view row (t .tables)) o))
   unfolding plan measure
   measuring o = call-sound row a t (r .kept) (measures o) tt
 

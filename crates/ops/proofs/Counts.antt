@@ -1,10 +1,10 @@
 -- What a release and a resize in place do to the totals.
-use Rattle.mem.proofs.Prelude.{_∙_, _≡_, sym, ap, refl, subst, true, false, Bool, List, _++_, _∷_, ℕ, _+_, _≤_, _<_, arith}
+use Rattle.mem.proofs.Prelude.{_∙_, _≡_, sym, ap, refl, subst, true, false, Bool, List, _++_, _∷_, ℕ, _+_, _<_, arith}
 use Rattle.mem.specs.Lists.{choose, any, sum}
 use Rattle.mem.specs.Bytes.{bit}
 use Rattle.classes.specs.Classes.{rowsOf, tooLarge}
 use Rattle.model.specs.declared.Totals.{Totals}
-use Rattle.model.specs.State.{Place, group, isReady, isWaiting, isLive, count, disp, size, poolOf, rows}
+use Rattle.model.specs.State.{Place, group, isReady, isWaiting, isLive, count, disp, size, poolOf}
 use Rattle.model.specs.Plans.{releaseAt, resizeInPlace, totals}
 use Rattle.model.specs.Tables.{byMasks, view}
 use Rattle.model.proofs.Tables.{masks-laws, view-encode}
@@ -14,7 +14,6 @@ use Rattle.rows.specs.declared.Block.{Block}
 use Rattle.rows.specs.Rows.{Holds}
 use Rattle.totals.specs.Changes.{Small, Gives, Drops, Sizes}
 use Rattle.totals.proofs.Laws.{given-small, dropped-small, sized-small, given-totals, dropped-totals, sized-totals}
-use Rattle.changes.specs.declared.Left.{Left}
 use Rattle.changes.specs.declared.Left.the-variants.{Kept, Dropped}
 use Rattle.changes.specs.Changes.{leftAs}
 
@@ -72,8 +71,7 @@ module _ {row : ℕ} {t : List ℕ} {b : Block} {p : Place} (h : Holds byMasks r
       let held = p .lower ++ (p .state ∷ p .upper) in
       let d : Drops (b .alloc .size) (rowsOf row (b .class)) r w s (totals row (releaseAt row p .pool)) =
       rw (n, there, wide, class, er, ew) (dropped-totals row p (h .live) n) in
-      let l = rows-append row (p .before) (group (p .cls) held ∷ p .after) in
-      (
+      let l = rows-append row (p .before) (group (p .cls) held ∷ p .after) in (
         d,
         dropped-small (b .alloc .size) (rowsOf row (b .class)) r w s (totals row (releaseAt row p .pool)) d few
             (omega (arith, l, h .few, ap (rowsOf row) class)),

@@ -1,10 +1,10 @@
 -- What the plans of a release and of a resize in place write, as the code writes it.
-use Rattle.mem.proofs.Prelude.{_∙_, _≡_, ap, refl, ap₂, true, Bool, false, List, _++_, _+_, ℕ, _≤_, _*_, _-_, suc, min, arith, T, leb, leb→le}
-use Rattle.mem.specs.Lists.{choose, any}
+use Rattle.mem.proofs.Prelude.{_∙_, _≡_, ap, refl, ap₂, true, List, _++_, _+_, ℕ, _≤_, _*_, _-_, suc, min, arith, T, leb, leb→le}
+use Rattle.mem.specs.Lists.{choose}
 use Rattle.mem.specs.Bytes.{zeros, put}
 use Rattle.mem.proofs.Tests.{and-left, true-T}
 use Rattle.classes.specs.Classes.{slotBytes, classOf, rowsOf}
-use Rattle.model.specs.State.{Place, isLive, disp, size, slotNumber, poolOf, become, start}
+use Rattle.model.specs.State.{Place, disp, size, slotNumber, poolOf, become, start}
 use Rattle.model.specs.Blocks.{reserved, header, spare}
 use Rattle.model.specs.Plans.{releaseAt, resizeInPlace}
 use Rattle.model.specs.Tables.{byMasks, encode}

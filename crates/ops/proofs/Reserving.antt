@@ -55,8 +55,7 @@ module _ {row len : ℕ} {t : List ℕ} (r : Lent byMasks row len t) (c : ℕ) (
   site-open i e =
       let (g, f, k) = site-at row (openFrom [] c (view row t)) i (sym e) in
       let o : Open (view row t) c g = open-found [] (view row t) c g f in
-      let s : site row (view row t) c ≡ some g = ap (λ o. siteOr o (runFrom row [] c (view row t))) f in
-      (
+      let s : site row (view row t) c ≡ some g = ap (λ o. siteOr o (runFrom row [] c (view row t))) f in (
         ap₂ {C = Opened} In (sym k) (e₀ ∙ ap (totals row) (o .split)) ∙ ap (opened row c) (sym s),
         facts r .form ∙ ap (encode row) (o .split) ∙ ap (siteRoom row c t) (sym s),
       )
@@ -88,8 +87,7 @@ module _ {row len : ℕ} {t : List ℕ} (r : Lent byMasks row len t) (c : ℕ) (
           let m : New row (view row t) c g = run-found row [] (view row t) c g f in
           let P = g .before ++ (group c (g .slots) ∷ g .after) in
           let d : Makes (rowsOf row c) (slotsOf c) (totals row (view row t)) (totals row P) =
-          rw (ap (totals row) (m .split), m .slots) (made-totals row (g .before) c (g .after)) in
-          (
+          rw (ap (totals row) (m .split), m .slots) (made-totals row (g .before) c (g .after)) in (
             totals row P,
             subst (λ z. Makes (rowsOf row c) (slotsOf c) z (totals row P)) (sym e₀) d,
             made-small (rowsOf row c) (slotsOf c) (totals row (view row t)) (totals row P) d

@@ -110,14 +110,7 @@ pub fn lay_out(row: usize, arena: &mut [u8], b: Block) -> usize
 
 // The group in which a slot of class c is taken: the lowest with a slot that is not live, or a new one at the lowest run of free rows. No
 // group before row `from` serves.
-fn site_for(
-    row: usize,
-    len: usize,
-    room: &mut [u8],
-    t: Totals,
-    c: usize,
-    from: usize,
-) -> Opened
+fn site_for(row: usize, len: usize, room: &mut [u8], t: Totals, c: usize, from: usize) -> Opened
     requires { ⌜ sound row len (now room) ≡ true ⌝ }
     requires { ⌜ (c < 48) × Passed row (now room) c from × (t ≡ totals row (view row (now room))) ⌝ }
     requires { ⌜ Lawful row ⌝ }

@@ -4,9 +4,13 @@ use Rattle.mem.proofs.Prelude.{eqb→eq, length}
 use Rattle.mem.specs.Bytes.{zeros, low, put}
 use Rattle.mem.proofs.Tests.{and-left, and-right, and-both, choose-true, choose-false, T-true, true-T, eq→eqb}
 use Rattle.mem.proofs.Laws.{zeros-length, zeros-add, put-at}
+use Rattle.model.specs.declared.Refusal.{Refusal}
 use Rattle.model.specs.declared.Refusal.the-variants.{BadArena}
+use Rattle.model.specs.declared.Reply.{Reply}
+use Rattle.model.specs.declared.Totals.{Totals}
+use Rattle.model.specs.declared.Answered.{Answered}
 use Rattle.model.specs.State.{rows}
-use Rattle.model.specs.Answers.{done, refusal}
+use Rattle.model.specs.Answers.{Answer, done, refusal, replyAnswer}
 use Rattle.model.specs.Plans.{setsUp, freshPool}
 use Rattle.model.specs.Tables.{byMasks, rowAt, encode, encodeBy, arenaRight, roomBytes, roomFor, rowRecordBytes}
 use Rattle.model.specs.Calls.{KeptBytes, Result, engine, call, setUp, setUpRight, keeps, callBy, setUpBy, setUpRightBy}
@@ -20,6 +24,11 @@ parts e = (
   ap (λ (r : Result). r .answer) e,
   (ap (λ (r : Result). r .arena) e, (ap (λ (r : Result). r .room .tables) e, ap (λ (r : Result). r .room .totals) e)),
 )
+
+-- what a call that is refused tells
+pub refused-as : {w : Answered} {x : Refusal} {t z : Totals} {A : Answer} {X Y : Type 0} → w ≡ record { reply = Reply.Refused x; totals = t }
+    → (refusal x ≡ A) × (X × (Y × (t ≡ z))) → (replyAnswer (w .reply) ≡ A) × (X × (Y × (w .totals ≡ z)))
+refused-as e p = (ap (λ (w : Answered). replyAnswer (w .reply)) e ∙ p .0, (p .1 .0, (p .1 .1 .0, ap (λ (w : Answered). w .totals) e ∙ p .1 .1 .1)))
 
 module _ (row : ℕ) (a : List ℕ) (t : KeptBytes) where
   -- a room of the right size for a lawful arena

@@ -6,8 +6,10 @@ use Rattle.mem.proofs.Tests.{choose-true, choose-false, T-true, true-T}
 use Rattle.mem.proofs.Laws.{put-nil}
 use Rattle.model.specs.declared.Refusal.{Refusal}
 use Rattle.model.specs.declared.Refusal.the-variants.{NoRoom, TooLong, BadProposal}
+use Rattle.model.specs.declared.Reply.{Reply}
+use Rattle.model.specs.declared.Answered.{Answered}
 use Rattle.model.specs.State.{Place, start}
-use Rattle.model.specs.Answers.{Answer, numberOf, listDone, refusal}
+use Rattle.model.specs.Answers.{Answer, listDone, refusal, replyAnswer}
 use Rattle.model.specs.Proposals.{entries, accepts, plannable, fullCaps, planned}
 use Rattle.model.specs.Plans.{grantsList, plan, refused, reserveAll, poolAfter, enframe, grantAllAt, grantList, totals}
 use Rattle.model.specs.Tables.{view, encode}
@@ -19,18 +21,22 @@ use Rattle.rows.proofs.Rooms.{facts}
 use Rattle.ops.proofs.Calls.{Checked, kept}
 use Rattle.lists.specs.Grants.{granted}
 
--- what a refusal leaves, part by part, of a lent list too
-pub refused-parts : (x : Refusal) {a : List ℕ} {t : KeptBytes} {r : Result} (l : List ℕ) → r ≡ keeps (refusal x) a t
-    → (numberOf x ≡ r .answer .number) × ((0 ∷ [] ≡ r .answer .values) × ((l ≡ put 0 (r .answer .lent) l) × ((a ≡ r .arena)
-    × ((t .tables ≡ r .room .tables) × (t .totals ≡ r .room .totals)))))
-refused-parts x l e = (
-  sym (ap (λ (r : Result). r .answer .number) e),
+-- what a refusal tells and leaves, part by part, of a lent list too
+pub refused-parts : {w : Answered} (x : Refusal) {a : List ℕ} {t : KeptBytes} {r : Result} (l : List ℕ)
+    → w ≡ record { reply = Reply.Refused x; totals = t .totals } → r ≡ keeps (refusal x) a t
+    → (replyAnswer (w .reply) .number ≡ r .answer .number) × ((replyAnswer (w .reply) .values ≡ r .answer .values)
+    × ((l ≡ put 0 (r .answer .lent) l) × ((a ≡ r .arena) × ((t .tables ≡ r .room .tables) × (w .totals ≡ r .room .totals)))))
+refused-parts x l f e = (
+  ap (λ (w : Answered). replyAnswer (w .reply) .number) f ∙ sym (ap (λ (r : Result). r .answer .number) e),
   (
-    sym (ap (λ (r : Result). r .answer .values) e),
-    (sym (put-nil 0 l) ∙ ap (λ (r : Result). put 0 (r .answer .lent) l) (sym e), (
-      sym (ap (λ (r : Result). r .arena) e),
-      (sym (ap (λ (r : Result). r .room .tables) e), sym (ap (λ (r : Result). r .room .totals) e)),
-    )),
+    ap (λ (w : Answered). replyAnswer (w .reply) .values) f ∙ sym (ap (λ (r : Result). r .answer .values) e),
+    (
+      sym (put-nil 0 l) ∙ ap (λ (r : Result). put 0 (r .answer .lent) l) (sym e),
+      (
+        sym (ap (λ (r : Result). r .arena) e),
+        (sym (ap (λ (r : Result). r .room .tables) e), ap (λ (w : Answered). w .totals) f ∙ sym (ap (λ (r : Result). r .room .totals) e)),
+      ),
+    ),
   ),
 )
 
@@ -78,11 +84,13 @@ module _ {row : ℕ} {t : KeptBytes} (a : List ℕ) (r : Checked row a t) (total
 
   pub too-long : (plannable total cap && leb entries places) ≡ false → asked ≡ keeps (refusal TooLong) a t
   unfolding grantList
-  too-long e = asks ∙ ap (carried row a t) (choose-false (plannable total cap && leb entries places) _ (refused TooLong (view row (t .tables))) e) ∙ kept a r TooLong
+  too-long e = asks ∙ ap (carried row a t) (choose-false (plannable total cap && leb entries places) _ (refused TooLong (view row (t .tables))) e)
+      ∙ kept a r TooLong
 
   module _ (h : (plannable total cap && leb entries places) ≡ true) where
     short : asked
-        ≡ carried row a t (choose (accepts total cap ns) (grantAllAt row (view row (t .tables)) (reserveAll row (view row (t .tables)) ns)) (refused BadProposal (view row (t .tables))))
+        ≡ carried row a t (choose (accepts total cap ns) (grantAllAt row (view row (t .tables)) (reserveAll row (view row (t .tables)) ns))
+        (refused BadProposal (view row (t .tables))))
     unfolding grantList
     short = asks ∙ ap (carried row a t) (choose-true (plannable total cap && leb entries places) _ (refused TooLong (view row (t .tables))) h)
 
@@ -116,7 +124,8 @@ module _ {row : ℕ} {t : KeptBytes} (a : List ℕ) (r : Checked row a t) (total
           go none f e = let z : _≡_ {A = ℕ} 0 1 = cc in absurd (omega arith)
           go (some qs) f e =
               let d : asked ≡ applied (engine row) a (grantAllAt row (view row (t .tables)) (some qs)) =
-              tried ∙ ap (λ o. carried row a t (grantAllAt row (view row (t .tables)) o)) f ∙ carried-whole row a t (grantAllAt row (view row (t .tables)) (some qs)) refl in
+              tried ∙ ap (λ o. carried row a t (grantAllAt row (view row (t .tables)) o)) f ∙ carried-whole row a t
+              (grantAllAt row (view row (t .tables)) (some qs)) refl in
               let n : length (map (start row) qs) ≡ length ns =
               places-counted row (view row (t .tables)) ns qs (facts (r .room) .formed) (accepts-small total cap ns (true-T (accepts total cap ns) k)) f in
               record {

@@ -9,6 +9,7 @@ ghost use Prim.Native.Nat.{_≤_, _<_};
 ghost use lib.ListN.{length};
 ghost use Rattle.mem.specs.Bytes.{zeros, low, put};
 ghost use Rattle.classes.specs.Classes.{rowBytes};
+ghost use Rattle.model.specs.declared.Reply.{Reply};
 ghost use Rattle.model.specs.Answers.{replyAnswer, reportAnswer};
 ghost use Rattle.model.specs.Proposals.{accepts, planned};
 ghost use Rattle.model.specs.Plans.{setsUp, grants, releases, resizes, measures, reports, grantsList};
@@ -31,6 +32,16 @@ pub fn room_len(arena_len: usize) -> usize
         return 0;
     }
     rows::row_at(n)
+}
+
+// A refusal keeps the totals.
+fn refused(r: Refusal, t: Totals) -> Answered
+    ensures { λ a. ⌜ a ≡ record { reply = Reply.Refused r; totals = t } ⌝ }
+{
+    Answered {
+        reply: Reply::Refused(r),
+        totals: t,
+    }
 }
 
 // Writes tables with no groups, for an arena of len bytes.
@@ -58,16 +69,10 @@ pub fn set_up(arena: &mut [u8], room: &mut [u8], t: Totals) -> Answered
     let len = arena.len();
     let size = room_len(len);
     if size == 0 {
-        return Answered {
-            reply: Reply::Refused(Refusal::BadArena),
-            totals: t,
-        };
+        return refused(Refusal::BadArena, t);
     }
     if room.len() != size {
-        return Answered {
-            reply: Reply::Refused(Refusal::BadArena),
-            totals: t,
-        };
+        return refused(Refusal::BadArena, t);
     }
     mem::fill_zero(arena);
     format(room, len);
@@ -93,22 +98,13 @@ pub fn grant(arena: &mut [u8], room: &mut [u8], t: Totals, n: usize) -> Answered
 {
     let len = arena.len();
     if !soundness::sound(classes::ROW, len, room, t) {
-        return Answered {
-            reply: Reply::Refused(Refusal::Unsound),
-            totals: t,
-        };
+        return refused(Refusal::Unsound, t);
     }
     if classes::TOO_LARGE <= n {
-        return Answered {
-            reply: Reply::Refused(Refusal::TooLarge),
-            totals: t,
-        };
+        return refused(Refusal::TooLarge, t);
     }
     let Reserved::Taken(b, taken) = ops::reserve_slot(classes::ROW, len, room, t, n) else {
-        return Answered {
-            reply: Reply::Refused(Refusal::NoRoom),
-            totals: t,
-        };
+        return refused(Refusal::NoRoom, t);
     };
     let start = ops::lay_out(classes::ROW, arena, b);
     Answered {
@@ -125,10 +121,7 @@ pub fn release(arena: &mut [u8], room: &mut [u8], t: Totals, offset: usize) -> A
     ensures { λ r. ⌜ r .totals ≡ call rowBytes (now (arena .entry)) (keptIn (now (room .entry)) t) (releases offset) .room .totals ⌝ }
 {
     if !soundness::sound(classes::ROW, arena.len(), room, t) {
-        return Answered {
-            reply: Reply::Refused(Refusal::Unsound),
-            totals: t,
-        };
+        return refused(Refusal::Unsound, t);
     }
     match ops::locate(classes::ROW, arena, room, offset) {
         Located::At(b) => {
@@ -138,10 +131,7 @@ pub fn release(arena: &mut [u8], room: &mut [u8], t: Totals, offset: usize) -> A
                 totals: left,
             }
         }
-        Located::Refused(r) => Answered {
-            reply: Reply::Refused(r),
-            totals: t,
-        },
+        Located::Refused(r) => refused(r, t),
     }
 }
 
@@ -153,23 +143,14 @@ pub fn resize(arena: &mut [u8], room: &mut [u8], t: Totals, offset: usize, n: us
     ensures { λ r. ⌜ r .totals ≡ call rowBytes (now (arena .entry)) (keptIn (now (room .entry)) t) (resizes offset n) .room .totals ⌝ }
 {
     if !soundness::sound(classes::ROW, arena.len(), room, t) {
-        return Answered {
-            reply: Reply::Refused(Refusal::Unsound),
-            totals: t,
-        };
+        return refused(Refusal::Unsound, t);
     }
     if classes::TOO_LARGE <= n {
-        return Answered {
-            reply: Reply::Refused(Refusal::TooLarge),
-            totals: t,
-        };
+        return refused(Refusal::TooLarge, t);
     }
     match ops::locate(classes::ROW, arena, room, offset) {
         Located::At(b) => ops::change_size(classes::ROW, arena, room, t, b, n),
-        Located::Refused(r) => Answered {
-            reply: Reply::Refused(r),
-            totals: t,
-        },
+        Located::Refused(r) => refused(r, t),
     }
 }
 
@@ -243,34 +224,19 @@ pub fn grant_list(
 {
     let len = arena.len();
     if !soundness::sound(classes::ROW, len, room, t) {
-        return Answered {
-            reply: Reply::Refused(Refusal::Unsound),
-            totals: t,
-        };
+        return refused(Refusal::Unsound, t);
     }
     if !proposals::plannable(total, cap) {
-        return Answered {
-            reply: Reply::Refused(Refusal::TooLong),
-            totals: t,
-        };
+        return refused(Refusal::TooLong, t);
     }
     if starts.len() < proposals::ENTRIES {
-        return Answered {
-            reply: Reply::Refused(Refusal::TooLong),
-            totals: t,
-        };
+        return refused(Refusal::TooLong, t);
     }
     if !proposals::accepts(total, cap, sizes) {
-        return Answered {
-            reply: Reply::Refused(Refusal::BadProposal),
-            totals: t,
-        };
+        return refused(Refusal::BadProposal, t);
     }
     if !survey::fits(classes::ROW, len, room, sizes) {
-        return Answered {
-            reply: Reply::Refused(Refusal::NoRoom),
-            totals: t,
-        };
+        return refused(Refusal::NoRoom, t);
     }
     let granted = lists::grant_all(classes::ROW, arena, room, t, sizes, starts);
     Answered {

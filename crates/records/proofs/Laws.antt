@@ -1,13 +1,13 @@
 -- What the reads and writes of records are to the pool's state.
-use Rattle.mem.proofs.Prelude.{_∙_, _≡_, sym, ap, refl, ap₂, true, Bool, false, List, [], _∷_, _++_, append-assoc, map, _+_, ℕ, _<_, _≤_, _*_, _-_}
-use Rattle.mem.proofs.Prelude.{suc, zero, _^_, arith, T, length, getD, length-append, ones}
+use Rattle.mem.proofs.Prelude.{_∙_, _≡_, sym, ap, refl, ap₂, Bool, List, [], _∷_, _++_, append-assoc, map, _+_, ℕ, _<_, _≤_, _*_, _-_}
+use Rattle.mem.proofs.Prelude.{suc, zero, _^_, arith, T, length, getD, length-append}
 use native.Mathlib.Nat.{pow-succ', div-one, div-div-eq-div-mul}
 use lib.ListN.{List·getD-map}
 use lib.Seq.{take-at}
-use Rattle.mem.specs.Lists.{every, any, sum, join}
+use Rattle.mem.specs.Lists.{every, any, join}
 use Rattle.mem.specs.Bytes.{zeros, low, bit, mask, part, put}
 use Rattle.mem.proofs.Tests.{every-in, choose-case}
-use Rattle.mem.proofs.Masks.{low-test, rest-bits, ones-sum}
+use Rattle.mem.proofs.Masks.{low-test, rest-bits}
 use Rattle.mem.proofs.Laws.{join-append, put-at, part-back}
 use Rattle.classes.specs.Classes.{rowsOf}
 use Rattle.masks.specs.declared.Masks.{Masks}
@@ -15,7 +15,7 @@ use Rattle.model.specs.declared.Slot.{Slot}
 use Rattle.model.specs.declared.Slot.the-variants.{Fresh, Idle, Live}
 use Rattle.model.specs.declared.Holder.{Holder}
 use Rattle.model.specs.declared.Holder.the-variants.{First}
-use Rattle.model.specs.State.{Pool, group, isReady, isWaiting, isLive, slotSound, wellFormed, rows}
+use Rattle.model.specs.State.{Pool, group, isReady, isWaiting, slotSound, wellFormed, rows}
 use Rattle.model.specs.Tables.{rowAt, byMasks, slotRecord, rowRecord, laterRecords, spanRecords, encode}
 use Rattle.model.specs.Plans.{turnReady, refill}
 use Rattle.model.proofs.Tables.{slot-length, slots-length, rowHead, head-length, row-parts, masks-laws, mask-read, view-slot}

@@ -1,6 +1,7 @@
 -- Laws of what is counted: a group's masks and records say the totals of its slots, and the rows' totals are those of their spans.
-use Rattle.mem.proofs.Prelude.{_∙_, _≡_, sym, ap, ap₂, refl, subst, true, false, Bool, _&&_, and-assoc, List, [], _∷_, _++_, append-assoc, map, ℕ, _+_, _*_, _-_, _/_, _<_, _≤_}
-use Rattle.mem.proofs.Prelude.{add-zero, zero-add, add-assoc, sub-zero, arith, T, leb, eqb→eq, length, drop, length-drop, drop-at, drop-drop, ones}
+use Rattle.mem.proofs.Prelude.{_∙_, _≡_, sym, ap, ap₂, refl, subst, true, false, Bool, _&&_, and-assoc, List, [], _∷_, _++_, append-assoc, map}
+use Rattle.mem.proofs.Prelude.{ℕ, _+_, _*_, _-_, _/_, _<_, _≤_, add-zero, zero-add, add-assoc, sub-zero, arith, T, leb, eqb→eq, length, drop}
+use Rattle.mem.proofs.Prelude.{length-drop, drop-at, drop-drop, ones}
 use mathlib.Core.Bool.{and-comm}
 use lib.ListN.{drop-of-length-le}
 use Rattle.mem.specs.Lists.{choose, every, sum, join, starts}
@@ -9,7 +10,7 @@ use Rattle.mem.proofs.Tests.{and-left, and-right, true-T, choose-false}
 use Rattle.mem.proofs.Laws.{number-low, sum-below}
 use Rattle.mem.proofs.Starts.{starts-split}
 use Rattle.classes.specs.Classes.{slotsOf, rowsOf}
-use Rattle.classes.proofs.Laws.{slots-small, rows-pos}
+use Rattle.classes.proofs.Laws.{rows-pos}
 use Rattle.model.specs.declared.Slot.{Slot}
 use Rattle.model.specs.declared.Slot.the-variants.{Fresh, Idle, Live}
 use Rattle.model.specs.declared.Holder.the-variants.{Free, First, Later}
@@ -26,7 +27,7 @@ use Rattle.rows.specs.Checks.{groupChecked, spanChecked, rowsChecked}
 use Rattle.rows.proofs.Checks.{held-law, span-begins, rows-pass, rows-fail}
 use Rattle.soundness.specs.declared.Counted.{Counted}
 use Rattle.soundness.specs.Checks.{membersChecked}
-use Rattle.soundness.specs.Counts.{PerRow, plus, countedIf, groupTotals, masksTotals, spanHeld, tileCounted, spanCounted, rowsCounted}
+use Rattle.soundness.specs.Counts.{allRows, PerRow, plus, countedIf, groupTotals, masksTotals, spanHeld, tileCounted, spanCounted, rowsCounted}
 use Rattle.soundness.proofs.Laws.{group-length}
 
 -- ---- the slots of a group
@@ -45,6 +46,7 @@ sizes-read c (x ∷ ss) rest t =
     (ap₂ (λ a b. a + b) (size-read c x (join slotRecord ss ++ rest) (and-left (slotSound c x) (every (slotSound c) ss) t))
     (sizes-read c ss rest (and-right (slotSound c x) (every (slotSound c) ss) t)))
 
+-- the masks and the records of slots that are sound
 module _ (c : ℕ) (t : List ℕ) (h : T (membersChecked c t)) where
   ready-ones : ones (number (part 8 4 t)) ≡ sum (λ x. bit (isReady x)) (viewGroup c t)
   unfolding membersChecked
@@ -67,28 +69,26 @@ module _ (c : ℕ) (t : List ℕ) (h : T (membersChecked c t)) where
       ap (sizesIn (slotsOf c)) (starts-split (drop 16 t) J (8 * length ss) (slots-length ss) (search (and-left, and-right)))
       ∙ subst (λ k. sizesIn k (J ++ rest) ≡ sum size ss) (group-length c t) (sizes-read c ss rest (search (and-left, and-right)))
 
+  all-slots : ones (number (part 8 4 t)) + ones (number (part 12 4 t)) + sum (λ x. bit (isLive x)) (viewGroup c t) ≡ slotsOf c
+  all-slots = omega (arith, ready-ones, waiting-ones, three-sets (viewGroup c t), group-length c t)
+
+  masks-totals : (k : ℕ) → masksTotals k (slotsOf c) (number (part 8 4 t)) (number (part 12 4 t)) (sizesIn (slotsOf c) (drop 16 t))
+      ≡ groupTotals k (viewGroup c t)
+  masks-totals k =
+      let e : slotsOf c - (ones (number (part 8 4 t)) + ones (number (part 12 4 t))) ≡ sum (λ x. bit (isLive x)) (viewGroup c t) = omega (arith, all-slots) in
+      rw (e, sizes-sum, ready-ones, waiting-ones)
+
 -- over what the calls give
 module _ (s : List ℕ) (at c n r w : ℕ) (h : membersChecked c (drop at s) ≡ true) (en : n ≡ slotsOf c)
     (er : r ≡ number (part (at + 8) 4 s)) (ew : w ≡ number (part (at + 12) 4 s)) where
-  all-slots : (ones r ≡ sum (λ x. bit (isReady x)) (viewGroup c (drop at s))) × (ones w ≡ sum (λ x. bit (isWaiting x)) (viewGroup c (drop at s)))
-      × (ones r + ones w + sum (λ x. bit (isLive x)) (viewGroup c (drop at s)) ≡ n)
-  all-slots =
-      let t = drop at s in
-      let u = true-T (membersChecked c t) h in
-      let r′ : ones r ≡ sum (λ x. bit (isReady x)) (viewGroup c t) = rw (er, ← drop-drop 8 at s) (ready-ones c t u) in
-      let w′ : ones w ≡ sum (λ x. bit (isWaiting x)) (viewGroup c t) = rw (ew, ← drop-drop 12 at s) (waiting-ones c t u) in
-      (r′, w′, omega (arith, three-sets (viewGroup c t), group-length c t))
-
-  -- no more slots are ready or waiting than the group has
   pub idle-few : ones r + ones w ≤ n
-  idle-few = omega (arith, all-slots .2)
+  idle-few =
+      rw (en, er, ew, ← (drop-drop 8 at s), ← (drop-drop 12 at s)) (omega (arith, all-slots c (drop at s) (true-T (membersChecked c (drop at s)) h)))
 
   pub members-totals : (b k : ℕ) → b ≡ sizesIn n (drop (at + 16) s) → masksTotals k n r w b ≡ groupTotals k (viewGroup c (drop at s))
   members-totals b k eb =
-      let t = drop at s in
-      let e : n - (ones r + ones w) ≡ sum (λ x. bit (isLive x)) (viewGroup c t) = omega (arith, all-slots .2) in
-      let f : b ≡ sum size (viewGroup c t) = eb ∙ rw (en, ← drop-drop 16 at s) (sizes-sum c t (true-T (membersChecked c t) h)) in
-      rw (e, f, all-slots .0, all-slots .1)
+      rw (eb, en, er, ew, ← (drop-drop 8 at s), ← (drop-drop 12 at s), ← (drop-drop 16 at s))
+      (masks-totals c (drop at s) (true-T (membersChecked c (drop at s)) h) k)
 
 -- ---- one span
 
@@ -111,6 +111,9 @@ pub later-counted : (row n k : ℕ) (t : List ℕ) → viewHolder t ≡ Later k 
 unfolding spanCounted spanChecked
 later-counted row n k t h = rw h
 
+later-first : (n g l : Bool) → (n && g && l) ≡ (n && l && g)
+later-first n g l = simp (and-assoc, and-comm)
+
 -- the group whose first row is row i, over what the calls give
 pub held-counted : (row n i c k : ℕ) (s : List ℕ) → viewHolder (drop (rowAt i) s) ≡ First c → k ≡ rowsOf row c
     → spanCounted row n (drop (rowAt i) s)
@@ -124,7 +127,7 @@ held-counted row n i c k s h e =
     let x : totals row (spanHeld t (viewHolder t) ∷ []) ≡ groupTotals k (viewGroup c t) = rw (h, e) (group-totals row c (viewGroup c t)) in
     ap₂ tileCounted (held-law byMasks row n i c k s h e) x
     ∙ tile-if (leb k n && g && l) k (groupTotals k (viewGroup c t))
-    ∙ ap (λ b. countedIf b (groupTotals k (viewGroup c t))) (and-assoc (leb k n) g l ∙ ap (λ b. leb k n && b) (and-comm g l) ∙ sym (and-assoc (leb k n) l g))
+    ∙ ap (λ b. countedIf b (groupTotals k (viewGroup c t))) (later-first (leb k n) g l)
 
 -- ---- all rows
 
@@ -161,7 +164,7 @@ span-read row (group c ss) rest h =
     let X = laterRecords (rowsOf row c - 1) 1 ++ rest in
     rw (append-assoc (rowRecord (First c) ss) (laterRecords (rowsOf row c - 1) 1) rest, masks-laws .holder c ss X) (ap (group c) (masks-laws .slots c ss X h))
 
-span-rows : (row : ℕ) (x : Span) → totals row (x ∷ []) .held + totals row (x ∷ []) .free ≡ rowsIn row x
+span-rows : (row : ℕ) (x : Span) → allRows (totals row (x ∷ [])) ≡ rowsIn row x
 unfolding totals
 span-rows row x = omega (arith, held-free row (x ∷ []))
 
@@ -177,36 +180,22 @@ span-light row pos (group c ss) h =
     (omega arith, omega arith, omega arith, omega arith)
 
 module _ (row : ℕ) where
-  -- a span counted u, where n rows are left, and the rows behind it
-  pub record Step (n : ℕ) (t : List ℕ) (u : Totals) : Type 0 where
-    pub some : 1 ≤ u .held + u .free
-    pub few : u .held + u .free ≤ n
+  -- u is counted of the span that begins here, where n rows are left; the rows behind it are to be counted
+  pub record Begun (n : ℕ) (t : List ℕ) (u : Totals) : Type 0 where
+    pub some : 1 ≤ allRows u
+    pub few : allRows u ≤ n
     pub light : PerRow u
-    pub rest : rowsCounted row n t ≡ more u (rowsCounted row (n - (u .held + u .free)) (drop (rowRecordBytes * (u .held + u .free)) t))
+    pub left : rowsCounted row n t ≡ more u (rowsCounted row (n - allRows u) (drop (rowRecordBytes * allRows u) t))
 
-  -- s is counted of n rows in a room; the others are left
-  pub record Passed (n : ℕ) (room : List ℕ) (s : Totals) : Type 0 where
-    pub few : s .held + s .free ≤ n
-    pub light : PerRow s
-    pub left : rowsCounted row n (drop 16 room) ≡ more s (rowsCounted row (n - (s .held + s .free)) (drop (rowAt (s .held + s .free)) room))
-
-  pub none-passed : (n : ℕ) (room : List ℕ) → Passed n room none
-  none-passed n room = record {
-    few = omega arith;
-    light = (omega arith, omega arith, omega arith, omega arith);
-    left = rw sub-zero (sym (none-more (rowsCounted row n (drop 16 room))));
-  }
-
-  module _ (pos : 0 < row) where
-    span-step : (n k : ℕ) (t : List ℕ) (p : 0 < n) (e : spanChecked byMasks row n t ≡ Tile.Rows k)
-        → Step n t (totals row (span-begins masks-laws row pos n k t p e .span ∷ []))
+  module _ (pos : 0 < row) (n : ℕ) (t : List ℕ) (p : 0 < n) where
+    span-begun : (k : ℕ) (e : spanChecked byMasks row n t ≡ Tile.Rows k) → Begun n t (totals row (span-begins masks-laws row pos n k t p e .span ∷ []))
     unfolding rowsCounted
-    span-step n k t p e =
+    span-begun k e =
         let b = span-begins masks-laws row pos n k t p e in
         let r = rows-pass masks-laws row pos n k t p e in
         let x = b .span in
         let s = totals row (x ∷ []) in
-        let K : s .held + s .free ≡ k = span-rows row x ∙ b .long in
+        let K : allRows s ≡ k = span-rows row x ∙ b .long in
         let R = drop (rowRecordBytes * k) t in
         let P = viewRowsBy byMasks row (n - k) 0 R in
         let m : n ≡ rowsIn row x + (n - k) = omega (arith, b .long, b .left) in
@@ -216,62 +205,71 @@ module _ (row : ℕ) where
           some = rw K (r .0);
           few = rw K (r .1);
           light = span-light row pos x (b .right);
-          rest = rw K (ap₂ countedIf (r .2) (ap (totals row) v ∙ totals-cons row x P) ∙ sym (more-if s (rowsChecked byMasks row (n - k) R) (totals row P)));
+          left = rw K (ap₂ countedIf (r .2) (ap (totals row) v ∙ totals-cons row x P) ∙ sym (more-if s (rowsChecked byMasks row (n - k) R) (totals row P)));
         }
 
-    span-counts : (n : ℕ) (t : List ℕ) (u : Totals) → 0 < n → spanCounted row n t ≡ Counted.Sound u → Step n t u
+    pub span-counts : (u : Totals) → spanCounted row n t ≡ Counted.Sound u → Begun n t u
     unfolding spanCounted
-    span-counts n t u p = go (spanChecked byMasks row n t) refl
+    span-counts u = go (spanChecked byMasks row n t) refl
       where
-        go : (x : Tile) → spanChecked byMasks row n t ≡ x → tileCounted x (totals row (spanHeld t (viewHolder t) ∷ [])) ≡ Counted.Sound u → Step n t u
+        go : (x : Tile) → spanChecked byMasks row n t ≡ x → tileCounted x (totals row (spanHeld t (viewHolder t) ∷ [])) ≡ Counted.Sound u → Begun n t u
         go (Tile.Rows k) e q =
             let b = span-begins masks-laws row pos n k t p e in
             let f : spanHeld t (viewHolder t) ≡ b .span =
             subst (λ l. spanHeld l (viewHolder l) ≡ b .span) (sym (b .form)) (span-read row (b .span) (drop (rowRecordBytes * k) t) (b .right)) in
             let g : totals row (spanHeld t (viewHolder t) ∷ []) ≡ u = cc in
-            subst (Step n t) (ap (λ x. totals row (x ∷ [])) (sym f) ∙ g) (span-step n k t p e)
+            subst (Begun n t) (ap (λ x. totals row (x ∷ [])) (sym f) ∙ g) (span-begun k e)
         go Tile.Unsound e q = let z : _≡_ {A = ℕ} 0 1 = cc in absurd (omega arith)
 
-    span-refused : (n : ℕ) (t : List ℕ) → 0 < n → length t ≡ rowRecordBytes * n → spanCounted row n t ≡ Counted.Unsound → rowsCounted row n t ≡ Counted.Unsound
+    span-refused : length t ≡ rowRecordBytes * n → spanCounted row n t ≡ Counted.Unsound → rowsCounted row n t ≡ Counted.Unsound
     unfolding spanCounted rowsCounted
-    span-refused n t p l = go (spanChecked byMasks row n t) refl
+    span-refused l = go (spanChecked byMasks row n t) refl
       where
         go : (x : Tile) → spanChecked byMasks row n t ≡ x → tileCounted x (totals row (spanHeld t (viewHolder t) ∷ [])) ≡ Counted.Unsound
             → countedIf (rowsChecked byMasks row n t) (totals row (viewRowsBy byMasks row n 0 t)) ≡ Counted.Unsound
         go (Tile.Rows k) e q = let z : _≡_ {A = ℕ} 0 1 = cc in absurd (omega arith)
         go Tile.Unsound e q = choose-false (rowsChecked byMasks row n t) _ Counted.Unsound (rows-fail masks-laws row pos n t p l e)
 
-    module _ (n : ℕ) (room : List ℕ) (s : Totals) (p : Passed n room s) where
-      pub step : (u : Totals) → s .held + s .free < n → spanCounted row (n - (s .held + s .free)) (drop (rowAt (s .held + s .free)) room) ≡ Counted.Sound u
-          → Step (n - (s .held + s .free)) (drop (rowAt (s .held + s .free)) room) u
-      step u h e = span-counts (n - (s .held + s .free)) (drop (rowAt (s .held + s .free)) room) u (omega arith) e
+  -- s is counted of the first of a room's n rows; the others are to be counted
+  pub record Passed (n : ℕ) (room : List ℕ) (s : Totals) : Type 0 where
+    pub few : allRows s ≤ n
+    pub light : PerRow s
+    pub left : rowsCounted row n (drop 16 room) ≡ more s (rowsCounted row (n - allRows s) (drop (rowAt (allRows s)) room))
 
-      pub again : (u : Totals) → Step (n - (s .held + s .free)) (drop (rowAt (s .held + s .free)) room) u → Passed n room (plus s u)
-      again u f = record {
-        few = omega (arith, p .few, f .few);
-        light = let a = p .light in let b = f .light in (omega arith, omega arith, omega arith, omega arith);
-        left =
-            let i = s .held + s .free in
-            let k = u .held + u .free in
-            let j : n - i - k ≡ n - (s .held + u .held + (s .free + u .free)) = omega arith in
-            let q : rowAt i + rowRecordBytes * k ≡ rowAt (s .held + u .held + (s .free + u .free)) = omega arith in
-            p .left ∙ ap (more s) (f .rest) ∙ more-more s u (rowsCounted row (n - i - k) (drop (rowRecordBytes * k) (drop (rowAt i) room))) ∙ rw (drop-drop (rowRecordBytes * k) (rowAt i) room, j, q);
-      }
+  pub none-passed : (n : ℕ) (room : List ℕ) → Passed n room none
+  none-passed n room = record {
+    few = omega arith;
+    light = (omega arith, omega arith, omega arith, omega arith);
+    left = rw sub-zero (sym (none-more (rowsCounted row n (drop 16 room))));
+  }
 
-      pub refused : s .held + s .free < n → length room ≡ rowAt n
-          → spanCounted row (n - (s .held + s .free)) (drop (rowAt (s .held + s .free)) room) ≡ Counted.Unsound → rowsCounted row n (drop 16 room) ≡ Counted.Unsound
-      refused h l e =
-          let i = s .held + s .free in
-          p .left
-          ∙ ap (more s) (span-refused (n - i) (drop (rowAt i) room) (omega arith) (omega (arith, length-drop (rowAt i) room)) e)
+  module _ (n : ℕ) (room : List ℕ) (s : Totals) (p : Passed n room s) where
+    pub more-passed : (u : Totals) → Begun (n - allRows s) (drop (rowAt (allRows s)) room) u → Passed n room (plus s u)
+    more-passed u f = record {
+      few = omega (arith, p .few, f .few);
+      light = let a = p .light in let b = f .light in (omega arith, omega arith, omega arith, omega arith);
+      left =
+          let i = allRows s in
+          let k = allRows u in
+          let j : n - i - k ≡ n - allRows (plus s u) = omega arith in
+          let q : rowAt i + rowRecordBytes * k ≡ rowAt (allRows (plus s u)) = omega arith in
+          p .left ∙ ap (more s) (f .left) ∙ more-more s u (rowsCounted row (n - i - k) (drop (rowRecordBytes * k) (drop (rowAt i) room)))
+          ∙ rw (drop-drop (rowRecordBytes * k) (rowAt i) room, j, q);
+    }
 
-      pub all-passed : n ≤ s .held + s .free → length room ≡ rowAt n → rowsCounted row n (drop 16 room) ≡ Counted.Sound s
-      unfolding rowsCounted rowsChecked viewRowsBy totals choose
-      all-passed h l =
-          let i = s .held + s .free in
-          let z : n - i ≡ 0 = omega arith in
-          let d : drop (rowAt i) room ≡ [] = drop-of-length-le room {i = rowAt i} (omega arith) in
-          p .left ∙ rw (z, d) (ap Counted.Sound (simp add-zero))
+    pub all-passed : n ≤ allRows s → length room ≡ rowAt n → rowsCounted row n (drop 16 room) ≡ Counted.Sound s
+    unfolding rowsCounted rowsChecked viewRowsBy totals choose
+    all-passed h l =
+        let i = allRows s in
+        let z : n - i ≡ 0 = omega arith in
+        let d : drop (rowAt i) room ≡ [] = drop-of-length-le room {i = rowAt i} (omega arith) in
+        p .left ∙ rw (z, d) (ap Counted.Sound (simp add-zero))
+
+    pub not-passed : 0 < row → allRows s < n → length room ≡ rowAt n → (let t = drop (rowAt (allRows s)) room in
+        spanCounted row (n - allRows s) t ≡ Counted.Unsound → rowsCounted row n (drop 16 room) ≡ Counted.Unsound)
+    not-passed pos h l e =
+        let i = allRows s in
+        p .left ∙ ap (more s) (span-refused pos (n - i) (drop (rowAt i) room) (omega arith) (omega (arith, length-drop (rowAt i) room)) e)
 
 -- ---- the room and the record
 

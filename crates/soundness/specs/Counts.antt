@@ -16,10 +16,14 @@ use Rattle.rows.specs.declared.Tile.{Tile}
 use Rattle.rows.specs.Checks.{spanChecked, rowsChecked}
 use Rattle.soundness.specs.declared.Counted.{Counted}
 
+-- the rows that totals are of
+abbrev pub allRows : Totals → ℕ
+allRows s = s .held + s .free
+
 -- totals in which a row counts for at most 31 slots and 2 ^ 32 bytes
 abbrev pub PerRow : Totals → Type 0
-PerRow s = (s .blocks ≤ 31 * (s .held + s .free)) × (s .bytes ≤ 4294967296 * (s .held + s .free)) × (s .ready ≤ 31 * (s .held + s .free))
-    × (s .waiting ≤ 31 * (s .held + s .free))
+PerRow s = (s .blocks ≤ 31 * allRows s) × (s .bytes ≤ 4294967296 * allRows s) × (s .ready ≤ 31 * allRows s)
+    × (s .waiting ≤ 31 * allRows s)
 
 abbrev pub plus : Totals → Totals → Totals
 plus a b = record {

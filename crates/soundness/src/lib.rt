@@ -12,7 +12,7 @@ ghost use Rattle.model.specs.Tables.{headBytes, rowRecordBytes, mostSlots, slot
 ghost use Rattle.model.specs.Calls.{keptIn, sameTotals, soundKept};
 ghost use Rattle.rows.specs.Checks.{groupChecked};
 ghost use Rattle.soundness.specs.Checks.{recordChecked, slotsChecked, membersChecked};
-ghost use Rattle.soundness.specs.Counts.{PerRow, plus, countedIf, groupTotals, masksTotals, spanCounted, rowsCounted};
+ghost use Rattle.soundness.specs.Counts.{allRows, PerRow, plus, countedIf, groupTotals, masksTotals, spanCounted, rowsCounted};
 use model::Holder;
 use model::Totals;
 
@@ -244,7 +244,7 @@ fn span_counted(row: usize, room: &[u8], i: usize, n: usize) -> Counted
 fn plus(a: Totals, b: Totals) -> Totals
     requires { ⌜ PerRow a ⌝ }
     requires { ⌜ PerRow b ⌝ }
-    requires { ⌜ a .held + a .free + (b .held + b .free) ≤ 512 ⌝ }
+    requires { ⌜ allRows a + allRows b ≤ 512 ⌝ }
     ensures { λ r. ⌜ r ≡ plus a b ⌝ }
 {
     Totals {

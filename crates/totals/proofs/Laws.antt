@@ -1,5 +1,5 @@
 -- What a change of one group is to the totals of the pool.
-use Rattle.mem.proofs.Prelude.{_∙_, _≡_, sym, ap, refl, true, false, Bool, not, true≢false, List, [], _∷_, _++_, map, _+_, ℕ, suc, zero, _<_, _≤_, _*_, arith, T}
+use Rattle.mem.proofs.Prelude.{_∙_, _≡_, ap, refl, true, false, Bool, not, true≢false, List, [], _∷_, _++_, map, _+_, ℕ, _<_, _≤_, _*_, arith, T}
 use Rattle.mem.proofs.Prelude.{replicate}
 use Rattle.mem.specs.Lists.{choose, any, sum}
 use Rattle.mem.specs.Bytes.{bit}

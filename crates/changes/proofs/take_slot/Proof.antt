@@ -41,7 +41,8 @@ returns c row g o =
     let m₀ = m .before in
     let a = m₀ .before .before .before .args in
     let d = taken-slot (a .i) (a .c) (a .n) (now (a .room)) (m₀ .masks-at .result) (m .refill .result) (m₀ .masks-at .ensures) (m .refill .ensures) row g o
-    (l .lowest .result) (x .slot-at .result) (w .before .before .grant-slot .result) (w .take .result) (c .before .before .before .store .last .0) (l .lowest .ensures)
+    (l .lowest .result) (x .slot-at .result) (w .before .before .grant-slot .result) (w .take .result) (c .before .before .before .store .last .0)
+    (l .lowest .ensures)
     (x .slot-at .ensures) (w .before .before .grant-slot .ensures) (w .take .ensures) (c .before .before .before .store .ensures) in (
       d .0,
       d .1,

@@ -18,8 +18,10 @@ returns c =
     let d = c .before .before .before .before in
     let a = d .before .before .before .before .args in
     let r = reserved-none (a .row) (reserve (a .row) (view (a .row) (now (a .room))) (a .s .size))
-    (sym (d .reserve-in .ensures .0) ∙ c .enum-told .given .1) in
-    ((sym (ap (startOr (a .row)) r), sym (ap (firstOr (a .row)) r), sym (ap (totalsOr (a .row) (a .t)) r)), (sym (ap (arenaAfter (a .row) (now (a .arena))) r), d .reserve-in .ensures .1))
+    (sym (d .reserve-in .ensures .0) ∙ c .enum-told .given .1) in (
+      (sym (ap (startOr (a .row)) r), sym (ap (firstOr (a .row)) r), sym (ap (totalsOr (a .row) (a .t)) r)),
+      (sym (ap (arenaAfter (a .row) (now (a .arena))) r), d .reserve-in .ensures .1),
+    )
 
 -- the block that is granted
 block : (c : tie.After-known-told) → (let s = c .before .before .before .before .before .before .before .before .before in

@@ -7,8 +7,7 @@ use Rattle.ops.proofs.reserve_slot.Tie as tie
 reserve-in-requires : tie.Need-reserve-in-requires
 reserve-in-requires c κs =
     let k = c .class-of in
-    let s = c .before .before .before in
-    (
+    let s = c .before .before .before in (
       s .pre .0,
       ((s .pre .1 .0 .0, k .ensures .0, k .ensures .1, open-start (s .args .row) (now (s .args .room)) (k .result), s .pre .1 .0 .1), s .pre .1 .1),
     )

@@ -20,7 +20,8 @@ room s = by-masks (s .pre .0) (s .pre .1 .1)
 returns : tie.Need-returns
 returns c =
     let s = c .before .before .before .before .before .before in
-    site-open (room s) (s .args .c) (s .args .t) (s .pre .1 .0 .2) (c .before .i .given .0 .0) (sym (c .before .i .given .1) ∙ c .before .before .before .find-open .ensures)
+    site-open (room s) (s .args .c) (s .args .t) (s .pre .1 .0 .2) (c .before .i .given .0 .0)
+    (sym (c .before .i .given .1) ∙ c .before .before .before .find-open .ensures)
 
 -- no group can serve
 shut : (c : tie.After-enum-told) → (let a = c .before .before .before .before .before .args in
@@ -31,7 +32,8 @@ returns-2 : tie.Need-returns-2
 returns-2 c =
     let k = c .before .before .before .before in
     let s = k .before .before .before .before .before in
-    site-none (room s) (s .args .c) (s .args .t) (s .pre .1 .0 .2) (shut k) (sym (c .enum-told2 .given .1) ∙ c .before .before .find-run .ensures byMasks (room s))
+    site-none (room s) (s .args .c) (s .args .t) (s .pre .1 .0 .2) (shut k)
+    (sym (c .enum-told2 .given .1) ∙ c .before .before .find-run .ensures byMasks (room s))
 
 -- the run that is found
 run : (c : tie.After-known-told2) → (let a = c .before .before .before .before .before .before .before .before .before .before .args in
@@ -43,7 +45,8 @@ run c =
 make-group-requires : tie.Need-make-group-requires
 make-group-requires c κs =
     let s = c .before .before .before .before .before .before .before .before .before .before .before in
-    let m = run-inside (room s) (s .args .c) (s .args .t) (s .pre .1 .0 .2) (shut (c .before .before .before .before .before .before)) (c .before .before .i2 .given .0 .0)
+    let m = run-inside (room s) (s .args .c) (s .args .t) (s .pre .1 .0 .2) (shut (c .before .before .before .before .before .before))
+    (c .before .before .i2 .given .0 .0)
     (run (c .before)) in
     ((s .pre .1 .0 .0, m .0), (m .1, search needs))
 
@@ -56,8 +59,8 @@ counts k =
     site-counts (room s) (s .args .c) (s .args .t) (s .pre .1 .0 .2) (shut (k .before .before .before .before .before)) (k .before .i2 .given .0 .0) (run k)
 
 -- over what the calls give of the class
-makes : (c : tie.After-slots) → (let a = c .before .before .before .before .before .before .before .before .before .before .before .before .before .before .before .before .args in
-    Makes (c .before .rows .result) (c .slots .result) (a .t) (counts (c .before .before .before .before .before .before) .0))
+makes : (c : tie.After-slots)
+    → (let k = c .before .before .before .before .before .before in Makes (c .before .rows .result) (c .slots .result) (k .before .before .before .before .before .before .before .before .before .before .args .t) (counts k .0))
 makes c = rw (c .before .rows .ensures .0, c .slots .ensures .0) (counts (c .before .before .before .before .before .before) .1)
 
 made-requires : tie.Need-made-requires
@@ -70,7 +73,8 @@ returns-3 c =
     let d = counts k in
     let g = c .before .before .before .before .before .make-group in (
       ap (In (k .before .i2 .given .0 .0)) (c .made .ensures (d .0) (makes (c .before))) ∙ d .3,
-      site-made (room s) (s .args .c) (s .args .t) (s .pre .1 .0 .2) (shut (k .before .before .before .before .before)) (k .before .i2 .given .0 .0) (run k) (g .last .1 .0) (g .ensures),
+      site-made (room s) (s .args .c) (s .args .t) (s .pre .1 .0 .2) (shut (k .before .before .before .before .before)) (k .before .i2 .given .0 .0) (run k)
+          (g .last .1 .0) (g .ensures),
     )
 
 pub site-for-spec : {M : Type 1} → statement M

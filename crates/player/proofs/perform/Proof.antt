@@ -46,7 +46,8 @@ asks : (s : tie.Start) (o : Op) (c : Call) (x : Answer) (b u : List ℕ) (z : To
     → (let r = call rowBytes (now (s .args .arena)) (keptIn (now (s .args .room)) (s .args .t)) c in
     (x ≡ r .answer) × ((b ≡ r .arena) × ((u ≡ r .room .tables) × (z ≡ r .room .totals))))
     → Parts (record { tells = some x; arena = b; room = keptIn u z }) (does s (s .args .op))
-asks s o c x b u z e d r = of-call (does s (s .args .op)) (call rowBytes (now (s .args .arena)) (keptIn (now (s .args .room)) (s .args .t)) c) x b u z (ap (does s) e ∙ d) r
+asks s o c x b u z e d r = of-call (does s (s .args .op)) (call rowBytes (now (s .args .arena)) (keptIn (now (s .args .room)) (s .args .t)) c) x b u z
+    (ap (does s) e ∙ d) r
 
 -- a call that tells one value and its totals
 tells : (s : tie.Start) (p : Played) (r : Answered) (b u : List ℕ) → (p .told ≡ Told.One (r .reply)) × (p .totals ≡ r .totals)
@@ -113,7 +114,8 @@ stores g =
     let s = g .before .before .before .before .before .before .before .before .before in
     let o = g .before .before .before .before .op5 .given in
     let bs = part (o .0 .1 .0) (o .0 .1 .1 .0 - o .0 .1 .0) (now (s .args .trace)) in
-    of-store rowBytes (does s (s .args .op)) (now (s .args .arena)) (keptIn (now (s .args .room)) (s .args .t)) bs (g .store .last .0) (o .0 .0) (g .store .result)
+    of-store rowBytes (does s (s .args .op)) (now (s .args .arena)) (keptIn (now (s .args .room)) (s .args .t)) bs (g .store .last .0) (o .0 .0)
+    (g .store .result)
     (ap (does s) (o .1)) (g .store .ensures)
 
 returns-5 : tie.Need-returns-5

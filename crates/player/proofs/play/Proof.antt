@@ -21,8 +21,16 @@ abbrev μ-loop : tie.MeasureT-loop
 
 loop-holds : tie.Need-loop-holds Inv-loop μ-loop
 loop-holds c =
-    let a = c .before .before .before .before .args in
-    (omega arith, omega arith, omega arith, refl, refl, refl, left-all _ _ (now (a .out)) (all-left (now (a .arena)) (keptIn (now (a .room)) (a .t)) (now (a .trace))))
+    let a = c .before .before .before .before .args in (
+      omega arith,
+      omega arith,
+      omega arith,
+      refl,
+      refl,
+      refl,
+      left-all _ _ (now (a .out))
+          (all-left (now (a .arena)) (keptIn (now (a .room)) (a .t)) (now (a .trace))),
+    )
 
 -- what the record that was read promises
 promised : (o : tie.After-op Inv-loop μ-loop)
@@ -41,8 +49,10 @@ put-line-requires : tie.Need-put-line-requires Inv-loop μ-loop
 put-line-requires c κs =
     let d = c .before .before .before .before .before in
     let w = promised (d .before .before .before .before) in
-    let l = c .before .before .before .before .before .before .before .before .before .before .before .before .loop .inv in
-    (omega (arith, w .0, w .1 .0, l .2, l .5, c .before .before .before .before .before .before .before .before .before .before .before .before .before .before .before .before .before .pre .1, c .before .before .before .before .before .before .before .before .before .before .before .before .before .before .before .before .before .pre .2), d .perform .ensures .0)
+    let k = d .before .before .before .before .before .before .before in
+    let l = k .loop .inv in
+    let h = k .before .before .before .before .before .pre in
+    (omega (arith, w .0, w .1 .0, l .2, l .5, h .1, h .2), d .perform .ensures .0)
 
 -- the record's line is written, and what is behind it is left
 written : (p : tie.After-is-bad Inv-loop μ-loop)
@@ -52,7 +62,8 @@ written : (p : tie.After-is-bad Inv-loop μ-loop)
     let k = o .before .before .before in
     let a = k .before .before .before .before .before .args in
     Left 0 (playedText (now (a .arena)) (keptIn (now (a .room)) (a .t)) (now (a .trace))) (now (a .out)) (l .put-line .result)
-    (Behind (answerOf (d .perform .result .told)) (d .perform .last .0) (keptIn (d .perform .last .1 .0) (d .perform .result .totals)) (now (a .trace)) (k .loop .count + 1) (o .op .given .0 .1 .0))
+    (Behind (answerOf (d .perform .result .told)) (d .perform .last .0) (keptIn (d .perform .last .1 .0) (d .perform .result .totals)) (now (a .trace))
+    (k .loop .count + 1) (o .op .given .0 .1 .0))
     (l .put-line .last .0))
 written p =
     let l = p .before .before .before in
@@ -66,9 +77,11 @@ written p =
     let x = answerOf (d .perform .result .told) in
     left-step 0 (playedText (now (a .arena)) (keptIn (now (a .room)) (a .t)) (now (a .trace))) (now (a .out)) (k .loop .end) (l .put-line .result)
     (Rest (k .loop .arena) (keptIn (k .loop .room) (k .loop .kept)) (now (a .trace)) i (k .loop .at)) (lineText (lineOf i x))
-    (Behind x (d .perform .last .0) (keptIn (d .perform .last .1 .0) (d .perform .result .totals)) (now (a .trace)) (i + 1) (o .op .given .0 .1 .0)) (k .loop .out) (l .put-line .last .0)
+    (Behind x (d .perform .last .0) (keptIn (d .perform .last .1 .0) (d .perform .result .totals)) (now (a .trace)) (i + 1) (o .op .given .0 .1 .0))
+    (k .loop .out) (l .put-line .last .0)
     (turn (k .loop .arena) (keptIn (k .loop .room) (k .loop .kept)) (now (a .trace)) i (k .loop .at) (omega arith) (o .op .given .0 .0) (o .op .given .0 .1 .0)
-    (sym (o .op .given .1) ∙ r .read .ensures) x (d .perform .last .0) (d .perform .last .1 .0) (d .perform .result .totals) (e .1 .0) (e .1 .1 .0) (e .1 .1 .1 .0)
+    (sym (o .op .given .1) ∙ r .read .ensures) x (d .perform .last .0) (d .perform .last .1 .0) (d .perform .result .totals) (e .1 .0) (e .1 .1 .0)
+    (e .1 .1 .1 .0)
     (e .1 .1 .1 .1))
     (l .put-line .ensures .0) (l .put-line .ensures .1 .0) (k .loop .inv .6)
 
@@ -84,9 +97,11 @@ returns c =
     let n = promised o in
     let x = answerOf (d .perform .result .told) in
     let q = o .op .given .0 .1 .0 in
-    let z = last-one (d .perform .last .0) (keptIn (d .perform .last .1 .0) (d .perform .result .totals)) (now (a .trace)) (k .loop .count + 1) q x (sym (p .is-bad .ensures) ∙ c .if1 .taken) in
+    let z = last-one (d .perform .last .0) (keptIn (d .perform .last .1 .0) (d .perform .result .totals)) (now (a .trace)) (k .loop .count + 1) q x
+    (sym (p .is-bad .ensures) ∙ c .if1 .taken) in
     let w = left-none 0 (playedText (now (a .arena)) (keptIn (now (a .room)) (a .t)) (now (a .trace))) (now (a .out)) (l .put-line .result)
-    (Behind x (d .perform .last .0) (keptIn (d .perform .last .1 .0) (d .perform .result .totals)) (now (a .trace)) (k .loop .count + 1) q) (l .put-line .last .0) z (written p) in
+    (Behind x (d .perform .last .0) (keptIn (d .perform .last .1 .0) (d .perform .result .totals)) (now (a .trace)) (k .loop .count + 1) q)
+    (l .put-line .last .0) z (written p) in
     (omega (arith, w .0), (w .1, omega (arith, l .put-line .ensures .1 .1, n .0, n .1 .0, k .loop .inv .2, k .before .before .before .before .before .pre .1)))
 
 add-count : tie.Need-add-count Inv-loop μ-loop
@@ -110,7 +125,8 @@ loop-again c =
     let a = o .before .before .before .before .before .before .before .before .args in
     let n = promised o in
     let W = playedText (now (a .arena)) (keptIn (now (a .room)) (a .t)) (now (a .trace)) in
-    let z = goes-on (d .perform .last .0) (keptIn (d .perform .last .1 .0) (d .perform .result .totals)) (now (a .trace)) _ (o .op .given .0 .1 .0) (answerOf (d .perform .result .told))
+    let z = goes-on (d .perform .last .0) (keptIn (d .perform .last .1 .0) (d .perform .result .totals)) (now (a .trace)) _ (o .op .given .0 .1 .0)
+    (answerOf (d .perform .result .told))
     (sym (p .is-bad .ensures) ∙ c .before .if1 .left) in (
       omega (arith, n .0),
       n .1 .0,
@@ -143,7 +159,8 @@ returns-3 c =
     let a = k .before .before .before .before .before .args in
     let t = turn-end (k .loop .arena) (keptIn (k .loop .room) (k .loop .kept)) (now (a .trace)) (k .loop .count) (k .loop .at) (omega arith)
     (sym (c .enum-told2 .given .1) ∙ c .before .before .read .ensures) in
-    let w = left-none 0 (playedText (now (a .arena)) (keptIn (now (a .room)) (a .t)) (now (a .trace))) (now (a .out)) (k .loop .end) _ (k .loop .out) t (k .loop .inv .6) in
+    let w = left-none 0 (playedText (now (a .arena)) (keptIn (now (a .room)) (a .t)) (now (a .trace))) (now (a .out)) (k .loop .end) _ (k .loop .out) t
+    (k .loop .inv .6) in
     (omega (arith, w .0), (w .1, omega arith))
 
 pub play-spec : {M : Type 1} → statement M

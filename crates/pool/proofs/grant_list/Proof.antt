@@ -19,10 +19,11 @@ use Rattle.pool.proofs.grant_list.Tie as tie
 
 returns : tie.Need-returns
 unfolding rowBytes
-returns c =
+returns z =
+    let c = z .before in
     let w = c .before .sound in
     let a = c .before .before .before .before .before .before .before .args in
-    refused-parts Unsound (now (a .starts))
+    refused-parts Unsound (now (a .starts)) (z .refused .ensures)
     (call-unsound rowBytes (now (a .arena)) (keptIn (now (a .room)) (a .t)) (grantsList (a .total) (a .cap) (length (now (a .starts))) (now (a .sizes))) tt
     (sym (w .ensures) ∙ not-true (w .result) (c .if1 .taken)))
 
@@ -32,29 +33,33 @@ lent : (c : tie.Else1) → (let a = c .before .before .before .before .before .b
 unfolding rowBytes
 lent c =
     let a = c .before .before .before .before .before .before .before .args in
-    by-check (now (a .arena)) (keptIn (now (a .room)) (a .t)) (sym (c .before .sound .ensures) ∙ not-false (c .before .sound .result) (c .if1 .left)) (lit≤ tt, lit≤ tt)
+    by-check (now (a .arena)) (keptIn (now (a .room)) (a .t)) (sym (c .before .sound .ensures) ∙ not-false (c .before .sound .result) (c .if1 .left))
+    (lit≤ tt, lit≤ tt)
 
 counts : (c : tie.Else1) → (let a = c .before .before .before .before .before .before .before .args in a .t ≡ totals rowBytes (view rowBytes (now (a .room))))
 unfolding rowBytes
-counts c = let a = c .before .before .before .before .before .before .before .args in kept-totals rowBytes (length (now (a .arena))) (keptIn (now (a .room)) (a .t)) (lent c .kept)
+counts c = let a = c .before .before .before .before .before .before .before .args in kept-totals rowBytes (length (now (a .arena)))
+    (keptIn (now (a .room)) (a .t)) (lent c .kept)
 
 returns-2 : tie.Need-returns-2
 unfolding rowBytes
-returns-2 c =
+returns-2 z =
+    let c = z .before in
     let d = c .before .before in
     let a = d .before .before .before .before .before .before .before .args in
     let w = c .before .plannable in
-    refused-parts TooLong (now (a .starts))
+    refused-parts TooLong (now (a .starts)) (z .refused2 .ensures)
     (too-long (now (a .arena)) (lent d) (a .total) (a .cap) (length (now (a .starts))) (now (a .sizes))
     (ap (λ b. b && leb entries (length (now (a .starts)))) (sym (w .ensures) ∙ not-true (w .result) (c .if2 .taken))))
 
 returns-3 : tie.Need-returns-3
 unfolding rowBytes entries
-returns-3 c =
+returns-3 z =
+    let c = z .before in
     let d = c .before .before .before in
     let a = d .before .before .before .before .before .before .before .args in
     let e = lt-leb entries (length (now (a .starts))) (c .if3 .taken) in
-    refused-parts TooLong (now (a .starts))
+    refused-parts TooLong (now (a .starts)) (z .refused3 .ensures)
     (too-long (now (a .arena)) (lent d) (a .total) (a .cap) (length (now (a .starts))) (now (a .sizes))
     (ap (λ b. plannable (a .total) (a .cap) && b) e ∙ and-false (plannable (a .total) (a .cap))))
 
@@ -69,12 +74,13 @@ short c =
 
 returns-4 : tie.Need-returns-4
 unfolding rowBytes
-returns-4 c =
+returns-4 z =
+    let c = z .before in
     let d = c .before .before in
     let s = d .before .before .before in
     let a = s .before .before .before .before .before .before .before .args in
     let w = c .before .accepts in
-    refused-parts BadProposal (now (a .starts))
+    refused-parts BadProposal (now (a .starts)) (z .refused4 .ensures)
     (bad-proposal (now (a .arena)) (lent s) (a .total) (a .cap) (length (now (a .starts))) (now (a .sizes)) (short d)
     (sym (w .ensures) ∙ not-true (w .result) (c .if4 .taken)))
 
@@ -93,13 +99,14 @@ fits-requires c κs =
 
 returns-5 : tie.Need-returns-5
 unfolding rowBytes
-returns-5 c =
+returns-5 z =
+    let c = z .before in
     let d = c .before .before .before in
     let k = d .before .before in
     let s = k .before .before .before in
     let a = s .before .before .before .before .before .before .before .args in
     let w = c .before .fits2 in
-    refused-parts NoRoom (now (a .starts))
+    refused-parts NoRoom (now (a .starts)) (z .refused5 .ensures)
     (no-room (now (a .arena)) (lent s) (a .total) (a .cap) (length (now (a .starts))) (now (a .sizes)) (short k) (right d)
     (sym (w .ensures) ∙ not-true (w .result) (c .if5 .taken)))
 
@@ -121,7 +128,10 @@ grant-all-requires c κs =
     let t = true-T _ (right d) in
     let f = accepts-few (a .total) (a .cap) (now (a .sizes)) t in (
       lent s .room .sound,
-      ((T-true (small (now (a .sizes))) (accepts-small (a .total) (a .cap) (now (a .sizes)) t), omega (arith, f, k .if3 .left)), ((fit e, counts s), (lit≤ tt, lit≤ tt))),
+      (
+        (T-true (small (now (a .sizes))) (accepts-small (a .total) (a .cap) (now (a .sizes)) t), omega (arith, f, k .if3 .left)),
+        ((fit e, counts s), (lit≤ tt, lit≤ tt)),
+      ),
     )
 
 returns-6 : tie.Need-returns-6
@@ -133,11 +143,20 @@ returns-6 c =
     let k = d .before .before in
     let s = k .before .before .before in
     let a = s .before .before .before .before .before .before .before .args in
-    let w = whole (now (a .arena)) (lent s) (a .total) (a .cap) (length (now (a .starts))) (now (a .sizes)) (short k) (right d) (fit e) in
-    (w .number, (w .values, (g .ensures .1 .1 .0 ∙ ap (λ l. put 0 l (now (a .starts))) (w .lent), (g .ensures .0 ∙ w .arena, (g .ensures .1 .0 ∙ w .room, g .ensures .1 .1 .1 ∙ w .counts)))))
+    let w = whole (now (a .arena)) (lent s) (a .total) (a .cap) (length (now (a .starts))) (now (a .sizes)) (short k) (right d) (fit e) in (
+      w .number,
+      (
+        w .values,
+        (
+          g .ensures .1 .1 .0 ∙ ap (λ l. put 0 l (now (a .starts))) (w .lent),
+          (g .ensures .0 ∙ w .arena, (g .ensures .1 .0 ∙ w .room, g .ensures .1 .1 .1 ∙ w .counts)),
+        ),
+      ),
+    )
 
 pub grant-list-spec : {M : Type 1} → statement M
 grant-list-spec =
-    tie.close (tie.spec (λ c κs. search needs) (λ c. search needs) returns (λ c κs. search needs) (λ c. search needs) returns-2 (λ c. search needs)
-    returns-3 (λ c κs. search needs) (λ c. search needs) returns-4 fits-requires (λ c. search needs) returns-5 grant-all-requires (λ c. search needs)
+    tie.close (tie.spec (λ c κs. search needs) (λ c κs. search needs) (λ c. search needs) returns (λ c κs. search needs) (λ c κs. search needs)
+    (λ c. search needs) returns-2 (λ c κs. search needs) (λ c. search needs) returns-3 (λ c κs. search needs) (λ c κs. search needs)
+    (λ c. search needs) returns-4 fits-requires (λ c κs. search needs) (λ c. search needs) returns-5 grant-all-requires (λ c. search needs)
     (λ c. search needs) (λ c. search needs) returns-6)

@@ -1,5 +1,5 @@
 -- By what is located.
-use Rattle.mem.proofs.Prelude.{_∙_, sym, ap, refl, [], _∷_, now, needs, not-false, not-true, lit≤, length}
+use Rattle.mem.proofs.Prelude.{_∙_, sym, ap, refl, [], _∷_, now, needs, not-false, not-true, lit≤}
 use Rattle.classes.specs.Classes.{rowBytes}
 use Rattle.model.specs.Answers.{done}
 use Rattle.model.specs.Plans.{measures, measureAt}
@@ -16,14 +16,16 @@ unfolding rowBytes
 returns c =
     let a = c .before .before .before .before .args in
     let w = c .before .sound in
-    parts (sym (call-unsound rowBytes (now (a .arena)) (keptIn (now (a .room)) (a .t)) (measures (a .offset)) tt (sym (w .ensures) ∙ not-true (w .result) (c .if1 .taken)))) .0
+    parts (sym (call-unsound rowBytes (now (a .arena)) (keptIn (now (a .room)) (a .t)) (measures (a .offset)) tt
+    (sym (w .ensures) ∙ not-true (w .result) (c .if1 .taken)))) .0
 
 -- the tables are sound
 lent : (c : tie.Else1) → (let a = c .before .before .before .before .args in Checked rowBytes (now (a .arena)) (keptIn (now (a .room)) (a .t)))
 unfolding rowBytes
 lent c =
     let a = c .before .before .before .before .args in
-    by-check (now (a .arena)) (keptIn (now (a .room)) (a .t)) (sym (c .before .sound .ensures) ∙ not-false (c .before .sound .result) (c .if1 .left)) (lit≤ tt, lit≤ tt)
+    by-check (now (a .arena)) (keptIn (now (a .room)) (a .t)) (sym (c .before .sound .ensures) ∙ not-false (c .before .sound .result) (c .if1 .left))
+    (lit≤ tt, lit≤ tt)
 
 locate-requires : tie.Need-locate-requires
 unfolding rowBytes

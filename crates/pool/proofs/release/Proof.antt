@@ -7,27 +7,31 @@ use Rattle.model.specs.Calls.{keptIn}
 use Rattle.model.proofs.Kept.{kept-totals}
 use Rattle.model.proofs.Calls.{call-unsound}
 use Rattle.ops.proofs.Calls.{Checked, by-check, Called, called-at, called-refused, releasing, release-names, release-done}
-use Rattle.pool.proofs.Fresh.{parts}
+use Rattle.pool.proofs.Fresh.{parts, refused-as}
 use Rattle.pool.proofs.release.Statement.{statement}
 use Rattle.pool.proofs.release.Tie as tie
 
 returns : tie.Need-returns
 unfolding rowBytes
-returns c =
+returns d =
+    let c = d .before in
     let a = c .before .before .before .before .before .args in
     let w = c .before .sound in
-    parts (sym (call-unsound rowBytes (now (a .arena)) (keptIn (now (a .room)) (a .t)) (releases (a .offset)) tt (sym (w .ensures) ∙ not-true (w .result) (c .if1 .taken))))
+    refused-as (d .refused .ensures) (parts (sym (call-unsound rowBytes (now (a .arena)) (keptIn (now (a .room)) (a .t)) (releases (a .offset)) tt
+    (sym (w .ensures) ∙ not-true (w .result) (c .if1 .taken)))))
 
 -- the tables are sound
 lent : (c : tie.Else1) → (let a = c .before .before .before .before .before .args in Checked rowBytes (now (a .arena)) (keptIn (now (a .room)) (a .t)))
 unfolding rowBytes
 lent c =
     let a = c .before .before .before .before .before .args in
-    by-check (now (a .arena)) (keptIn (now (a .room)) (a .t)) (sym (c .before .sound .ensures) ∙ not-false (c .before .sound .result) (c .if1 .left)) (lit≤ tt, lit≤ tt)
+    by-check (now (a .arena)) (keptIn (now (a .room)) (a .t)) (sym (c .before .sound .ensures) ∙ not-false (c .before .sound .result) (c .if1 .left))
+    (lit≤ tt, lit≤ tt)
 
 counts : (c : tie.Else1) → (let a = c .before .before .before .before .before .args in a .t ≡ totals rowBytes (view rowBytes (now (a .room))))
 unfolding rowBytes
-counts c = let a = c .before .before .before .before .before .args in kept-totals rowBytes (length (now (a .arena))) (keptIn (now (a .room)) (a .t)) (lent c .kept)
+counts c = let a = c .before .before .before .before .before .args in kept-totals rowBytes (length (now (a .arena))) (keptIn (now (a .room)) (a .t))
+    (lent c .kept)
 
 locate-requires : tie.Need-locate-requires
 unfolding rowBytes
@@ -63,14 +67,15 @@ returns-2 c =
 
 returns-3 : tie.Need-returns-3
 unfolding rowBytes
-returns-3 c =
+returns-3 d =
+    let c = d .before in
     let z = c .before .before .before .before .before .before in
     let a = z .before .before .before .before .before .args in
-    parts (sym (releasing (now (a .arena)) (lent z) (a .offset)
+    refused-as (d .refused2 .ensures) (parts (sym (releasing (now (a .arena)) (lent z) (a .offset)
     ∙ called-refused (now (a .arena)) (lent z) (a .offset) (releaseAt rowBytes) (release-names rowBytes) (c .before .r .given .0 .0)
-    (sym (c .before .r .given .1) ∙ c .before .before .before .locate .ensures)))
+    (sym (c .before .r .given .1) ∙ c .before .before .before .locate .ensures))))
 
 pub release-spec : {M : Type 1} → statement M
 release-spec =
-    tie.close (tie.spec (λ c κs. search needs) (λ c. search needs) returns locate-requires (λ c. search needs) discard-requires (λ c. search needs)
-    (λ c. search needs) (λ c. search needs) returns-2 (λ c. search needs) (λ c. search needs) returns-3)
+    tie.close (tie.spec (λ c κs. search needs) (λ c κs. search needs) (λ c. search needs) returns locate-requires (λ c. search needs) discard-requires
+    (λ c. search needs) (λ c κs. search needs) (λ c. search needs) (λ c. search needs) returns-2 (λ c. search needs) (λ c. search needs) returns-3)

@@ -1,5 +1,5 @@
 -- The totals of the record, which are those of the tables.
-use Rattle.mem.proofs.Prelude.{_∙_, sym, now, needs, not-false, not-true, lit≤, length}
+use Rattle.mem.proofs.Prelude.{_∙_, sym, now, needs, not-false, not-true, lit≤}
 use Rattle.classes.specs.Classes.{rowBytes}
 use Rattle.model.specs.Plans.{reports}
 use Rattle.model.specs.Calls.{keptIn}
@@ -21,7 +21,8 @@ lent : (c : tie.Else1) → (let a = c .before .before .before .before .args in C
 unfolding rowBytes
 lent c =
     let a = c .before .before .before .before .args in
-    by-check (now (a .arena)) (keptIn (now (a .room)) (a .t)) (sym (c .before .sound .ensures) ∙ not-false (c .before .sound .result) (c .if1 .left)) (lit≤ tt, lit≤ tt)
+    by-check (now (a .arena)) (keptIn (now (a .room)) (a .t)) (sym (c .before .sound .ensures) ∙ not-false (c .before .sound .result) (c .if1 .left))
+    (lit≤ tt, lit≤ tt)
 
 returns-2 : tie.Need-returns-2
 unfolding rowBytes

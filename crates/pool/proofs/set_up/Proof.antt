@@ -5,23 +5,25 @@ use Rattle.classes.specs.Classes.{rowBytes}
 use Rattle.model.specs.Tables.{arenaRight, roomBytes}
 use Rattle.model.specs.Calls.{keptIn}
 use Rattle.model.proofs.Fresh.{fresh-totals}
-use Rattle.pool.proofs.Fresh.{parts, Fitting, fitting, set-up-refused, set-up-made, formatted}
+use Rattle.pool.proofs.Fresh.{parts, refused-as, Fitting, fitting, set-up-refused, set-up-made, formatted}
 use Rattle.pool.proofs.set_up.Statement.{statement}
 use Rattle.pool.proofs.set_up.Tie as tie
 
 returns : tie.Need-returns
-returns c =
+returns d =
+    let c = d .before in
     let a = c .before .before .before .before .args in
     let r = c .before .room-len in
     let e = sym (set-up-refused rowBytes (now (a .arena)) (keptIn (now (a .room)) (a .t)) (λ h. sym (r .ensures) ∙ c .if1 .taken)) in
-    parts e
+    refused-as (d .refused .ensures) (parts e)
 
 returns-2 : tie.Need-returns-2
-returns-2 c =
+returns-2 d =
+    let c = d .before in
     let a = c .before .before .before .before .before .args in
     let r = c .before .before .room-len in
     let e = sym (set-up-refused rowBytes (now (a .arena)) (keptIn (now (a .room)) (a .t)) (λ h. absurd (c .if2 .taken (h ∙ sym (r .ensures))))) in
-    parts e
+    refused-as (d .refused2 .ensures) (parts e)
 
 format-requires : tie.Need-format-requires
 unfolding rowBytes arenaRight roomBytes
@@ -42,7 +44,8 @@ returns-3 c =
     let a = c .before .before .before .before .before .before .before .before .before .before .before .before .before .args in
     let r = c .before .before .before .before .before .before .before .before .before .before .room-len in
     let f =
-    fitting rowBytes (now (a .arena)) (keptIn (now (a .room)) (a .t)) (c .before .before .before .before .before .before .before .before .if2 .left ∙ r .ensures)
+    fitting rowBytes (now (a .arena)) (keptIn (now (a .room)) (a .t))
+    (c .before .before .before .before .before .before .before .before .if2 .left ∙ r .ensures)
     (λ z. c .before .before .before .before .before .before .before .before .before .if1 .left (r .ensures ∙ z)) in
     let e = parts (sym (set-up-made rowBytes (now (a .arena)) (keptIn (now (a .room)) (a .t)) f)) in (
       e .0,
@@ -57,4 +60,5 @@ returns-3 c =
 
 pub set-up-spec : {M : Type 1} → statement M
 set-up-spec =
-    tie.close (tie.spec (λ c κs. search needs) returns returns-2 (λ c κs. search needs) format-requires (λ c. search needs) (λ c. search needs) returns-3)
+    tie.close (tie.spec (λ c κs. search needs) (λ c κs. search needs) returns (λ c κs. search needs) returns-2 (λ c κs. search needs) format-requires
+    (λ c. search needs) (λ c. search needs) returns-3)

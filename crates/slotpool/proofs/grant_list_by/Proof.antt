@@ -9,4 +9,5 @@ returns c =
     (c .number-of .ensures ∙ r .0, (c .before .value-of .ensures ∙ ap (λ vs. getD vs 0 0) (r .1 .0), r .1 .1))
 
 pub grant-list-by-spec : {M : Type 1} → statement M
-grant-list-by-spec = tie.close (tie.spec (λ c κs. search needs) (λ c κs. search needs) (λ c κs. search needs) (λ c. search needs) (λ c. search needs) (λ c. search needs) returns)
+grant-list-by-spec = tie.close (tie.spec (λ c κs. search needs) (λ c κs. search needs) (λ c κs. search needs) (λ c. search needs) (λ c. search needs)
+    (λ c. search needs) returns)

@@ -79,8 +79,16 @@ module _ {M : Type 1} (𝓤 : URA M) (H : Heap 𝓤) (A : Atoms 𝓤) (W : Given
 
   -- what `grant_by` is passed
   abbrev to-first : First 𝓤 H A at-mem run .Ghost
-  to-first = (((κs .0, (κs .1 .0, κs .1 .1 .1)), (qs .0, (qs .1 .0, qs .1 .1 .1)), tt, (arena, (room, (totals .now, a .1 .1 .1))),
-      (slice-vals arena, (slice-vals room, (T′.lowered (totals .now) ∷ [], vals .1 .1 .1)))), tt)
+  to-first = (
+    (
+      (κs .0, (κs .1 .0, κs .1 .1 .1)),
+      (qs .0, (qs .1 .0, qs .1 .1 .1)),
+      tt,
+      (arena, (room, (totals .now, a .1 .1 .1))),
+      (slice-vals arena, (slice-vals room, (T′.lowered (totals .now) ∷ [], vals .1 .1 .1))),
+    ),
+    tt,
+  )
 
   -- what the call leaves, and what is said of it
   abbrev G : Outcome (Kept (List ℕ))

@@ -89,8 +89,16 @@ module _ {M : Type 1} (𝓤 : URA M) (H : Heap 𝓤) (A : Atoms 𝓤) (W : Given
 
   -- what `grant_list_by` is passed
   abbrev to-first : First 𝓤 H A at-mem run .Ghost
-  to-first = (((κs .0, (κs .1 .0, κs .1 .1 .1)), (qs .0, (qs .1 .0, qs .1 .1 .1)), tt, (arena, (room, (totals .now, a .1 .1 .1))),
-      (slice-vals arena, (slice-vals room, (T′.lowered (totals .now) ∷ [], vals .1 .1 .1)))), tt)
+  to-first = (
+    (
+      (κs .0, (κs .1 .0, κs .1 .1 .1)),
+      (qs .0, (qs .1 .0, qs .1 .1 .1)),
+      tt,
+      (arena, (room, (totals .now, a .1 .1 .1))),
+      (slice-vals arena, (slice-vals room, (T′.lowered (totals .now) ∷ [], vals .1 .1 .1))),
+    ),
+    tt,
+  )
 
   -- what the call leaves, and what is said of it
   abbrev G : Outcome (Kept (List ℕ))
@@ -144,8 +152,19 @@ meets : {M : Type 1} (𝓤 : URA M) (H : Heap 𝓤) (A : Atoms 𝓤) → Given �
     → Meets 𝓤 H A f.signature (WpFn 𝓤 H (𝓣 .C) (𝓣 .Λ) code.function) (f.spec 𝓤 H A at-mem run)
 meets 𝓤 H A W at-mem run 𝓣 known-first known-then =
     walk-all 𝓤 H A W f.ended (f.clauses 𝓤 H A at-mem run) code.function 𝓣 spells
-    (λ κs. (λ x v p. p .0 .0, (λ x v p. p .0 .0, (λ x v p. p .0, (λ x v p. p .0,
-        (λ x v p. p .0, (λ x v p. p .0 .0, (λ x v p. p .0 .0, (λ x v p. p .0, tt)))))))))
+    (λ κs. (
+      λ x v p. p .0 .0,
+      (
+        λ x v p. p .0 .0,
+        (
+          λ x v p. p .0,
+          (
+            λ x v p. p .0,
+            (λ x v p. p .0, (λ x v p. p .0 .0, (λ x v p. p .0 .0, (λ x v p. p .0, tt)))),
+          ),
+        ),
+      ),
+    ))
     (λ κs qs bounds a g are. walk 𝓤 H A W at-mem run κs qs a (𝓣 .C) (𝓣 .Λ) (fmOf 𝓤 H (W .laws) 𝓣) known-first known-then are)
 
 pub slotpool-grant-list-spec : {M : Type 1} → stated.statement M
@@ -155,5 +174,5 @@ slotpool-grant-list-spec 𝓤 H 𝓜 𝓖 𝓡 =
     (tables 𝓤 H 𝓜 𝓡 code.env .C) (tables 𝓤 H 𝓜 𝓡 code.env .Λ) #slotpool·slotpool-grant-list code.function (code.unfolded 𝓤 H 𝓜 𝓡)
     (meets 𝓤 H (𝓖 .A) (givenOf 𝓤 H 𝓜 𝓖) (𝓜 .mem) (𝓡 .run) (tablesOf 𝓤 H 𝓜 (tables 𝓤 H 𝓜 𝓡 code.env))
     (cited 𝓤 H (First 𝓤 H (𝓖 .A) (𝓜 .mem) (𝓡 .run)) 𝓜 𝓡 code.env #slotpool·grant-list-by first-def.routine code.calls-slotpool·grant-list-by
-        (first-thm.met 𝓤 H 𝓜 𝓖 𝓡))
+    (first-thm.met 𝓤 H 𝓜 𝓖 𝓡))
     (cited 𝓤 H (Then 𝓤 H (𝓖 .A) (𝓜 .mem) (𝓡 .run)) 𝓜 𝓡 code.env #totals·record then-def.routine code.calls-totals·record (then-thm.met 𝓤 H 𝓜 𝓖 𝓡)))

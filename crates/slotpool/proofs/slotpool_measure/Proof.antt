@@ -79,8 +79,16 @@ module _ {M : Type 1} (𝓤 : URA M) (H : Heap 𝓤) (A : Atoms 𝓤) (W : Given
 
   -- what `measure_by` is passed
   abbrev to-first : First 𝓤 H A at-mem run .Ghost
-  to-first = (((κs .0, (κs .1 .0, κs .1 .1 .1)), (qs .0, (qs .1 .0, qs .1 .1 .1)), tt, (arena, (room, (totals .now, a .1 .1 .1))),
-      (slice-vals arena, (slice-vals room, (T′.lowered (totals .now) ∷ [], vals .1 .1 .1)))), tt)
+  to-first = (
+    (
+      (κs .0, (κs .1 .0, κs .1 .1 .1)),
+      (qs .0, (qs .1 .0, qs .1 .1 .1)),
+      tt,
+      (arena, (room, (totals .now, a .1 .1 .1))),
+      (slice-vals arena, (slice-vals room, (T′.lowered (totals .now) ∷ [], vals .1 .1 .1))),
+    ),
+    tt,
+  )
 
   -- what the call leaves, and what is said of it
   abbrev G : Outcome (Kept (List ℕ))
@@ -134,4 +142,4 @@ slotpool-measure-spec 𝓤 H 𝓜 𝓖 𝓡 =
     (tables 𝓤 H 𝓜 𝓡 code.env .C) (tables 𝓤 H 𝓜 𝓡 code.env .Λ) #slotpool·slotpool-measure code.function (code.unfolded 𝓤 H 𝓜 𝓡)
     (meets 𝓤 H (𝓖 .A) (givenOf 𝓤 H 𝓜 𝓖) (𝓜 .mem) (𝓡 .run) (tablesOf 𝓤 H 𝓜 (tables 𝓤 H 𝓜 𝓡 code.env))
     (cited 𝓤 H (First 𝓤 H (𝓖 .A) (𝓜 .mem) (𝓡 .run)) 𝓜 𝓡 code.env #slotpool·measure-by first-def.routine code.calls-slotpool·measure-by
-        (first-thm.met 𝓤 H 𝓜 𝓖 𝓡)))
+    (first-thm.met 𝓤 H 𝓜 𝓖 𝓡)))

@@ -1,7 +1,6 @@
 -- `members_counted` meets its contract: the law of a group's slots, over what the calls give.
-use Rattle.mem.proofs.Prelude.{_∙_, _≡_, sym, ap, true, Bool, _&&_, not, T, eqb, ℕ, _+_, _*_, _-_, arith, now, needs, not-true, not-false, drop, drop-drop}
-use Rattle.mem.specs.Bytes.{number, part}
-use Rattle.mem.proofs.Tests.{true-T, choose-true, choose-false}
+use Rattle.mem.proofs.Prelude.{_∙_, _≡_, sym, ap, true, Bool, _&&_, not, eqb, _+_, _*_, _-_, arith, now, needs, not-true, not-false, drop}
+use Rattle.mem.proofs.Tests.{choose-true, choose-false}
 use Rattle.classes.proofs.Laws.{bytes-units}
 use Rattle.model.specs.Tables.{viewGroup}
 use Rattle.soundness.specs.declared.Counted.the-variants.{Sound, Unsound}

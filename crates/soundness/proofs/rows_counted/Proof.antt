@@ -1,8 +1,8 @@
 -- `rows_counted` meets its contract. The invariant: what is counted of all rows is what was counted, and what is of those that are left.
-use Rattle.mem.proofs.Prelude.{_∙_, _≡_, sym, ap, _+_, _-_, arith, now, needs, drop}
+use Rattle.mem.proofs.Prelude.{_∙_, sym, _-_, arith, now, needs, drop}
 use Rattle.model.specs.Tables.{rowAt}
-use Rattle.soundness.specs.declared.Counted.the-variants.{Sound}
-use Rattle.soundness.proofs.Counts.{Step, Passed, none-passed, step, again, refused, all-passed}
+use Rattle.soundness.specs.Counts.{allRows}
+use Rattle.soundness.proofs.Counts.{Begun, Passed, span-counts, none-passed, more-passed, all-passed, not-passed}
 use Rattle.soundness.proofs.rows_counted.Statement.{statement}
 use Rattle.soundness.proofs.rows_counted.Tie as tie
 
@@ -10,41 +10,44 @@ abbrev Inv-loop : tie.InvT-loop
 Inv-loop row room n s₀ s = Passed row n room s
 
 abbrev μ-loop : tie.MeasureT-loop
-μ-loop row room n s₀ s = n - (s .held + s .free)
+μ-loop row room n s₀ s = n - allRows s
 
 loop-holds : tie.Need-loop-holds Inv-loop μ-loop
 loop-holds c = let a = c .before .args in none-passed (a .row) (a .n) (now (a .room))
 
 -- a span is counted
-turn : (c : tie.After-known-told Inv-loop μ-loop) → (let l = c .before .before .before .before .before .before .before in
+begun : (c : tie.After-known-told Inv-loop μ-loop) → (let l = c .before .before .before .before .before .before .before in
     let a = l .before .before .args in
-    let i = l .loop .s .held + l .loop .s .free in
-    Step (a .row) (a .n - i) (drop (rowAt i) (now (a .room))) (c .before .u .given .0 .0))
-turn c =
+    let i = allRows (l .loop .s) in
+    Begun (a .row) (a .n - i) (drop (rowAt i) (now (a .room))) (c .before .u .given .0 .0))
+begun c =
     let l = c .before .before .before .before .before .before .before in
     let a = l .before .before .args in
-    step (a .row) (omega arith) (a .n) (now (a .room)) (l .loop .s) (l .loop .inv) (c .before .u .given .0 .0)
-    (c .before .before .before .before .before .if1 .taken) (sym (c .before .before .before .span-counted .ensures) ∙ c .before .u .given .1)
+    let i = allRows (l .loop .s) in
+    let x = c .before .u .given in
+    span-counts (a .row) (omega arith) (a .n - i) (drop (rowAt i) (now (a .room))) (omega arith) (x .0 .0)
+    (sym (c .before .before .before .span-counted .ensures) ∙ x .1)
 
 plus-requires : tie.Need-plus-requires Inv-loop μ-loop
 plus-requires c κs =
-    (c .before .before .before .before .before .before .before .loop .inv .light, (turn c .light, omega (arith, turn c .few)))
+    (c .before .before .before .before .before .before .before .loop .inv .light, (begun c .light, omega (arith, begun c .few)))
 
 loop-less : tie.Need-loop-less Inv-loop μ-loop
-loop-less c = rw (c .plus .ensures) (omega (arith, turn (c .before) .some, turn (c .before) .few))
+loop-less c = rw (c .plus .ensures) (omega (arith, begun (c .before) .some, begun (c .before) .few))
 
 loop-again : tie.Need-loop-again Inv-loop μ-loop
 loop-again c =
     let l = c .before .before .before .before .before .before .before .before in
     let a = l .before .before .args in
-    rw (c .plus .ensures) (again (a .row) (omega arith) (a .n) (now (a .room)) (l .loop .s) (l .loop .inv) (c .before .before .u .given .0 .0) (turn (c .before)))
+    rw (c .plus .ensures)
+    (more-passed (a .row) (a .n) (now (a .room)) (l .loop .s) (l .loop .inv) (c .before .before .u .given .0 .0) (begun (c .before)))
 
 returns : tie.Need-returns Inv-loop μ-loop
 returns c =
     let l = c .before .before .before .before .before .before in
     let b = l .before .before in
     let a = b .args in
-    sym (refused (a .row) (omega arith) (a .n) (now (a .room)) (l .loop .s) (l .loop .inv) (c .before .before .before .before .if1 .taken) (b .pre .0 .1)
+    sym (not-passed (a .row) (a .n) (now (a .room)) (l .loop .s) (l .loop .inv) (omega arith) (omega arith) (b .pre .0 .1)
     (sym (c .before .before .span-counted .ensures) ∙ c .enum-told .given .1))
 
 returns-2 : tie.Need-returns-2 Inv-loop μ-loop
@@ -52,7 +55,7 @@ returns-2 c =
     let l = c .before .before in
     let b = l .before .before in
     let a = b .args in
-    sym (all-passed (a .row) (omega arith) (a .n) (now (a .room)) (l .loop .s) (l .loop .inv) (c .if1 .left) (b .pre .0 .1))
+    sym (all-passed (a .row) (a .n) (now (a .room)) (l .loop .s) (l .loop .inv) (c .if1 .left) (b .pre .0 .1))
 
 pub rows-counted-spec : {M : Type 1} → statement M
 rows-counted-spec =

@@ -1,5 +1,5 @@
 -- `sound` meets its contract: the rows of the arena, the law of the room under the tests so far, and what its rows count.
-use Rattle.mem.proofs.Prelude.{_∙_, _≡_, sym, _&&_, arith, now, needs, eq-eqb, ne-eqb, not-false, not-true, eqb, length, drop, false}
+use Rattle.mem.proofs.Prelude.{_∙_, _≡_, sym, false, _&&_, arith, now, needs, eq-eqb, ne-eqb, not-false, not-true, eqb, length, drop}
 use Rattle.mem.specs.Bytes.{zeros, number, same, part}
 use Rattle.model.specs.Tables.{rowAt, byMasks, sound, soundBy}
 use Rattle.model.specs.Calls.{KeptBytes, keptIn, soundKept}
@@ -10,6 +10,7 @@ use Rattle.soundness.proofs.Counts.{kept-refused, kept-counted}
 use Rattle.soundness.proofs.sound.Statement.{statement}
 use Rattle.soundness.proofs.sound.Tie as tie
 
+-- what is lent, and that its tables are not sound
 abbrev lent : tie.Start → KeptBytes
 lent b = keptIn (now (b .args .room)) (b .args .t)
 
@@ -55,7 +56,8 @@ sized e =
 returns-3 : tie.Need-returns-3
 returns-3 c =
     let q = c .before .quad in
-    unsound (c .before .before .before .before .before .before .before) (sized (c .before .before) ∙ simp (← (q .ensures), ne-eqb (q .result) _ (c .if3 .taken)))
+    unsound (c .before .before .before .before .before .before .before)
+    (sized (c .before .before) ∙ simp (← (q .ensures), ne-eqb (q .result) _ (c .if3 .taken)))
 
 -- past the tests of the room's head
 head : (e : tie.After-zeros-at) → (let b = e .before .before .before .before .before .before in
@@ -80,11 +82,11 @@ returns-5 : tie.Need-returns-5
 returns-5 c =
     let e = c .before .before .before .before in
     let n = e .before .before .before .before .before .before .before .before in
-    let r = e .before .before .before .before .before .before in
+    let r = e .before .before .before .before .before in
     let b = n .before .before in
     let x = c .before .before .s .given in
     c .same-totals .ensures
-    ∙ kept-counted (b .args .row) (n .rows-in .result) (b .args .len) (lent b) (rows-left e) (x .0 .0) (e .before .before .before .before .before .if2 .left ∙ r .row-at .ensures)
+    ∙ kept-counted (b .args .row) (n .rows-in .result) (b .args .len) (lent b) (rows-left e) (x .0 .0) (r .if2 .left ∙ r .before .row-at .ensures)
     (sym (e .rows-counted .ensures) ∙ x .1)
 
 returns-6 : tie.Need-returns-6

@@ -23,7 +23,8 @@ sub-t11 : tie.Need-sub-t11
 sub-t11 c = let p = c .before .before .before .before .before .before .pre in omega (arith, p .1 .waiting)
 
 returns : tie.Need-returns
-returns c s h = six-same s (omega (arith, h .blocks)) (omega (arith, h .bytes)) (omega (arith, h .held)) (omega (arith, h .free)) (omega (arith, h .ready)) (omega (arith, h .waiting))
+returns c s h = six-same s (omega (arith, h .blocks)) (omega (arith, h .bytes)) (omega (arith, h .held)) (omega (arith, h .free)) (omega (arith, h .ready))
+    (omega (arith, h .waiting))
 
 pub dropped-spec : {M : Type 1} → statement M
 dropped-spec = tie.close (tie.spec sub-t6 sub-t7 sub-t8 add-t9 sub-t10 sub-t11 returns)

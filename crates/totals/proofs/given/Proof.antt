@@ -14,7 +14,8 @@ add-t5 : tie.Need-add-t5
 add-t5 c = let p = c .before .before .before .pre in omega (arith, p .1 .waiting, p .2 .waiting)
 
 returns : tie.Need-returns
-returns c s h = six-same s (omega (arith, h .blocks)) (omega (arith, h .bytes)) (omega (arith, h .held)) (omega (arith, h .free)) (omega (arith, h .ready)) (omega (arith, h .waiting))
+returns c s h = six-same s (omega (arith, h .blocks)) (omega (arith, h .bytes)) (omega (arith, h .held)) (omega (arith, h .free)) (omega (arith, h .ready))
+    (omega (arith, h .waiting))
 
 pub given-spec : {M : Type 1} → statement M
 given-spec = tie.close (tie.spec sub-t3 sub-t4 add-t5 returns)

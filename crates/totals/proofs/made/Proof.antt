@@ -14,7 +14,8 @@ add-t6 : tie.Need-add-t6
 add-t6 c = let p = c .before .before .before .pre in omega (arith, p .1 .ready, p .2 .ready)
 
 returns : tie.Need-returns
-returns c s h = six-same s (omega (arith, h .blocks)) (omega (arith, h .bytes)) (omega (arith, h .held)) (omega (arith, h .free)) (omega (arith, h .ready)) (omega (arith, h .waiting))
+returns c s h = six-same s (omega (arith, h .blocks)) (omega (arith, h .bytes)) (omega (arith, h .held)) (omega (arith, h .free)) (omega (arith, h .ready))
+    (omega (arith, h .waiting))
 
 pub made-spec : {M : Type 1} → statement M
 made-spec = tie.close (tie.spec add-t4 sub-t5 add-t6 returns)

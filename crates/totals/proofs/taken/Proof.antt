@@ -20,7 +20,8 @@ sub-t8 : tie.Need-sub-t8
 sub-t8 c = let p = c .before .before .before .before .pre in omega (arith, p .1 .waiting)
 
 returns : tie.Need-returns
-returns c s h = six-same s (omega (arith, h .blocks)) (omega (arith, h .bytes)) (omega (arith, h .held)) (omega (arith, h .free)) (omega (arith, h .ready)) (omega (arith, h .waiting))
+returns c s h = six-same s (omega (arith, h .blocks)) (omega (arith, h .bytes)) (omega (arith, h .held)) (omega (arith, h .free)) (omega (arith, h .ready))
+    (omega (arith, h .waiting))
 
 pub taken-spec : {M : Type 1} → statement M
 taken-spec = tie.close (tie.spec add-t4 add-t5 add-t6 sub-t7 sub-t8 returns)
