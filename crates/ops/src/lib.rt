@@ -1,4 +1,5 @@
-// What the calls do with a block, over arena and tables: reserve a slot and lay the block out, locate it, give it back, change its size.
+// What the calls do with a block, over arena and tables: reserve a slot and lay the block out, locate it, give it back, change its size. What
+// changes the tables takes the totals of those that are lent, and gives the totals of those that it leaves.
 ghost use mathlib.Core.Path.{_≡_};
 ghost use mathlib.Core.Bool.{true};
 ghost use Prim.Native.Nat.{_+_, _*_, _≤_, _<_, min};

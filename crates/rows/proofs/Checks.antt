@@ -104,11 +104,6 @@ pub no-class : (L : Layout) (c : ℕ) (t : List ℕ) → 48 ≤ c → groupCheck
 unfolding groupChecked spanSound
 no-class L c t h = rw (le-ltb c 48 h) (and-false (starts t (L .firstRow c (L .slotsIn c t))))
 
--- by who holds the first row
-pub span-law : (L : Layout) (row n : ℕ) (t : List ℕ) (h : Holder) → h ≡ viewHolder t → tile L row n t h ≡ spanChecked L row n t
-unfolding spanChecked
-span-law L row n t h e = ap (tile L row n t) e
-
 -- the group whose first row is row i, over what the calls give
 pub held-law : (L : Layout) (row n i c k : ℕ) (s : List ℕ) → viewHolder (drop (rowAt i) s) ≡ First c → k ≡ rowsOf row c
     → spanChecked L row n (drop (rowAt i) s)
