@@ -75,7 +75,7 @@ fn begin(c: usize, last: usize, from: usize) -> usize
     if c == last { from } else { 0 }
 }
 
-// Grants sizes that fit, and writes the starts to the front of a list.
+// Grants sizes that fit, and writes the starts to the front of a list. Gives the totals after them.
 pub fn grant_all(
     row: usize,
     arena: &mut [u8],

@@ -59,8 +59,9 @@ counts k =
     site-counts (room s) (s .args .c) (s .args .t) (s .pre .1 .0 .2) (shut (k .before .before .before .before .before)) (k .before .i2 .given .0 .0) (run k)
 
 -- over what the calls give of the class
-makes : (c : tie.After-slots)
-    → (let k = c .before .before .before .before .before .before in Makes (c .before .rows .result) (c .slots .result) (k .before .before .before .before .before .before .before .before .before .before .args .t) (counts k .0))
+makes : (c : tie.After-slots) → (let k = c .before .before .before .before .before .before in
+    let a = k .before .before .before .before .before .before .before .before .before .before .args in
+    Makes (c .before .rows .result) (c .slots .result) (a .t) (counts k .0))
 makes c = rw (c .before .rows .ensures .0, c .slots .ensures .0) (counts (c .before .before .before .before .before .before) .1)
 
 made-requires : tie.Need-made-requires
