@@ -113,14 +113,24 @@ pub fn rows(row: usize, c: usize) -> usize
     whole_rows(row, 16 + 16 * units(c) * slots(c) + (row - 1))
 }
 
-// The least class whose slot has n + 4 bytes.
+// The least class whose slot has n + 4 bytes, as mallocng's size_to_class finds it. Up to 10 units every need has a class of its own. Past
+// them needs of one length in bits, which the leading zeros tell, have four classes, and two comparisons find which.
 pub fn class_of(n: usize) -> usize
     requires { ⌜ n < tooLarge ⌝ }
     ensures { λ r. ⌜ r ≡ classOf n ⌝ }
     ensures small { λ r. ⌜ r < 48 ⌝ }
 {
-    let mut c = 0;
-    while 16 * (UNITS[c] as usize) < n + 4 {
+    let q = (n + 4 + 15) / 16;
+    if q <= 10 {
+        return q - 1;
+    }
+    // The table is copied once for both comparisons.
+    let table = UNITS;
+    let mut c = 4 * (62 - usize::leading_zeros(q) as usize);
+    if (table[c + 1] as usize) < q {
+        c += 2;
+    }
+    if (table[c] as usize) < q {
         c += 1;
     }
     c
