@@ -1,7 +1,7 @@
 //! Nanoseconds per call, of the library and of the second implementation with its own full check of the tables, over arenas of four
-//! sizes, empty, half full and nearly full; of the soundness check alone, dense and sparse; of the grants of a list beside its list call;
-//! and records per second, of the replay program and of the second implementation's replay. Each figure is the median of several runs,
-//! with the least and the most.
+//! sizes, empty, half full and nearly full; of the soundness check alone, dense and sparse; of grants that do little but find a class; of
+//! the grants of a list beside its list call; and records per second, of the replay program and of the second implementation's replay.
+//! Each figure is the median of several runs, with the least and the most.
 
 #[path = "../tests/program/mod.rs"]
 mod program;
@@ -261,6 +261,26 @@ fn lists() {
     }
 }
 
+/// Times grants that are refused in an arena of one row, where finding the class is a good part of a call. A size of 131,052 is refused before its
+/// class is looked for.
+fn classes() {
+    println!("\nfinding a class: grants in an arena of one row, refused with 8, and of 131,052 bytes, refused with 3 before a class is looked for");
+    println!("{:<36} {:>26}", "sizes", "grant");
+    for (name, sizes) in [("131,052", 131_052..131_053), ("13 to 156", 13..157), ("157 to 2,000", 157..2_001), ("13 to 131,051", 13..131_052)] {
+        let (mut arena, mut room, mut totals) = buffers(512);
+        let mut pool = Pool::set_up(&mut arena, &mut room, &mut totals).unwrap();
+        let due = if sizes.start < 131_052 { Refusal::NoRoom } else { Refusal::TooLarge };
+        assert!(sizes.clone().all(|n| pool.grant(n) == Err(due)), "{name}: another answer");
+        let all = time(131_052 / sizes.len(), || {
+            for n in sizes.clone() {
+                black_box(pool.grant(black_box(n)).is_err());
+            }
+        });
+        let count = sizes.len() as f64;
+        println!("{name:<36} {:>26}", show(&Time { median: all.median / count, least: all.least / count, most: all.most / count }));
+    }
+}
+
 /// Pools with tables that are sparse and dense.
 const CHECKED: [(&str, usize, Released); 6] = [
     ("all rows free", 160, all),
@@ -361,6 +381,7 @@ fn main() {
     }
 
     checks();
+    classes();
     lists();
     replays();
 }

@@ -1,6 +1,6 @@
 -- What the changes of a group are to the pool's state.
 use Rattle.mem.proofs.Prelude.{_∙_, _≡_, sym, ap, refl, ap₂, subst, true, Bool, false, not, true≢false, List, [], _∷_, _++_, map, _+_, ℕ, _<_, _≤_}
-use Rattle.mem.proofs.Prelude.{_*_, _-_, suc, zero, _^_, zero-add, pow-suc, arith, eq-eqb, ne-eqb, not-false, not-true, T, eqb, lit≤, length, drop}
+use Rattle.mem.proofs.Prelude.{_*_, _-_, suc, zero, _^_, pow-suc, arith, eq-eqb, ne-eqb, not-false, not-true, T, eqb, lit≤, length, drop}
 use Rattle.mem.proofs.Prelude.{getD, length-append, take, length-drop, length-map, length-take-le, ones}
 use native.Mathlib.Nat.{le-trans, lt-of-lt-of-le, pow-le-pow-right}
 use lib.Seq.{split-at, getD-at}
@@ -21,7 +21,7 @@ use Rattle.model.specs.Plans.{Site, turnReady, refill, grantSlot, grantIn, vaca
 use Rattle.model.proofs.Tables.{masks-laws, encode-length}
 use Rattle.model.proofs.Rooms.{rows-append, encode-from}
 use Rattle.model.proofs.Lookup.{Fits, fits}
-use Rattle.model.proofs.Counts.{mask-ones, three-sets}
+use Rattle.model.proofs.Counts.{mask-ones, three-sets, none-live}
 use Rattle.model.proofs.Formed.{any-middle}
 use Rattle.model.proofs.Reserve as reserve
 use Rattle.rows.specs.declared.Block.{Block}
@@ -254,12 +254,6 @@ module _ (i c n : ℕ) (t : List ℕ) (m₀ m : Masks) (e₀ : m₀ ≡ masksIn 
       )
 
 -- ---- a slot is given back
-
-none-live : (ss : List Slot) → eqb (sum (λ x. bit (isLive x)) ss) 0 ≡ not (any isLive ss)
-none-live [] = refl
-none-live (Fresh ∷ ss) = rw zero-add (none-live ss)
-none-live (Idle r k d ∷ ss) = rw zero-add (none-live ss)
-none-live (Live a ∷ ss) = ne-eqb (1 + sum (λ x. bit (isLive x)) ss) 0 (λ e. omega arith)
 
 module _ (row : ℕ) (t : List ℕ) (b : Block) (p : Place) (h : Holds byMasks row t b p) where
   -- the group's slots before and after

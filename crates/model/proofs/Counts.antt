@@ -1,7 +1,8 @@
 -- What report counts: rows held and rows free are all rows, and no total is large.
 use Rattle.mem.proofs.Prelude.{_∙_, _≡_, ap, refl, Bool, true, false, List, [], _∷_, map, ℕ, _+_, _*_, _<_, _≤_, arith, T, ltb→lt, eqb→eq, length, ones}
+use Rattle.mem.proofs.Prelude.{not, eqb, zero-add, ne-eqb}
 use native.Mathlib.Nat.{mul-le-mul-left}
-use Rattle.mem.specs.Lists.{sum}
+use Rattle.mem.specs.Lists.{any, sum}
 use Rattle.mem.specs.Bytes.{bit, mask}
 use Rattle.mem.proofs.Tests.{and-left, and-right}
 use Rattle.mem.proofs.Masks.{ones-sum}
@@ -84,3 +85,14 @@ three-sets (Fresh ∷ ss) = omega (arith, three-sets ss)
 three-sets (Idle true k d ∷ ss) = omega (arith, three-sets ss)
 three-sets (Idle false k d ∷ ss) = omega (arith, three-sets ss)
 three-sets (Live a ∷ ss) = omega (arith, three-sets ss)
+
+-- so the bits that two masks have not set are the live slots
+pub ones-live : (ss : List Slot) (r w : ℕ) → mask (map isReady ss) ≡ r → mask (map isWaiting ss) ≡ w
+    → ones r + ones w + sum (λ x. bit (isLive x)) ss ≡ length ss
+ones-live ss r w er ew = rw (← er, ← ew) (omega (arith, mask-ones isReady ss, mask-ones isWaiting ss, three-sets ss))
+
+pub none-live : (ss : List Slot) → eqb (sum (λ x. bit (isLive x)) ss) 0 ≡ not (any isLive ss)
+none-live [] = refl
+none-live (Fresh ∷ ss) = rw zero-add (none-live ss)
+none-live (Idle r k d ∷ ss) = rw zero-add (none-live ss)
+none-live (Live a ∷ ss) = ne-eqb (1 + sum (λ x. bit (isLive x)) ss) 0 (λ e. omega arith)

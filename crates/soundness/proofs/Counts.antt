@@ -81,10 +81,6 @@ module _ (c : ℕ) (t : List ℕ) (h : T (membersChecked c t)) where
 -- over what the calls give
 module _ (s : List ℕ) (at c n r w : ℕ) (h : membersChecked c (drop at s) ≡ true) (en : n ≡ slotsOf c)
     (er : r ≡ number (part (at + 8) 4 s)) (ew : w ≡ number (part (at + 12) 4 s)) where
-  pub idle-few : ones r + ones w ≤ n
-  idle-few =
-      rw (en, er, ew, ← (drop-drop 8 at s), ← (drop-drop 12 at s)) (omega (arith, all-slots c (drop at s) (true-T (membersChecked c (drop at s)) h)))
-
   pub members-totals : (b k : ℕ) → b ≡ sizesIn n (drop (at + 16) s) → masksTotals k n r w b ≡ groupTotals k (viewGroup c (drop at s))
   members-totals b k eb =
       rw (eb, en, er, ew, ← (drop-drop 8 at s), ← (drop-drop 12 at s), ← (drop-drop 16 at s))

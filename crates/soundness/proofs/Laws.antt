@@ -1,13 +1,12 @@
 -- Laws of the checks of a group: each is the tests that the code makes.
 use Rattle.mem.proofs.Prelude.{_∙_, _≡_, sym, ap, refl, ap₂, true, Bool, false, _&&_, not, _||_, and-assoc, and-false, and-true, List, [], _∷_, _++_}
-use Rattle.mem.proofs.Prelude.{map, _+_, ℕ, _<_, _≤_, _*_, _-_, suc, _/_, zero, _^_, _%_, add-zero, pow-suc, arith, eq-eqb, ne-eqb, leb-true}
-use Rattle.mem.proofs.Prelude.{eqb-false, eqb-true, lt-ltb, T, eqb, leb, lit≤, ltb, eqb→eq, length, drop, getD, take, drop-drop, drop-cons, getD-drop}
+use Rattle.mem.proofs.Prelude.{map, _+_, ℕ, _<_, _≤_, _*_, _-_, suc, _/_, zero, _%_, add-zero, arith, eq-eqb, ne-eqb, leb-true}
+use Rattle.mem.proofs.Prelude.{eqb-false, eqb-true, lt-ltb, T, eqb, leb, lit≤, ltb, eqb→eq, length, drop, getD, take, drop-drop, drop-cons, getD-drop, ones}
 use mathlib.Core.Bool.{and-comm, Bool·not-not}
 use lib.Seq.{getD-take}
-use Rattle.mem.specs.Lists.{choose, every, any, join, starts}
+use Rattle.mem.specs.Lists.{choose, every, any, sum, join, starts}
 use Rattle.mem.specs.Bytes.{zeros, low, number, same, mask, bit, part}
-use Rattle.mem.proofs.Tests.{and-left, and-right, same-test, eq→eqb, any-map, choose-case}
-use Rattle.mem.proofs.Masks.{mask-zero}
+use Rattle.mem.proofs.Tests.{and-left, and-right, same-test, eq→eqb, choose-case}
 use Rattle.mem.proofs.Laws.{getD-part, part-part, zeros-length}
 use Rattle.mem.proofs.Starts.{eqb-sym, starts-then, starts-from, starts-zeros, starts-two, starts-low, starts-read}
 use Rattle.classes.specs.Classes.{slotBytes, slotsOf, classOf, tooLarge, below2}
@@ -18,6 +17,7 @@ use Rattle.model.specs.declared.Holder.the-variants.{First}
 use Rattle.model.specs.State.{isReady, isWaiting, isLive, count, slotSound, spanSound}
 use Rattle.model.specs.Tables.{byMasks, slotRecord, rowRecord, viewSlot, viewSlots, viewGroup, viewHolder, rowRecordBytes}
 use Rattle.model.proofs.Tables.{mask-fits, slot-length, slots-length}
+use Rattle.model.proofs.Counts.{ones-live, none-live}
 use Rattle.rows.specs.Checks.{groupChecked}
 use Rattle.rows.proofs.Checks.{holder-first-bytes}
 use Rattle.soundness.specs.Checks.{slotFits, slotChecked, slotsChecked, membersChecked}
@@ -194,30 +194,31 @@ unfolding viewSlots
 view-length zero r w t = refl
 view-length (suc n) r w t = ap suc (view-length n (r / 2) (w / 2) (drop 8 t))
 
--- a slot is ready, waiting or live
-live-mask : (ss : List Slot) → mask (map isReady ss) + mask (map isWaiting ss) + mask (map isLive ss) + 1 ≡ 2 ^ length ss
-live-mask [] = refl
-live-mask (Fresh ∷ ss) = rw pow-suc (omega (arith, live-mask ss))
-live-mask (Idle true k d ∷ ss) = rw pow-suc (omega (arith, live-mask ss))
-live-mask (Idle false k d ∷ ss) = rw pow-suc (omega (arith, live-mask ss))
-live-mask (Live a ∷ ss) = rw pow-suc (omega (arith, live-mask ss))
-
-some-live : (ss : List Slot) → any isLive ss ≡ not (eqb (mask (map isReady ss) + mask (map isWaiting ss) + 1) (2 ^ length ss))
-some-live ss =
-    let m = mask (map isLive ss) in
-    let e : eqb (mask (map isReady ss) + mask (map isWaiting ss) + 1) (2 ^ length ss) ≡ eqb m 0 =
-    same-test (eqb (mask (map isReady ss) + mask (map isWaiting ss) + 1) (2 ^ length ss)) (eqb m 0)
-    (λ t. eq→eqb m 0 (omega (arith, live-mask ss, eqb→eq (mask (map isReady ss) + mask (map isWaiting ss) + 1) (2 ^ length ss) t)))
-    (λ t. eq→eqb (mask (map isReady ss) + mask (map isWaiting ss) + 1) (2 ^ length ss) (omega (arith, live-mask ss, eqb→eq m 0 t))) in
-    sym (any-map (λ b. b) isLive ss) ∙ sym (Bool·not-not (any (λ b. b) (map isLive ss))) ∙ ap not (sym (mask-zero (map isLive ss)) ∙ sym e)
-
 members-order : (r w j l e : Bool) → (r && w && j && l && e) ≡ (r && w && j && e && l)
 members-order r w j l e = simp (and-assoc, and-comm)
 
--- the two masks as numbers are those of the slots, so they say whether a slot is live
+-- the slots of a group, of which the masks have no others
+module _ (most least n r w : ℕ) (t : List ℕ) (u : T (slotsChecked most least n r w t)) where
+  slots-ones : ones r + ones w + sum (λ x. bit (isLive x)) (viewSlots n r w t) ≡ n
+  unfolding slotsChecked
+  slots-ones =
+      let ss = viewSlots n r w t in
+      ones-live ss r w (eqb→eq (mask (map isReady ss)) r (search (and-left, and-right))) (eqb→eq (mask (map isWaiting ss)) w (search (and-left, and-right)))
+      ∙ view-length n r w t
+
+  pub slots-few : ones r + ones w ≤ n
+  slots-few = omega (arith, slots-ones)
+
+  -- a slot is live if the masks have fewer bits
+  some-live : any isLive (viewSlots n r w t) ≡ not (eqb (n - (ones r + ones w)) 0)
+  some-live =
+      let ss = viewSlots n r w t in
+      let e : n - (ones r + ones w) ≡ sum (λ x. bit (isLive x)) ss = omega (arith, slots-ones) in
+      rw e (sym (ap not (none-live ss) ∙ Bool·not-not (any isLive ss)))
+
 members-view : (c : ℕ) (t : List ℕ) → c < 48 → ((i : ℕ) → getD t i 0 < 256) → let r = number (part 8 4 t) in let w = number (part 12 4 t) in
     membersChecked c t
-    ≡ (slotsChecked (slotBytes c - 4) (below2 c) (slotsOf c) r w (drop 16 t) && not (eqb (r + w + 1) (2 ^ slotsOf c)))
+    ≡ (slotsChecked (slotBytes c - 4) (below2 c) (slotsOf c) r w (drop 16 t) && not (eqb (slotsOf c - (ones r + ones w)) 0))
 unfolding membersChecked slotsChecked viewGroup
 members-view c t h B =
     let r = number (part 8 4 t) in
@@ -226,16 +227,13 @@ members-view c t h B =
     rw (slots-fit c h (slotsOf c) r w (drop 16 t) (λ i. rw (getD-drop 16 t i 0) (B (16 + i))))
     (members-order (eqb (mask (map isReady ss)) r) (eqb (mask (map isWaiting ss)) w) (starts (drop 16 t) (join slotRecord ss)) (any isLive ss)
     (every (slotFits (slotBytes c - 4) (below2 c)) ss)
-    ∙ and-when (slotsChecked (slotBytes c - 4) (below2 c) (slotsOf c) r w (drop 16 t)) (any isLive ss) (not (eqb (r + w + 1) (2 ^ slotsOf c)))
-    (λ u.
-    let er : mask (map isReady ss) ≡ r = eqb→eq (mask (map isReady ss)) r (search (and-left, and-right)) in
-    let ew : mask (map isWaiting ss) ≡ w = eqb→eq (mask (map isWaiting ss)) w (search (and-left, and-right)) in
-    some-live ss ∙ rw (er, ew, view-length (slotsOf c) r w (drop 16 t))))
+    ∙ and-when (slotsChecked (slotBytes c - 4) (below2 c) (slotsOf c) r w (drop 16 t)) (any isLive ss) (not (eqb (slotsOf c - (ones r + ones w)) 0))
+    (some-live (slotBytes c - 4) (below2 c) (slotsOf c) r w (drop 16 t)))
 
 -- over what the calls give
 pub members-law : (s : List ℕ) → ((i : ℕ) → getD s i 0 < 256) → (at c n r w most : ℕ) → c < 48
     → n ≡ slotsOf c → r ≡ number (part (at + 8) 4 s) → w ≡ number (part (at + 12) 4 s) → most ≡ slotBytes c - 4
-    → membersChecked c (drop at s) ≡ (slotsChecked most (below2 c) n r w (drop (at + 16) s) && not (eqb (r + w + 1) (2 ^ n)))
+    → membersChecked c (drop at s) ≡ (slotsChecked most (below2 c) n r w (drop (at + 16) s) && not (eqb (n - (ones r + ones w)) 0))
 members-law s B at c n r w most h en er ew em =
     rw (en, er, ew, em, ← (drop-drop 8 at s), ← (drop-drop 12 at s), ← (drop-drop 16 at s))
     (members-view c (drop at s) h (λ i. rw (getD-drop at s i 0) (B (at + i))))

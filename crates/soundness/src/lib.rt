@@ -13,6 +13,7 @@ ghost use Rattle.model.specs.Calls.{keptIn, sameTotals, soundKept};
 ghost use Rattle.rows.specs.Checks.{groupChecked};
 ghost use Rattle.soundness.specs.Checks.{recordChecked, slotsChecked, membersChecked};
 ghost use Rattle.soundness.specs.Counts.{allRows, PerRow, plus, countedIf, groupTotals, masksTotals, spanCounted, rowsCounted};
+use masks::Masks;
 use model::Holder;
 use model::Totals;
 
@@ -132,9 +133,13 @@ fn group_totals(k: usize, n: usize, ready: u32, waiting: u32, bytes: u32) -> Tot
     requires { ⌜ (n ≤ mostSlots) × (ones ready + ones waiting ≤ n) ⌝ }
     ensures { λ r. ⌜ r ≡ masksTotals k n ready waiting bytes ⌝ }
 {
-    let idle = u32::count_ones(ready) + u32::count_ones(waiting);
+    let m = Masks {
+        ready: ready,
+        waiting: waiting,
+    };
+    let live = m.live(n as u32);
     Totals {
-        blocks: n - idle as usize,
+        blocks: live as usize,
         bytes: bytes as usize,
         held: k,
         free: 0,
@@ -143,7 +148,7 @@ fn group_totals(k: usize, n: usize, ready: u32, waiting: u32, bytes: u32) -> Tot
     }
 }
 
-// The masks and the n slots of a group of class c, which has k rows. One slot is live: else the masks would have all n bits.
+// The masks and the n slots of a group of class c, which has k rows. One slot at least is live.
 fn members_counted(s: &[u8], at: usize, c: usize, n: usize, k: usize) -> Counted
     requires { ⌜ (at + rowRecordBytes ≤ length (now s)) × (c < 48) × (n ≡ slotsOf c) × (n ≤ mostSlots) ⌝ }
     ensures { λ r. ⌜ r ≡ countedIf (membersChecked c (drop at (now (s .entry)))) (groupTotals k (viewGroup c (drop at (now (s .entry))))) ⌝ }
@@ -152,11 +157,14 @@ fn members_counted(s: &[u8], at: usize, c: usize, n: usize, k: usize) -> Counted
     let w = mem::quad(s, at + model::WAITING);
     let most = (16 * classes::units(c) - 4) as u32;
     let found = slots_found(s, at + model::SLOTS, n, r, w, most, below(c) as u32);
-    let some_live = r as usize + w as usize + 1 != masks::bit_of(n as u32) as usize;
-    if !(found.sound & some_live) {
+    if !found.sound {
         return Counted::Unsound;
     }
-    Counted::Sound(group_totals(k, n, r, w, found.bytes))
+    let t = group_totals(k, n, r, w, found.bytes);
+    if t.blocks == 0 {
+        return Counted::Unsound;
+    }
+    Counted::Sound(t)
 }
 
 // Whether the records from the n-th slot's to the row's end are zero. It counts up: a loop of 31 - n turns is not vectorised.
