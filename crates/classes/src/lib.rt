@@ -114,7 +114,7 @@ pub fn rows(row: usize, c: usize) -> usize
 }
 
 // The least class whose slot has n + 4 bytes, as mallocng's size_to_class finds it. Up to 10 units every need has a class of its own. Past
-// them needs of one length in bits, which the leading zeros tell, have four classes, and two comparisons find which.
+// them the needs of one length in bits have four classes: the leading zeros pick the four, and two comparisons find the one.
 pub fn class_of(n: usize) -> usize
     requires { ⌜ n < tooLarge ⌝ }
     ensures { λ r. ⌜ r ≡ classOf n ⌝ }
@@ -124,9 +124,10 @@ pub fn class_of(n: usize) -> usize
     if q <= 10 {
         return q - 1;
     }
+    // The first of the four. A need of 4 bits begins at class 8, and each bit more is four classes more.
+    let mut c = 4 * (62 - usize::leading_zeros(q) as usize);
     // The table is copied once for both comparisons.
     let table = UNITS;
-    let mut c = 4 * (62 - usize::leading_zeros(q) as usize);
     if (table[c + 1] as usize) < q {
         c += 2;
     }

@@ -1,5 +1,5 @@
 -- `members_counted` meets its contract: the law of a group's slots, over what the calls give.
-use Rattle.mem.proofs.Prelude.{_∙_, _≡_, sym, ap, true, Bool, _&&_, not, eqb, _+_, _*_, _-_, arith, now, needs, not-true, not-false, drop}
+use Rattle.mem.proofs.Prelude.{_∙_, _≡_, sym, ap, true, _&&_, not, eqb, _+_, _*_, _-_, arith, now, needs, not-true, not-false, drop}
 use Rattle.mem.proofs.Prelude.{eq-eqb, ne-eqb, ones}
 use Rattle.mem.proofs.Tests.{true-T, choose-true, choose-false}
 use Rattle.classes.proofs.Laws.{bytes-units}
@@ -46,12 +46,9 @@ group-totals-requires c κs =
     let a = q .before .before .before .before .before .before .args in
     (search needs, slots-few _ _ (a .n) r w _ (true-T _ (sym (q .slots-found .ensures .0) ∙ passed c)))
 
--- whether a slot is live
-abbrev met : tie.After-struct-known2 → Bool
-met c = not (eqb (c .before .group-totals .result .blocks) 0)
-
+-- so a live one is all that is left
 live-law : (c : tie.After-struct-known2) → (let a = c .before .before .before .before .before .before .before .before .before .before .args in
-    membersChecked (a .c) (drop (a .at) (now (a .s))) ≡ met c)
+    membersChecked (a .c) (drop (a .at) (now (a .s))) ≡ not (eqb (c .before .group-totals .result .blocks) 0))
 live-law c =
     let e = c .before .before in
     law (e .before .before) ∙ rw (passed e, c .before .group-totals .ensures)
@@ -61,7 +58,7 @@ returns-2 c =
     let a = c .before .before .before .before .before .before .before .before .before .before .before .args in
     let t = drop (a .at) (now (a .s)) in
     sym (choose-false (membersChecked (a .c) t) (Sound (groupTotals (a .k) (viewGroup (a .c) t))) Unsound
-    (live-law (c .before) ∙ ap not (eq-eqb _ 0 (c .if2 .taken))))
+    (live-law (c .before) ∙ ap not (eq-eqb (c .before .before .group-totals .result .blocks) 0 (omega arith))))
 
 returns-3 : tie.Need-returns-3
 returns-3 c =
@@ -72,7 +69,7 @@ returns-3 c =
     let b = q .before .before .before .before .before .before in
     let a = b .args in
     let t = drop (a .at) (now (a .s)) in
-    let right : membersChecked (a .c) t ≡ true = live-law (c .before) ∙ ap not (ne-eqb _ 0 (c .if2 .left)) in
+    let right : membersChecked (a .c) t ≡ true = live-law (c .before) ∙ ap not (ne-eqb (g .group-totals .result .blocks) 0 (λ z. omega arith)) in
     ap Sound (g .group-totals .ensures
     ∙ members-totals (now (a .s)) (a .at) (a .c) (a .n) (r .result) (w .result) right (b .pre .2) (r .ensures) (w .ensures)
     (q .slots-found .result .bytes) (a .k) (q .slots-found .ensures .1 .0))
