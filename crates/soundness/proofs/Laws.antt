@@ -197,7 +197,7 @@ view-length (suc n) r w t = ap suc (view-length n (r / 2) (w / 2) (drop 8 t))
 members-order : (r w j l e : Bool) → (r && w && j && l && e) ≡ (r && w && j && e && l)
 members-order r w j l e = simp (and-assoc, and-comm)
 
--- the slots of a group, of which the masks have no others
+-- slots that pass: the live ones are those whose bits the masks have not set
 module _ (most least n r w : ℕ) (t : List ℕ) (u : T (slotsChecked most least n r w t)) where
   slots-ones : ones r + ones w + sum (λ x. bit (isLive x)) (viewSlots n r w t) ≡ n
   unfolding slotsChecked
@@ -209,7 +209,6 @@ module _ (most least n r w : ℕ) (t : List ℕ) (u : T (slotsChecked most least
   pub slots-few : ones r + ones w ≤ n
   slots-few = omega (arith, slots-ones)
 
-  -- a slot is live if the masks have fewer bits
   some-live : any isLive (viewSlots n r w t) ≡ not (eqb (n - (ones r + ones w)) 0)
   some-live =
       let ss = viewSlots n r w t in
