@@ -21,7 +21,7 @@ use Rattle.model.specs.Plans.{Site, turnReady, refill, grantSlot, grantIn, vaca
 use Rattle.model.proofs.Tables.{masks-laws, encode-length}
 use Rattle.model.proofs.Rooms.{rows-append, encode-from}
 use Rattle.model.proofs.Lookup.{Fits, fits}
-use Rattle.model.proofs.Counts.{mask-ones, three-sets, none-live}
+use Rattle.model.proofs.Counts.{mask-ones, ones-live, none-live}
 use Rattle.model.proofs.Formed.{any-middle}
 use Rattle.model.proofs.Reserve as reserve
 use Rattle.rows.specs.declared.Block.{Block}
@@ -315,8 +315,8 @@ module _ (row : ℕ) (t : List ℕ) (b : Block) (p : Place) (h : Holds byMasks r
 
       ones-left : ones (m .ready) + ones (m .waiting) + sum (λ x. bit (isLive x)) slots ≡ slotsOf (b .class)
       ones-left =
-          subst (λ m. ones (m .ready) + ones (m .waiting) + sum (λ x. bit (isLive x)) slots ≡ slotsOf (b .class)) (sym masks-left)
-          (omega (arith, mask-ones isReady slots, mask-ones isWaiting slots, three-sets slots, slots-all, ap slotsOf class))
+          ones-live slots (m .ready) (m .waiting) (sym (ap (λ m. m .ready) masks-left)) (sym (ap (λ m. m .waiting) masks-left))
+          ∙ slots-all ∙ ap slotsOf (sym class)
 
       pub given-few : ones (m .ready) + ones (m .waiting) ≤ slotsOf (b .class)
       given-few = omega (arith, ones-left)

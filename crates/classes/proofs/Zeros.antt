@@ -6,8 +6,8 @@ use lib.Count.{leadingZeros, leading-top}
 use lib.Pow.{pow-mono}
 use Rattle.mem.specs.Lists.{choose}
 use Rattle.mem.proofs.Tests.{and-left, and-right, choose-true, choose-false}
-use Rattle.classes.specs.Classes.{units, unitsOf, slotBytes, classOf, tooLarge}
-use Rattle.classes.proofs.Laws.{class-least, class-past}
+use Rattle.classes.specs.Classes.{units, unitsOf, slotBytes, classOf, needed, tooLarge}
+use Rattle.classes.proofs.Laws.{class-least, class-facts, class-past}
 
 -- a test of each number of a list with its place
 each : (ℕ → ℕ → Bool) → List ℕ → Bool
@@ -25,13 +25,13 @@ abbrev entry : ℕ → ℕ → Bool
 entry c u = choose (ltb c 10) (eqb u (suc c)) (choose (eqb (c % 4) 3) (eqb (suc u) (2 ^ (c / 4 + 2))) true)
 
 -- the test, over all 48 classes
-table : T (each entry units)
+entries : T (each entry units)
 unfolding each units choose
-table = tt
+entries = tt
 
 entry-at : (c : ℕ) → c < 48 → T (entry c (unitsOf c))
 unfolding unitsOf
-entry-at c h = each-at entry units table c h
+entry-at c h = each-at entry units entries c h
 
 first-ten : (c : ℕ) → c < 10 → unitsOf c ≡ suc c
 first-ten c h = eqb→eq (unitsOf c) (suc c) (subst T (choose-true (ltb c 10) _ _ (lt-ltb c 10 h)) (entry-at c (omega arith)))
@@ -43,10 +43,6 @@ fourth c e l h f =
     let t = subst T (choose-false (ltb c 10) _ _ (le-ltb c 10 (omega arith))) (entry-at c h) in
     let u = subst T (choose-true (eqb (c % 4) 3) _ _ (eq-eqb (c % 4) 3 (omega arith))) t in
     eqb→eq (suc (unitsOf c)) (2 ^ (c / 4 + 2)) u ∙ ap (λ k. 2 ^ k) p
-
--- q, the units that n needs
-abbrev pub needed : ℕ → ℕ
-needed n = (n + 4 + 15) / 16
 
 -- the first of the four classes that a need above ten units can have
 abbrev pub fourFrom : ℕ → ℕ
@@ -60,7 +56,7 @@ module _ (n : ℕ) (h : n < tooLarge) where
   -- one comparison with an entry of the table
   pub past : (c : ℕ) → c < 48 → unitsOf c < needed n → c < classOf n
   unfolding slotBytes
-  past c l f = class-past n h c l (omega arith)
+  past c l f = class-past n (class-facts n h) c l (omega arith)
 
   pub not-past : (c : ℕ) → needed n ≤ unitsOf c → classOf n ≤ c
   unfolding slotBytes

@@ -69,13 +69,11 @@ module _ (c : ℕ) (t : List ℕ) (h : T (membersChecked c t)) where
       ap (sizesIn (slotsOf c)) (starts-split (drop 16 t) J (8 * length ss) (slots-length ss) (search (and-left, and-right)))
       ∙ subst (λ k. sizesIn k (J ++ rest) ≡ sum size ss) (group-length c t) (sizes-read c ss rest (search (and-left, and-right)))
 
-  all-slots : ones (number (part 8 4 t)) + ones (number (part 12 4 t)) + sum (λ x. bit (isLive x)) (viewGroup c t) ≡ slotsOf c
-  all-slots = omega (arith, ready-ones, waiting-ones, three-sets (viewGroup c t), group-length c t)
-
   masks-totals : (k : ℕ) → masksTotals k (slotsOf c) (number (part 8 4 t)) (number (part 12 4 t)) (sizesIn (slotsOf c) (drop 16 t))
       ≡ groupTotals k (viewGroup c t)
   masks-totals k =
-      let e : slotsOf c - (ones (number (part 8 4 t)) + ones (number (part 12 4 t))) ≡ sum (λ x. bit (isLive x)) (viewGroup c t) = omega (arith, all-slots) in
+      let e : slotsOf c - (ones (number (part 8 4 t)) + ones (number (part 12 4 t))) ≡ sum (λ x. bit (isLive x)) (viewGroup c t) =
+      omega (arith, ready-ones, waiting-ones, three-sets (viewGroup c t), group-length c t) in
       rw (e, sizes-sum, ready-ones, waiting-ones)
 
 -- over what the calls give
