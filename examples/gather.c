@@ -1,4 +1,5 @@
-/* Grants a packet as one gather list, shows what the pool refuses, and prints a map of the arena's rows. */
+/* Grants a packet as one gather list and a ring of descriptors on a boundary, shows what the pool refuses, and prints a map of the arena's
+ * rows. */
 #include <stdio.h>
 #include <stdlib.h>
 #include <string.h>
@@ -19,7 +20,7 @@ static const char *name(uint32_t answer)
 {
     static const char *const names[] = {"done", "bad arena", "unsound", "too large", "no such block",
                                         "already free", "header damaged", "overrun", "no room", "list too long",
-                                        [SLOTPOOL_BAD_PROPOSAL] = "bad proposal"};
+                                        [SLOTPOOL_BAD_ALIGNMENT] = "bad alignment", [SLOTPOOL_BAD_PROPOSAL] = "bad proposal"};
     return names[answer];
 }
 
@@ -90,6 +91,13 @@ int main(void)
     printf("release %zu: %s\n", list[1] + 1, name(slotpool_release(POOL, list[1] + 1)));
     printf("grant 131052: %s\n", name(slotpool_grant(POOL, 131052, &value)));
     printf("grant 5000: %s\n", name(slotpool_grant(POOL, 5000, &value)));
+    map();
+
+    /* 8 descriptors of 16 bytes, which the engine wants at a multiple of 64: a slot for 48 bytes more, from whose beginning at 400 the next
+     * multiple is 448 */
+    printf("grant 128 aligned to 48: %s\n", name(slotpool_grant_aligned(POOL, 128, 48, &value)));
+    printf("grant 128 aligned to 64: %s", name(slotpool_grant_aligned(POOL, 128, 64, &value)));
+    printf(", %zu\n", value);
     map();
 
     /* a flipped bit in the tables: block 16 has 156 bytes for 188, which its slot may hold. The tables are sound by themselves, and without the

@@ -4,7 +4,7 @@
  * byte of them. The caller owes: both buffers are valid for their given lengths, do not overlap, and, like the record, are not used by
  * anybody else during a call; `totals`, `out` and `value` are memory of their own. Likewise the lists `sizes` and `starts` are valid for
  * their given lengths, the planner's for 17 places, and overlap neither each other nor a buffer; their pointers are not null, even where
- * a length is 0. Nothing else: any bytes, numbers, lengths, offsets, sizes, caps and proposals may be given.
+ * a length is 0. Nothing else: any bytes, numbers, lengths, offsets, sizes, alignments, caps and proposals may be given.
  */
 #ifndef SLOTPOOL_H
 #define SLOTPOOL_H
@@ -20,13 +20,14 @@ enum {
     SLOTPOOL_DONE = 0,           /* done */
     SLOTPOOL_BAD_ARENA = 1,      /* set up only: arena length outside the rule, or table room of another size */
     SLOTPOOL_UNSOUND = 2,        /* arena or table room length wrong, the tables not sound, or the record not their totals */
-    SLOTPOOL_TOO_LARGE = 3,      /* a size of 131,052 or more */
+    SLOTPOOL_TOO_LARGE = 3,      /* a size of 131,052 or more; of an aligned block, the size that its slot is taken for */
     SLOTPOOL_NO_SUCH_BLOCK = 4,  /* no slot starts at the offset */
     SLOTPOOL_ALREADY_FREE = 5,   /* the last start of a slot that is not live */
     SLOTPOOL_HEADER_DAMAGED = 6, /* the 4 bytes before the block are not those due */
     SLOTPOOL_OVERRUN = 7,        /* header right, the byte past the end or the guard not that due */
     SLOTPOOL_NO_ROOM = 8,        /* no slot of the class, and no run of free rows for a new group */
     SLOTPOOL_TOO_LONG = 9,       /* lists: over 17 times the cap, a cap outside 1 to 131,051, or `starts` of fewer than 17 places */
+    SLOTPOOL_BAD_ALIGNMENT = 13, /* an alignment that is no power of two from 1 to 4,096 */
     SLOTPOOL_BAD_PROPOSAL = 17   /* a list whose proposal the check refuses */
 };
 
@@ -53,6 +54,12 @@ uint32_t slotpool_set_up(uint8_t *arena, size_t arena_len, uint8_t *room, size_t
 /* Grants a block of n bytes, all zero; *value is its offset in the arena. Answers 0, 2, 3 or 8. */
 uint32_t slotpool_grant(uint8_t *arena, size_t arena_len, uint8_t *room, size_t room_len, slotpool_totals *totals, size_t n,
                         size_t *value);
+
+/* Grants a block of n bytes, all zero, at a multiple of align, counted from the arena's first byte; *value is its offset. align is a power of
+ * two from 1 to 4,096. Up to 16 this is a grant of n. From 32 on the slot is taken for a size of n + align - 16, and a resize keeps
+ * the alignment. Answers 0, 2, 13, 3 or 8, refusals in this order. */
+uint32_t slotpool_grant_aligned(uint8_t *arena, size_t arena_len, uint8_t *room, size_t room_len, slotpool_totals *totals, size_t n,
+                                size_t align, size_t *value);
 
 /* Takes the block at an offset back and clears it. Answers 0, 2, 4, 5, 6 or 7. */
 uint32_t slotpool_release(uint8_t *arena, size_t arena_len, uint8_t *room, size_t room_len, slotpool_totals *totals, size_t offset);

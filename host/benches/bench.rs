@@ -1,6 +1,7 @@
 //! Nanoseconds per call, of the library and of the second implementation with its own full check of the tables, over arenas of four
-//! sizes, empty, half full and nearly full; of the soundness check alone, dense and sparse; of grants that do little but find a class; of
-//! the grants of a list beside its list call; and records per second, of the replay program and of the second implementation's replay.
+//! sizes, empty, half full and nearly full; of the soundness check alone, dense and sparse, with ordinary and with aligned blocks; of aligned
+//! grants beside ordinary ones; of grants that do little but find a class; of the grants of a list beside its list call; and records per
+//! second, of the replay program and of the second implementation's replay.
 //! Each figure is the median of several runs, with the least and the most.
 
 #[path = "../tests/program/mod.rs"]
@@ -8,7 +9,7 @@ mod program;
 
 use slotpool::trace::{self, Op};
 use slotpool::{room_len, Pool, Refusal, Totals, ENTRIES};
-use slotpool_reference::{replay, Reference, Tables};
+use slotpool_reference::{replay, Reference, Tables, ORDINARY};
 use std::hash::{BuildHasher, BuildHasherDefault, DefaultHasher};
 use std::hint::black_box;
 use std::path::Path;
@@ -171,9 +172,22 @@ struct Kept {
 impl Kept {
     /// An arena that was full of blocks of one size, of which some were released.
     fn with_room(len: usize, size: usize, released: Released) -> Kept {
+        Kept::full_of(len, &[(size, ORDINARY)], released)
+    }
+
+    /// An arena that was full of blocks with these sizes and alignments, granted in turn as long as there was room for any, of which some were
+    /// released.
+    fn full_of(len: usize, asked: &[(usize, usize)], released: Released) -> Kept {
         let (mut arena, mut room, mut totals) = buffers(len);
         let mut pool = Pool::set_up(&mut arena, &mut room, &mut totals).unwrap();
-        let blocks: Vec<usize> = std::iter::from_fn(|| pool.grant(size).ok()).collect();
+        let mut blocks = Vec::new();
+        loop {
+            let before = blocks.len();
+            blocks.extend(asked.iter().filter_map(|&(n, align)| pool.grant_aligned(n, align).ok()));
+            if blocks.len() == before {
+                break;
+            }
+        }
         for block in released(&blocks) {
             pool.release(block).unwrap();
         }
@@ -281,24 +295,38 @@ fn classes() {
     }
 }
 
-/// Pools with tables that are sparse and dense.
-const CHECKED: [(&str, usize, Released); 6] = [
-    ("all rows free", 160, all),
-    ("full of 1,500-byte blocks", 1500, none),
-    ("full of 160-byte blocks", 160, none),
-    ("half full of 160-byte blocks", 160, half_at_random),
-    ("full of 12-byte blocks", 12, none),
-    ("half full of 12-byte blocks", 12, half_at_random),
+/// Sizes and alignments of mixed blocks.
+const MIXED: [(usize, usize); 3] = [(12, 32), (100, 64), (2000, 4096)];
+
+/// Two alignments of one class, which share its groups.
+const SHARING: [(usize, usize); 2] = [(44, 32), (12, 64)];
+
+/// Pools with tables that are sparse and dense: the sizes and alignments of their blocks, and which were released.
+const CHECKED: [(&str, &[(usize, usize)], Released); 13] = [
+    ("all rows free", &[(160, ORDINARY)], all),
+    ("full of 1,500-byte blocks", &[(1500, ORDINARY)], none),
+    ("full of 160-byte blocks", &[(160, ORDINARY)], none),
+    ("half full of 160-byte blocks", &[(160, ORDINARY)], half_at_random),
+    ("full of 12-byte blocks", &[(12, ORDINARY)], none),
+    ("half full of 12-byte blocks", &[(12, ORDINARY)], half_at_random),
+    ("full of 28-byte blocks", &[(28, ORDINARY)], none),
+    ("full of 12 bytes aligned to 32", &[(12, 32)], none),
+    ("half full of 12 bytes aligned to 32", &[(12, 32)], half_at_random),
+    ("full of 100 bytes aligned to 64", &[(100, 64)], none),
+    ("full of mixed aligned blocks", &MIXED, none),
+    ("full of 44 aligned to 32 and 12 to 64", &SHARING, none),
+    ("half full of 44 aligned to 32 and 12 to 64", &SHARING, half_at_random),
 ];
 
 /// Times the soundness check alone, as a measure of offset 1 (answer 4), beside a plain read of the room.
 fn checks() {
     println!("\nthe soundness check alone (a measure of offset 1, answer 4) beside a plain read of the room. Half full: half of the blocks were");
-    println!("released, drawn at random");
-    println!("{:<36} {:>26} {:>26} {:>20}", "arena", "check", "plain read", "ratio of a run");
+    println!("released, drawn at random. Mixed: 12 bytes aligned to 32, 100 to 64 and 2,000 to 4,096, in turn. Ordinary blocks of 28 bytes have the");
+    println!("class of 12 aligned to 32; 44 aligned to 32 and 12 to 64 have one class, and share its groups");
+    println!("{:<52} {:>26} {:>26} {:>20}", "arena", "check", "plain read", "ratio of a run");
     for kib in [4, 16, 64, 256] {
-        for (name, size, released) in CHECKED {
-            let mut kept = Kept::with_room(1024 * kib, size, released);
+        for (name, asked, released) in CHECKED {
+            let mut kept = Kept::full_of(1024 * kib, asked, released);
             let bytes = kept.room.clone();
             let pool = kept.pool();
             let turns = 60_000 / kib + 100;
@@ -311,7 +339,42 @@ fn checks() {
                     black_box(plain_read(black_box(&bytes)));
                 },
             );
-            println!("{:<36} {:>26} {:>26} {}", format!("{kib} KiB, {name}"), show(&check), show(&read), show_ratio(&ratio));
+            println!("{:<52} {:>26} {:>26} {:>20}", format!("{kib} KiB, {name}"), show(&check), show(&read), show_ratio(&ratio));
+        }
+    }
+}
+
+/// Times an aligned grant with its release beside those of an ordinary block of the enlarged size.
+fn aligned() {
+    println!(
+        "\naligned grant and release beside grant and release of the enlarged size, which has the same class. The pool was full of such aligned"
+    );
+    println!("blocks, of which all, or half, drawn at random, were released: empty and half full");
+    println!("{:<48} {:>26} {:>26} {:>20}", "arena, block", "aligned", "ordinary", "ratio of a run");
+    for kib in [4, 16, 64, 256] {
+        for (state, released) in [("empty", all as Released), ("half full", half_at_random)] {
+            for (n, align) in MIXED {
+                let name = format!("{kib} KiB, {state}, {n} bytes aligned to {align}");
+                let mut one = Kept::full_of(1024 * kib, &[(n, align)], released);
+                let mut other = one.clone();
+                let (mut one, mut other) = (one.pool(), other.pool());
+                if one.grant_aligned(n, align).map(|start| one.release(start).unwrap()).is_err() {
+                    println!("{name:<48} no room");
+                    continue;
+                }
+                let (aligned, ordinary, ratio) = time_beside(
+                    40_000 / kib + 200,
+                    || {
+                        let start = one.grant_aligned(black_box(n), black_box(align)).unwrap();
+                        one.release(black_box(start)).unwrap();
+                    },
+                    || {
+                        let start = other.grant(black_box(n + align - ORDINARY)).unwrap();
+                        other.release(black_box(start)).unwrap();
+                    },
+                );
+                println!("{name:<48} {:>26} {:>26} {:>20}", show(&aligned), show(&ordinary), show_ratio(&ratio));
+            }
         }
     }
 }
@@ -381,6 +444,7 @@ fn main() {
     }
 
     checks();
+    aligned();
     classes();
     lists();
     replays();

@@ -20,6 +20,9 @@
 //! assert_eq!(sizes[..entries], [160, 160, 80]);
 //! assert_eq!(starts[..entries], [16, 208, 4112]);
 //! assert_eq!(pool.report().unwrap().requested_bytes, 400);
+//!
+//! // a ring of 8 descriptors of 16 bytes, which the DMA engine wants at a multiple of 64
+//! assert_eq!(pool.grant_aligned(128, 64), Ok(448));
 //! ```
 
 pub mod trace;
@@ -38,11 +41,12 @@ pub enum Refusal {
     Overrun = 7,
     NoRoom = 8,
     TooLong = 9,
+    BadAlignment = 13,
     BadProposal = 17,
 }
 
 /// Each refusal with its name.
-const REFUSALS: [(Refusal, &str); 10] = [
+const REFUSALS: [(Refusal, &str); 11] = [
     (Refusal::BadArena, "bad arena"),
     (Refusal::Unsound, "unsound"),
     (Refusal::TooLarge, "too large"),
@@ -52,6 +56,7 @@ const REFUSALS: [(Refusal, &str); 10] = [
     (Refusal::Overrun, "overrun"),
     (Refusal::NoRoom, "no room"),
     (Refusal::TooLong, "list too long"),
+    (Refusal::BadAlignment, "bad alignment"),
     (Refusal::BadProposal, "bad proposal"),
 ];
 
@@ -102,6 +107,7 @@ mod sys {
     on_pool! { mut:
         slotpool_set_up();
         slotpool_grant(n: usize, value: *mut usize);
+        slotpool_grant_aligned(n: usize, align: usize, value: *mut usize);
         slotpool_release(offset: usize);
         slotpool_resize(offset: usize, n: usize, value: *mut usize);
         slotpool_grant_list(
@@ -199,6 +205,15 @@ impl<'a> Pool<'a> {
         answer(number, value)
     }
 
+    /// Grants a block of `n` zero bytes whose offset is a multiple of `align`, a power of two from 1 to 4,096, and gives the offset. Up to 16
+    /// this is [`Pool::grant`]; from 32 on the block takes the slot of one of `n + align - 16` bytes, and keeps the alignment when it is
+    /// resized. Refused with [`Refusal::BadAlignment`] for any other `align`.
+    pub fn grant_aligned(&mut self, n: usize, align: usize) -> Result<usize, Refusal> {
+        let mut value = 0;
+        let number = call!(mut self.slotpool_grant_aligned(n, align, &mut value));
+        answer(number, value)
+    }
+
     /// Grants the sizes of a proposal in order, all of them or none. Writes the offsets of the blocks to the front of `starts`, keeps its
     /// later places, and gives the number of entries. Refused with [`Refusal::TooLong`] where [`plan_list`] is, or if `starts` has fewer
     /// than [`ENTRIES`] places; with [`Refusal::BadProposal`] if [`check_list`] says no; with [`Refusal::NoRoom`] if one of the grants
@@ -222,7 +237,7 @@ impl<'a> Pool<'a> {
         answer(call!(mut self.slotpool_release(offset)), ())
     }
 
-    /// Gives the block at an offset another size, and gives its offset from then on.
+    /// Gives the block at an offset another size, and gives its offset from then on. An aligned block stays aligned.
     pub fn resize(&mut self, offset: usize, n: usize) -> Result<usize, Refusal> {
         let mut value = 0;
         let number = call!(mut self.slotpool_resize(offset, n, &mut value));

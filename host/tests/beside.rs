@@ -2,13 +2,15 @@
 
 mod any;
 mod common;
+mod forged;
 mod random;
 
 use any::{calls_on, no_store, over_any, refused, sample, set_up_over, OLD};
 use common::{Answer, Both, Buffers, Call};
-use random::{all_seen, block, kind, next_call, Engine, Numbers, Seen};
+use forged::saying;
+use random::{all_seen, block, kind, next_call, Engine, Numbers, Seen, UNDAMAGED};
 use slotpool::{room_len, Refusal};
-use slotpool_reference::{class_of, rows_of, slot_bytes, slots_of, State, Tables, TOO_LARGE};
+use slotpool_reference::{class_of, enlarged, rows_of, slot_bytes, slots_of, State, Tables, ALIGNMENTS, ORDINARY, TOO_LARGE};
 
 fn run(arena_len: usize, calls: &[Call]) -> Result<(), String> {
     let mut both = Both::new(arena_len, OLD);
@@ -58,7 +60,11 @@ fn anywhere(numbers: &mut Numbers, both: &Both) -> Option<Call> {
 const ENGINES: [(&str, Engine, &[&str]); 3] = [
     ("no store", no_store, &["set up 0"]),
     ("stores into requested bytes", into_requested, &["set up 0", "store"]),
-    ("stores anywhere", anywhere, &["set up 0", "store", "release 6", "release 7", "resize 6", "resize 7", "measure 6", "measure 7"]),
+    (
+        "stores anywhere",
+        anywhere,
+        &["set up 0", "store", "release 6", "release 7", "resize 6", "resize 7", "aligned resize 6", "aligned resize 7", "measure 6", "measure 7"],
+    ),
 ];
 
 /// Runs a pool and gives how many calls, stores not counted, were made.
@@ -70,7 +76,7 @@ fn random(seed: u64, arena_len: usize, steps: usize, engine: Engine, seen: &mut 
         let call = next_call(&mut numbers, &both, engine);
         calls.push(call);
         match both.call(call) {
-            Ok(answer) => *seen.entry(kind(call, &answer)).or_default() += 1,
+            Ok(answer) => *seen.entry(kind(call, &answer, &both.second)).or_default() += 1,
             Err(_) => fail(seed, arena_len, calls),
         }
     }
@@ -92,7 +98,7 @@ fn a_million_random_calls() {
     println!("{made} calls in {seed} pools");
     for ((name, _, more), seen) in ENGINES.iter().zip(&seen) {
         println!("{name}: {seen:?}");
-        all_seen(seen, more);
+        all_seen(seen, UNDAMAGED.iter().chain(*more).copied());
     }
 }
 
@@ -188,14 +194,16 @@ fn past_the_end(both: &mut Both, start: usize, n: usize, end: usize) {
 
 #[test]
 fn one_byte_past_the_end() {
-    // every size to 300, and those about the largest of each class
+    // every size to 300, and those about the largest of each class; some of them aligned
     let edges = (0..48).map(|c| slot_bytes(c) - 4).flat_map(|most| most.saturating_sub(6)..=most + 1);
+    let sizes = (0..=300).chain(edges).map(|n| (n, ORDINARY));
+    let aligned = ALIGNMENTS.into_iter().flat_map(|align| [0, 7, 12, 13, 24, 28, 100, 1000, 5000].map(|n| (n, align)));
     let mut blocks = [0; 7];
-    for n in (0..=300).chain(edges).filter(|&n| n < TOO_LARGE) {
-        let class = class_of(n);
+    for (n, size, align) in sizes.chain(aligned).filter_map(|(n, align)| Some((n, enlarged(n, align)?, align))) {
+        let class = class_of(size);
         let mut both = Both::new(512 * rows_of(class), OLD);
         for _ in 0..slots_of(class) {
-            both.call(Call::Grant(n)).unwrap();
+            both.call(Call::GrantAligned(n, align)).unwrap();
         }
         // the first slot's block, then the next one there: its start is displaced if the slot has a unit to spare
         for _ in 0..2 {
@@ -204,7 +212,7 @@ fn one_byte_past_the_end() {
             past_the_end(&mut both, start, n, end);
             blocks[(end - start - n).min(6)] += 1;
             both.call(Call::Release(start)).unwrap();
-            both.call(Call::Grant(n)).unwrap();
+            both.call(Call::GrantAligned(n, align)).unwrap();
         }
     }
     println!("blocks with 0 to 5 and with more spare bytes: {blocks:?}");
@@ -217,11 +225,6 @@ fn righted(mut buffers: Buffers) -> Buffers {
         buffers.totals = tables.totals();
     }
     buffers
-}
-
-/// A pool's buffers with tables in its room, and the record that is due beside those.
-fn saying(both: &Both, tables: &Tables) -> Buffers {
-    Buffers { room: tables.write(), totals: tables.totals(), ..both.first.clone() }
 }
 
 /// Values for a byte other than the one it has: all, or some.
@@ -259,17 +262,18 @@ fn every_single_byte_change() {
 #[test]
 fn only_a_granted_slot_waits() {
     // two bytes change at once: a bit goes from the ready to the waiting set
-    let both = sample(11, 16_384);
-    let calls = calls_on(both.second.live()[0]);
     let mut moved = [0, 0];
-    for (g, group) in both.second.groups.iter().enumerate() {
-        for i in (0..group.slots.len()).filter(|&i| group.slots[i].state == State::Ready) {
-            let granted = group.slots[i].last.is_some();
-            let mut tables = both.second.tables();
-            tables.groups[g].slots[i].state = State::Waiting;
-            let sound = over_any(&saying(&both, &tables), &calls, format_args!("group {g}, slot {i}"));
-            assert_eq!(sound, granted, "group {g}, slot {i}");
-            moved[usize::from(granted)] += 1;
+    for both in (1..=5).map(|seed| sample(seed, 16_384)) {
+        let calls = calls_on(both.second.live()[0]);
+        for (g, group) in both.second.groups.iter().enumerate() {
+            for i in (0..group.slots.len()).filter(|&i| group.slots[i].state == State::Ready) {
+                let granted = group.slots[i].last.is_some();
+                let mut tables = both.second.tables();
+                tables.groups[g].slots[i].state = State::Waiting;
+                let sound = over_any(&saying(&both, &tables), &calls, format_args!("group {g}, slot {i}"));
+                assert_eq!(sound, granted, "group {g}, slot {i}");
+                moved[usize::from(granted)] += 1;
+            }
         }
     }
     println!("waiting instead of ready: {} slots never granted, {} granted before", moved[0], moved[1]);

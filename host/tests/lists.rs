@@ -5,7 +5,7 @@ mod random;
 
 use common::{lent, Answer, Both, Call, List};
 use random::lists::list;
-use random::{all_seen, block, kind, next_call, Numbers, Seen};
+use random::{all_seen, block, kind, next_call, Numbers, Seen, UNDAMAGED};
 use slotpool::{check_list, plan_list, Pool, Refusal, ENTRIES};
 
 /// Caps in their range, at its ends and at those of a class, and caps that are not.
@@ -13,8 +13,9 @@ const CAPS: [usize; 14] = [1, 2, 3, 12, 13, 160, 4095, 65_536, 131_050, 131_051,
 
 #[test]
 fn refusals_have_names() {
-    let names = [Refusal::BadArena, Refusal::NoRoom, Refusal::TooLong, Refusal::BadProposal].map(|refusal| refusal.to_string());
-    assert_eq!(names, ["bad arena", "no room", "list too long", "bad proposal"]);
+    let refusals = [Refusal::BadArena, Refusal::NoRoom, Refusal::TooLong, Refusal::BadAlignment, Refusal::BadProposal];
+    let names = refusals.map(|refusal| refusal.to_string());
+    assert_eq!(names, ["bad arena", "no room", "list too long", "bad alignment", "bad proposal"]);
 }
 
 /// Checks a proposal in both implementations: whether it is accepted.
@@ -151,10 +152,10 @@ fn a_list_is_its_grants() {
                 (Call::GrantList(_), Answer::Refused(Refusal::NoRoom)) => refused[grants] += 1,
                 _ => {}
             }
-            *seen.entry(kind(call, &answer)).or_default() += 1;
+            *seen.entry(kind(call, &answer, &both.second)).or_default() += 1;
         }
     }
     println!("{seen:?}\nlists of 0 to 17 entries that were granted: {granted:?}\nlists whose entry 1 to 17 met no room: {refused:?}");
-    all_seen(&seen, &["set up 0", "store"]);
+    all_seen(&seen, UNDAMAGED.into_iter().chain(["set up 0", "store"]));
     assert!(granted.iter().chain(&refused).all(|&k| k > 0));
 }

@@ -6,7 +6,7 @@ mod random;
 
 use any::{calls_on, over_any, refused, sample, set_up_over, OLD};
 use common::{Answer, Both, Buffers, Call, List};
-use random::{all_seen, block as requested, kind, next_call, Numbers, Seen};
+use random::{all_seen, block as requested, kind, next_call, Numbers, Seen, UNDAMAGED};
 use slotpool::{Pool, Refusal, Totals};
 use slotpool_reference::{slot_bytes, Group, Slot, State, Tables};
 use std::collections::{BTreeMap, BTreeSet};
@@ -32,7 +32,7 @@ fn list(cap: usize, sizes: &[usize]) -> Call {
 
 /// Pools of 512 to 4,096 bytes. The first slots of a class of s bytes start at 16, 16 + s, ...
 fn pools() -> Vec<Both> {
-    use Call::{Grant, Release, Resize};
+    use Call::{Grant, GrantAligned, Release, Resize};
     let mut pools = vec![
         after(512, []),
         // class 0, sizes 0 to 12: every third block released, some of them granted again after a refill, and others released
@@ -57,12 +57,14 @@ fn pools() -> Vec<Both> {
         // class 10: a full group, refilled; blocks displaced, and one shrunk and one grown in place
         after(
             4096,
-            times(21, Grant(160))
-                .chain([16, 592, 784].map(Release))
-                .chain([Grant(160), Grant(157), Resize(32, 141), Resize(208, 188), Release(976)]),
+            times(21, Grant(160)).chain([16, 592, 784].map(Release)).chain([Grant(160), Grant(157), Resize(32, 141), Resize(208, 188), Release(976)]),
         ),
         // resizes by a move: the first leaves its group, the second ends it
         after(4096, [Grant(40), Grant(40), Resize(16, 50), Resize(64, 52), Grant(60), Resize(1616, 20)]),
+        // aligned blocks of classes 1, 2 and 9, some released, one resized, and one whose size allows for other alignments
+        after(4096, times(4, GrantAligned(12, 32)).chain([Release(64), Resize(96, 0), GrantAligned(28, 32), GrantAligned(28, 32), Resize(1088, 13)])),
+        after(4096, times(3, GrantAligned(100, 64)).chain([Release(192), Grant(150), GrantAligned(44, 128)])),
+        after(4096, [GrantAligned(2000, 64), GrantAligned(28, 32)]),
         // lists, the last with a refill in its midst
         after(4096, [list(30, &[1, 13, 30]), list(12, &[12; 17]), Release(32), Release(64), list(12, &[5; 14])]),
     ];
@@ -91,7 +93,7 @@ impl Place {
             0..8 => return None,
             8..12 => ("ready mask", 8 * (at - 8) + bit),
             12..16 => ("waiting mask", 8 * (at - 12) + bit),
-            _ => (["granted", "use count", "displacement", "displacement", "size", "size", "size", "zero"][at % 8], (at - 16) / 8),
+            _ => (["alignment", "use count", "displacement", "displacement", "size", "size", "size", "zero"][at % 8], (at - 16) / 8),
         };
         Some(Place { row, field, slot })
     }
@@ -170,10 +172,18 @@ fn every_flipped_bit_of_a_room() {
             "waiting mask of class 1, live",
         ],
     );
-    // what no total counts; of a ready slot whose use count and displacement are 0, also whether it was ever granted
+    // what no total counts; the alignment's byte also says of a ready slot whose use count and displacement are 0 whether it was ever granted
     all_kinds(
         &sound,
-        &["displacement, freed", "displacement, live", "granted, freed", "granted, never granted", "use count, freed", "use count, live"],
+        &[
+            "alignment, freed",
+            "alignment, live",
+            "alignment, never granted",
+            "displacement, freed",
+            "displacement, live",
+            "use count, freed",
+            "use count, live",
+        ],
     );
 }
 
@@ -315,11 +325,11 @@ fn wrong_records_among_random_calls() {
                 wrong += 1;
             }
             let answer = both.call(call).unwrap_or_else(|why| panic!("seed {seed}: {why}"));
-            *seen.entry(kind(call, &answer)).or_default() += 1;
+            *seen.entry(kind(call, &answer, &both.second)).or_default() += 1;
         }
     }
     println!("{wrong} calls with a wrong record, then with the right one: {seen:?}");
-    all_seen(&seen, &["set up 0", "store"]);
+    all_seen(&seen, UNDAMAGED.into_iter().chain(["set up 0", "store"]));
 }
 
 #[test]

@@ -6,9 +6,9 @@
 
 #include "slotpool.h"
 
-enum call { SET_UP, GRANT, RELEASE, RESIZE, MEASURE, REPORT, GRANT_LIST, PLAN_LIST };
+enum call { SET_UP, GRANT, RELEASE, RESIZE, MEASURE, REPORT, GRANT_ALIGNED, GRANT_LIST, PLAN_LIST };
 
-static const char *const names[] = {"set up", "grant", "release", "resize", "measure", "report", "grant list", "plan list"};
+static const char *const names[] = {"set up", "grant", "release", "resize", "measure", "report", "grant aligned", "grant list", "plan list"};
 
 /* The numbers that each call on blocks can refuse with. */
 static const char *const refusals[] = {"1", "238", "24567", "2345678", "24567", "2"};
@@ -18,6 +18,44 @@ enum { ARENA = 4096, SIZE = 160, FREED = 16, LIVE = 208, END = LIVE + 188 };
 
 /* The largest size of the group's class. A block of one byte more has no room. */
 enum { MOST = 188 };
+
+/* Aligned blocks, each with the first answer due in the order 2, 13, 3, 8. */
+static const struct aligned {
+    uint32_t due;
+    size_t n, align;
+} blocks[] = {
+    /* unsound tables, with a block that would be granted, and with 13, 3 and 8 due behind it */
+    {2, SIZE, 32},
+    {2, SIZE_MAX, 0},
+    {2, 131052, 32},
+    {2, MOST, 64},
+    /* no power of two, or one over 4,096: with a block that would be granted as an ordinary one */
+    {13, SIZE, 0},
+    {13, SIZE, 3},
+    {13, SIZE, 48},
+    {13, SIZE, 8192},
+    {13, SIZE, SIZE_MAX},
+    {13, SIZE, SIZE_MAX / 2 + 1},
+    /* .. with 3 and with 8 due behind it */
+    {13, 131052, 3},
+    {13, SIZE_MAX, 8192},
+    {13, MOST + 1, 24},
+    /* too large, by itself and once it is enlarged, which wraps for none: 8 would be due behind it */
+    {3, 131052, 1},
+    {3, 131052, 16},
+    {3, 131036, 32},
+    {3, 126972, 4096},
+    {3, SIZE_MAX, 8},
+    {3, SIZE_MAX, 32},
+    {3, SIZE_MAX - 15, 32},
+    {3, SIZE_MAX - 4079, 4096},
+    /* no room for the class of the size, and of the enlarged one */
+    {8, MOST + 1, 2},
+    {8, MOST - 15, 32},
+    {8, 131035, 32},
+    {8, 0, 4096},
+    {8, 126971, 4096},
+};
 
 /* Lists, each with the first answer due in the order 2, 9, 17, 8. */
 static const struct list {
@@ -68,6 +106,7 @@ static struct {
 } pool, before;
 
 static size_t arena_len, room_len, offset, n;
+static const struct aligned *block;
 static const struct list *list;
 #define LENT pool.arena, arena_len, pool.room, room_len, &pool.record.totals
 
@@ -88,6 +127,8 @@ static void check(int holds, int line, const char *what)
     if (holds)
         return;
     printf("%s:%d: %s, answer %u due", __FILE__, line, names[call], (unsigned)due);
+    if (call == GRANT_ALIGNED)
+        printf(", block %d", (int)(block - blocks));
     if (call >= GRANT_LIST)
         printf(", list %d", (int)(list - lists));
     if (due == SLOTPOOL_UNSOUND)
@@ -159,6 +200,9 @@ static size_t make(uint32_t *answer)
     case MEASURE:
         *answer = slotpool_measure(LENT, offset, VALUE);
         return 1;
+    case GRANT_ALIGNED:
+        *answer = slotpool_grant_aligned(LENT, block->n, block->align, VALUE);
+        return 1;
     case GRANT_LIST:
         *answer = slotpool_grant_list(LENT, list->length, list->cap, list->sizes, list->count, pool.starts, list->places, VALUE);
         return 1;
@@ -217,6 +261,11 @@ int main(void)
             due = (uint32_t)(*digit - '0');
             seen += refuse();
         }
+    call = GRANT_ALIGNED;
+    for (block = blocks; block < blocks + sizeof blocks / sizeof *blocks; block++) {
+        due = block->due;
+        seen += refuse();
+    }
     for (list = lists; list < lists + sizeof lists / sizeof *lists; list++)
         seen += refuse_list();
     printf("%u refusals, each with its number, the value 0 and nothing changed\n", seen);

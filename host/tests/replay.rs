@@ -6,7 +6,7 @@ mod random;
 
 use common::{Answer, Both, Call};
 use program::run;
-use random::{all_seen, block, kind, next_call, Numbers, Seen};
+use random::{all_seen, block, kind, next_call, Numbers, Seen, UNDAMAGED};
 use slotpool::trace::{parse, read, text, write, Op, MOST};
 use slotpool_reference::replay;
 use std::ops::Range;
@@ -86,7 +86,7 @@ fn records(call: Call, answer: Answer) -> Vec<Op> {
         (Call::Resize(offset, n), _) => vec![Op::Resize(offset as u32, n as u32)],
         (Call::Measure(offset), _) => vec![Op::Measure(offset as u32)],
         (Call::Report, _) => vec![Op::Report],
-        (Call::SetUp | Call::GrantList(_) | Call::Store(..), _) => Vec::new(),
+        (Call::SetUp | Call::GrantAligned(..) | Call::GrantList(_) | Call::Store(..), _) => Vec::new(),
     }
 }
 
@@ -109,12 +109,14 @@ fn draw(seed: usize, seen: &mut Seen) -> Vec<Op> {
                 ops.push(Op::Store(place.start as u32, bytes));
             }
             _ => {
-                let call = next_call(&mut numbers, &both, |_, _| None);
-                if call == Call::SetUp {
-                    continue;
-                }
+                // traces have no aligned grants
+                let call = match next_call(&mut numbers, &both, |_, _| None) {
+                    Call::SetUp => continue,
+                    Call::GrantAligned(n, _) => Call::Grant(n),
+                    call => call,
+                };
                 let answer = both.make(call).0;
-                count(kind(call, &answer));
+                count(kind(call, &answer, &both.second));
                 ops.extend(records(call, answer));
             }
         }
@@ -135,7 +137,8 @@ fn two_thousand_random_traces() {
         assert_eq!(read(&trace), (ops, None), "seed {seed}");
     }
     println!("{records} records: {seen:?}");
-    all_seen(&seen, &["store", "release 6", "release 7", "resize 6", "resize 7", "measure 6", "measure 7"]);
+    let undamaged = UNDAMAGED.into_iter().filter(|kind| !kind.contains("aligned"));
+    all_seen(&seen, undamaged.chain(["store", "release 6", "release 7", "resize 6", "resize 7", "measure 6", "measure 7"]));
 }
 
 #[test]

@@ -1,23 +1,18 @@
 //! The bench sheet of document 01, with what document 02 adds, run on the library beside the second implementation; W4 and W5 with their large arenas.
 
 mod common;
+mod due;
 
 use common::Answer::{self, Done, Refused, Value};
-use common::Call::{self, Grant, Measure, Release, Report, Resize, Store};
+use common::Call::{self, Grant, GrantAligned, Measure, Release, Report, Resize, Store};
 use common::{Both, List};
+use due::due;
 use slotpool::{check_list, plan_list, Refusal, Totals, ENTRIES};
 
 const OVERRUN: Answer = Refused(Refusal::Overrun);
 
 fn fresh(arena_len: usize) -> Both {
     Both::new(arena_len, 9)
-}
-
-/// Makes calls, each with the answer due.
-fn due<const N: usize>(both: &mut Both, calls: [(Call, Answer); N]) {
-    for (call, answer) in calls {
-        assert_eq!(both.call(call), Ok(answer), "{call:?}");
-    }
 }
 
 #[test]
@@ -253,4 +248,65 @@ fn bad_proposals() {
     let lists = [list(18, 2, [1; 18], 17), list(1, 1, [1, 0], 17), list(13, 12, [13], 17), list(14, 14, [13], 17)];
     due(&mut fresh(512), lists.map(|list| (list, Refused(Refusal::BadProposal))));
     due(&mut fresh(512), [(list(13, 13, [13], 17), Refused(Refusal::NoRoom))]);
+}
+
+#[test]
+fn a_start_at_each_alignment() {
+    let starts = [(4096, 4096), (2048, 6144), (1024, 8192), (512, 11_776)];
+    due(&mut fresh(16_384), starts.map(|(align, start)| (GrantAligned(1, align), Value(start))));
+    let starts = [(256, 256), (128, 4224), (64, 8256), (32, 10_272)];
+    due(&mut fresh(16_384), starts.map(|(align, start)| (GrantAligned(1, align), Value(start))));
+}
+
+#[test]
+fn alignments_up_to_16_and_none() {
+    let mut both = fresh(512);
+    due(&mut both, [(0, 1, 16), (12, 16, 32), (1, 2, 48), (1, 4, 64), (1, 8, 80)].map(|(n, align, start)| (GrantAligned(n, align), Value(start))));
+    assert_eq!(both.first.arena[12..16], [0, 160, 0, 0]);
+    assert_eq!(both.first.arena[28..32], [0, 1, 1, 0]);
+    let none = [(1, 0), (1, 3), (1, 48), (1, 8192), (131_052, 4095)];
+    due(&mut both, none.map(|(n, align)| (GrantAligned(n, align), Refused(Refusal::BadAlignment))));
+    for (n, align) in [(131_052, 16), (131_036, 32), (126_972, 4096)] {
+        due(&mut both, [(GrantAligned(n, align), Refused(Refusal::TooLarge)), (GrantAligned(n - 1, align), Refused(Refusal::NoRoom))]);
+    }
+}
+
+#[test]
+fn a_displacement_of_0_and_the_last_start_of_a_released_block() {
+    let mut both = fresh(4096);
+    due(&mut both, [(GrantAligned(20, 32), Value(32)), (GrantAligned(20, 32), Value(64))]);
+    assert_eq!((&both.first.arena[28..32], &both.first.arena[56..60]), (&[0, 160, 1, 0][..], &[8, 0, 0, 0][..]));
+    assert_eq!((&both.first.arena[60..64], &both.first.arena[104..108]), (&[0, 161, 3, 0][..], &[24, 0, 0, 0][..]));
+    due(&mut both, [(Store(84, 1), Done), (Release(64), OVERRUN), (Store(84, 0), Done), (Release(32), Done)]);
+    due(&mut both, [(Release(32), Refused(Refusal::AlreadyFree)), (Measure(32), Refused(Refusal::AlreadyFree)), (Measure(64), Value(20))]);
+}
+
+#[test]
+fn the_count_steps_by_aligned_grants() {
+    let mut both = fresh(4096);
+    due(&mut both, [(GrantAligned(392, 1024), Value(1024)), (GrantAligned(392, 1024), Value(2048)), (Release(1024), Done)]);
+    due(&mut both, [(GrantAligned(392, 1024), Value(1024)), (Release(1024), Done), (Grant(1400), Value(48))]);
+}
+
+#[test]
+fn an_aligned_block_is_resized_in_place_and_by_a_move() {
+    let mut both = fresh(8192);
+    due(&mut both, [(GrantAligned(20, 32), Value(32)), (GrantAligned(20, 32), Value(64)), (Store(64, 7), Done), (Store(83, 9), Done)]);
+    due(&mut both, [(Resize(32, 0), Value(32)), (Resize(32, 28), Value(32)), (Resize(64, 28), Value(64))]);
+    // 29 bytes would fit at 64, but the enlarged size is of a higher class
+    due(&mut both, [(Resize(64, 29), Value(1568))]);
+    assert_eq!((both.first.arena[1568], both.first.arena[1587], both.first.arena[1588], both.first.arena[64]), (7, 9, 0, 0));
+    due(&mut both, [(Resize(1568, 28), Value(1568)), (Resize(1568, 12), Value(3616)), (Measure(3616), Value(12))]);
+    due(&mut fresh(1536), [(GrantAligned(20, 32), Value(32)), (Resize(32, 29), Refused(Refusal::NoRoom))]);
+}
+
+#[test]
+fn the_enlarged_size_of_a_resize_is_tested_before_damage() {
+    let (too_large, no_room) = (Refused(Refusal::TooLarge), Refused(Refusal::NoRoom));
+    let mut both = fresh(4096);
+    due(&mut both, [(GrantAligned(20, 32), Value(32)), (GrantAligned(20, 32), Value(64)), (Grant(20), Value(1552))]);
+    due(&mut both, [(Resize(64, 131_036), too_large), (Resize(64, 131_035), no_room), (Store(61, 0), Done)]);
+    due(&mut both, [(Resize(64, 131_036), too_large), (Resize(64, 131_035), Refused(Refusal::HeaderDamaged)), (Release(32), Done)]);
+    due(&mut both, [(Resize(32, 131_051), Refused(Refusal::AlreadyFree)), (Resize(48, 131_051), Refused(Refusal::NoSuchBlock))]);
+    due(&mut both, [(Resize(1552, 131_051), no_room), (Resize(48, 131_052), too_large)]);
 }

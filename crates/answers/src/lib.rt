@@ -21,6 +21,7 @@ fn refusal_number(r: Refusal) -> u32
         Refusal::NoRoom => 8,
         Refusal::TooLong => 9,
         Refusal::BadProposal => 17,
+        Refusal::BadAlignment => 13,
     }
 }
 

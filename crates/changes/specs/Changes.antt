@@ -5,7 +5,7 @@ use Rattle.mem.specs.Lists.{choose, any, sum}
 use Rattle.mem.specs.Bytes.{bit}
 use Rattle.model.specs.declared.Slot.{Slot}
 use Rattle.model.specs.declared.Slot.the-variants.{Live}
-use Rattle.model.specs.State.{Place, isReady, isWaiting, isLive, count, disp}
+use Rattle.model.specs.State.{Place, isReady, isWaiting, isLive, count, disp, align}
 use Rattle.changes.specs.declared.Left.{Left}
 use Rattle.changes.specs.declared.Left.the-variants.{Kept, Dropped}
 
@@ -15,4 +15,4 @@ leftAs p =
     choose (any isLive (p .lower ++ p .upper)) Kept (Dropped (sum (λ x. bit (isReady x)) held) (sum (λ x. bit (isWaiting x)) held))
 
 abbrev pub resized : Place → ℕ → Slot
-resized p n = Live (record { count = count (p .state); disp = disp (p .state); size = n })
+resized p n = Live (record { count = count (p .state); disp = disp (p .state); size = n; align = align (p .state) })

@@ -5,7 +5,7 @@ ghost use Rattle.mem.specs.Lists.{any};
 ghost use Rattle.classes.specs.Classes.{Lawful, slotBytes};
 ghost use Rattle.model.specs.declared.Slot.{Slot};
 ghost use Rattle.model.specs.State.{Place, count, poolOf, become};
-ghost use Rattle.model.specs.Plans.{Site, grantSlot, grantIn, releaseAt};
+ghost use Rattle.model.specs.Plans.{Site, displaced, grantSlot, grantIn, releaseAt};
 ghost use Rattle.model.specs.Tables.{byMasks, encode};
 ghost use Rattle.rows.specs.Rows.{blockOf, Holds, Offers};
 ghost use Rattle.totals.specs.Changes.{refills};
@@ -40,32 +40,49 @@ fn count_of(x: Slot) -> u8
     }
 }
 
-// What becomes of a slot by a grant of n bytes: its use count decides the displacement, and goes up by one, 255 becoming 0.
-fn grant_slot(c: usize, n: usize, x: Slot) -> Alloc
+// The displacement of a block of n bytes in a slot that begins at a byte of the arena: an ordinary block's goes by the slot's use count, an
+// aligned block starts at the first boundary.
+fn displacement(c: usize, code: u8, n: usize, begin: usize, uses: u8) -> usize
     requires { ⌜ (c < 48) × (n + 4 ≤ slotBytes c) ⌝ }
-    ensures { λ r. ⌜ Slot.Live r ≡ grantSlot c n x ⌝ }
+    requires { ⌜ (code ≤ 9) × (begin < 16777216) ⌝ }
+    ensures { λ r. ⌜ r ≡ displaced c code n begin uses ⌝ }
+{
+    if code <= classes::ORDINARY {
+        let t = (16 * classes::units(c) - 4 - n) / 16;
+        return mem::wide(uses) % (t + 1);
+    }
+    (classes::round_up(classes::align_of(code), begin) - begin) / 16
+}
+
+// What becomes of a slot by a grant of n bytes: its use count goes up by one, 255 becoming 0.
+fn grant_slot(c: usize, code: u8, n: usize, begin: usize, x: Slot) -> Alloc
+    requires { ⌜ (c < 48) × (n + 4 ≤ slotBytes c) ⌝ }
+    requires { ⌜ (code ≤ 9) × (begin < 16777216) ⌝ }
+    ensures { λ r. ⌜ Slot.Live r ≡ grantSlot c code n begin x ⌝ }
 {
     let k = count_of(x);
-    let t = (16 * classes::units(c) - 4 - n) / 16;
     Alloc {
         count: std::num::wrapping_add_u8(k, 1),
-        disp: mem::wide(k) % (t + 1),
+        disp: displacement(c, code, n, begin, k),
         size: n,
+        align: code,
     }
 }
 
 // Takes the lowest ready slot of the group of class c at row i, for n bytes. If none is ready, all waiting slots become ready first.
-pub fn take_slot(room: &mut [u8], i: usize, c: usize, n: usize) -> Taken
-    requires { ⌜ ((row : ℕ) × (g : Site) × Offers byMasks row (now room) i c g) ⌝ }
-    requires { ⌜ n + 4 ≤ slotBytes c ⌝ }
-    ensures { λ r. ⌜ ((row : ℕ) (g : Site) → Offers byMasks row (now (room .entry)) i c g
-        → (r .block ≡ blockOf row (grantIn c n g)) × (now (room .exit) ≡ encode row (poolOf (grantIn c n g)))
+pub fn take_slot(row: usize, room: &mut [u8], i: usize, c: usize, code: u8, n: usize) -> Taken
+    requires { ⌜ ((g : Site) × Offers byMasks row (now room) i c g) ⌝ }
+    requires { ⌜ (code ≤ 9) × (n + 4 ≤ slotBytes c) ⌝ }
+    requires { ⌜ Lawful row ⌝ }
+    ensures { λ r. ⌜ ((g : Site) → Offers byMasks row (now (room .entry)) i c g
+        → (r .block ≡ blockOf row (grantIn row c code n g)) × (now (room .exit) ≡ encode row (poolOf (grantIn row c code n g)))
         × (r .refilled ≡ refills (g .slots))) ⌝ }
 {
     let old = records::masks_at(room, i);
     let m = old.refill();
     let j = m.lowest();
-    let a = grant_slot(c, n, records::slot_at(room, i, m, j));
+    let begin = row * i + 16 + j as usize * (16 * classes::units(c));
+    let a = grant_slot(c, code, n, begin, records::slot_at(room, i, m, j));
     records::store(room, i, m.take(), j as usize, Slot::Live(a));
     Taken {
         block: Block {

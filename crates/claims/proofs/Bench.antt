@@ -7,7 +7,7 @@ use Rattle.mem.proofs.Laws.{zeros-length}
 use Rattle.classes.specs.Classes.{tooLarge}
 use Rattle.model.specs.declared.Refusal.the-variants.{TooLarge}
 use Rattle.model.specs.Answers.{refusal}
-use Rattle.model.specs.Plans.{grants, freshPool, plan, grant}
+use Rattle.model.specs.Plans.{grants, freshPool, plan, grantAs}
 use Rattle.model.specs.Calls.{KeptBytes, engine, soundKept, call, keeps, carriedBy, unless}
 use Rattle.model.proofs.Fresh.{set-up-done, set-up-sound}
 use Rattle.model.proofs.Calls.{call-sound, same-room}
@@ -15,7 +15,7 @@ use Rattle.claims.specs.Bench.{TooLargeAnywhere}
 
 -- on sound tables
 too-large : (row : ℕ) (a : List ℕ) (t : KeptBytes) → soundKept row (length a) t ≡ true → call row a t (grants 131052) ≡ keeps (refusal TooLarge) a t
-unfolding carriedBy unless plan grant tooLarge choose
+unfolding carriedBy unless plan grantAs tooLarge choose
 too-large row a t s = call-sound row a t s (grants 131052) tt ∙ ap (keeps (refusal TooLarge) a) (same-room row a t s)
 
 pub too-large-anywhere : (row : ℕ) → 0 < row → TooLargeAnywhere row

@@ -1,20 +1,24 @@
 -- What a call's plan is, case by case.
-use Rattle.mem.proofs.Prelude.{_∙_, _≡_, sym, ap, refl, subst, ⊎-elim, some, none, Option, List, [], _∷_, _++_, ℕ, _<_, arith, leb-false, T, leb}
-use Rattle.mem.proofs.Prelude.{replicate}
+use Rattle.mem.proofs.Prelude.{_∙_, _≡_, sym, ap, refl, subst, ⊎-elim, some, none, Option, List, [], _∷_, _++_, ℕ, _<_, _≤_, arith, leb-false, T, leb}
+use Rattle.mem.proofs.Prelude.{ltb, replicate}
+use borrow.Author.Tests.{ltb-true}
 use Rattle.mem.specs.Lists.{any}
 use Rattle.mem.proofs.Tests.{choose-case, true-T}
 use Rattle.classes.specs.Classes.{classOf, slotsOf, rowsOf, tooLarge}
+use Rattle.classes.specs.Alignments.{codeOf, enlarged, Askable}
+use Rattle.classes.proofs.Alignments.{code-most}
 use Rattle.model.specs.declared.Slot.{Slot}
 use Rattle.model.specs.declared.Slot.the-variants.{Fresh}
 use Rattle.model.specs.declared.Refusal.{Refusal}
 use Rattle.model.specs.declared.Refusal.the-variants.{BadArena, Unsound, TooLarge, NoSuchBlock, AlreadyFree, HeaderDamaged, Overrun, NoRoom, TooLong}
-use Rattle.model.specs.declared.Refusal.the-variants.{BadProposal}
-use Rattle.model.specs.State.{Pool, Place, group, isLive, poolOf, become}
+use Rattle.model.specs.declared.Refusal.the-variants.{BadProposal, BadAlignment}
+use Rattle.model.specs.State.{Pool, Place, group, isLive, align, wellFormed, poolOf, become, beginning}
 use Rattle.model.specs.Answers.{numberOf, done}
-use Rattle.model.specs.Plans.{Plan, Site, refused, refill, grantIn, reserve, grantAt, grant, lookup, onBlock, releaseAt, inPlace, resizeInPlace, moveTo}
-use Rattle.model.specs.Plans.{resizeMove, resizeAt, resize, freshPool, Call, setsUp, grants, releases, resizes, measures, reports, grantsList}
+use Rattle.model.specs.Plans.{Plan, Site, refused, refill, grantIn, reserve, grantAt, grantAs, grantAligned, lookup, onBlock, releaseAt, inPlace, resizeInPlace}
+use Rattle.model.specs.Plans.{moveTo, newSize, resizeMove, resizeAt, resize, freshPool}
+use Rattle.model.specs.Plans.{Call, setsUp, grants, grantsAligned, releases, resizes, measures, reports, grantsList}
 use Rattle.model.proofs.Reserve.{Open, New, site-found, Served, grant-live}
-use Rattle.model.proofs.Formed.{on-block}
+use Rattle.model.proofs.Formed.{on-block, resizable}
 use Rattle.model.proofs.Calls.{Asks}
 
 -- no refusal's number is 0
@@ -29,11 +33,13 @@ refuses Overrun e = omega arith
 refuses NoRoom e = omega arith
 refuses TooLong e = omega arith
 refuses BadProposal e = omega arith
+refuses BadAlignment e = omega arith
 
 -- set up, and the other calls alike
 pub by-call : (M : Call → Type 0) → M setsUp → ((c : Call) → Asks c → M c) → (c : Call) → M c
 by-call M s f setsUp = s
 by-call M s f (grants n) = f (grants n) tt
+by-call M s f (grantsAligned n b) = f (grantsAligned n b) tt
 by-call M s f (releases o) = f (releases o) tt
 by-call M s f (resizes o n) = f (resizes o n) tt
 by-call M s f (measures o) = f (measures o) tt
@@ -59,47 +65,63 @@ module _ (row : ℕ) (pos : 0 < row) (P : Pool) (M : Plan → Type 0) (no : (r :
   on-named o f k =
       on-block row pos M P o f (no NoSuchBlock) (no AlreadyFree) (λ p e i l. k p (record { found = e; pool = i; live = l }))
 
-  pub on-grant : (n : ℕ) → ((q : Place) → n < tooLarge → reserve row P n ≡ some q → M (grantAt row P (some q))) → M (grant row P n)
-  unfolding grant
-  on-grant n f = choose-case M (leb tooLarge n) _ _ (λ e. no TooLarge) (λ e. go (leb-false tooLarge n e) (reserve row P n) refl)
+  -- a grant with an alignment that the tables keep
+  pub on-grant : (k n : ℕ) → 1 ≤ k → k ≤ 9 → ((q : Place) → Askable k n → reserve row P k n ≡ some q → M (grantAt row P (some q)))
+      → M (grantAs row P k n)
+  unfolding grantAs
+  on-grant k n s l f =
+      choose-case M (leb tooLarge (enlarged k n)) _ _ (λ e. no TooLarge)
+      (λ e. go (record { some-code = s; last-code = l; small = leb-false tooLarge (enlarged k n) e }) (reserve row P k n) refl)
     where
-      go : n < tooLarge → (r : Option Place) → reserve row P n ≡ r → M (grantAt row P r)
+      go : Askable k n → (r : Option Place) → reserve row P k n ≡ r → M (grantAt row P r)
       go h none e = no NoRoom
       go h (some q) e = f q h e
 
-  pub on-resize : (o n : ℕ) → ((p : Place) → Named row P o p → T (inPlace p n) → M (resizeInPlace row p n))
+  -- an aligned grant is one of the alignment's code, if it has one
+  pub on-aligned : (n b : ℕ) → ((q : Place) → Askable (codeOf b) n → reserve row P (codeOf b) n ≡ some q → M (grantAt row P (some q)))
+      → M (grantAligned row P n b)
+  unfolding grantAligned
+  on-aligned n b f =
+      choose-case M (ltb 0 (codeOf b)) _ _ (λ e. on-grant (codeOf b) n (ltb-true 0 (codeOf b) e) (code-most b) f) (λ e. no BadAlignment)
+
+  -- a move asks for the block's own alignment
+  pub on-resize : T (wellFormed P) → (o n : ℕ) → ((p : Place) → Named row P o p → T (inPlace p n) → M (resizeInPlace row p n))
       → ((p : Place) → Named row P o p → M (moveTo row P p n none))
-      → ((p q : Place) → Named row P o p → n < tooLarge → reserve row P n ≡ some q → M (moveTo row P p n (some q))) → M (resize row P o n)
+      → ((p q : Place) → Named row P o p → Askable (align (p .state)) n → reserve row P (align (p .state)) n ≡ some q → M (moveTo row P p n (some q)))
+      → M (resize row P o n)
   unfolding resize resizeAt resizeMove
-  on-resize o n here full moved =
-      choose-case M (leb tooLarge n) _ _ (λ e. no TooLarge)
+  on-resize w o n here full moved =
+      choose-case M (leb tooLarge (newSize (lookup row P o) n)) _ _ (λ e. no TooLarge)
       (λ e. on-named o (resizeAt row P n)
-      (λ p b. choose-case M (inPlace p n) (resizeInPlace row p n) (resizeMove row P p n)
-      (λ t. here p b (true-T (inPlace p n) t)) (λ t. go p b (leb-false tooLarge n e) (reserve row P n) refl)))
+      (λ p b. choose-case M (inPlace p n) (resizeInPlace row p n) (resizeMove row P p n) (λ t. here p b (true-T (inPlace p n) t))
+      (λ t. go p b (resizable row pos P o n w p (b .found) (b .pool) (b .live) (leb-false tooLarge (newSize (lookup row P o) n) e))
+      (reserve row P (align (p .state)) n) refl)))
     where
-      go : (p : Place) → Named row P o p → n < tooLarge → (r : Option Place) → reserve row P n ≡ r → M (moveTo row P p n r)
+      go : (p : Place) → Named row P o p → Askable (align (p .state)) n → (r : Option Place) → reserve row P (align (p .state)) n ≡ r
+          → M (moveTo row P p n r)
       go p b h none e = full p b
       go p b h (some q) e = moved p q b h e
 
 -- what a grant takes is live
-pub reserve-live : (row : ℕ) (P : Pool) (n : ℕ) (q : Place) → Served row P n q → T (isLive (q .state))
-reserve-live row P n q v = subst (λ x. T (isLive x)) (sym (v .taken .state)) (grant-live (classOf n) n (v .taken .old))
+pub reserve-live : (row : ℕ) (P : Pool) (k n : ℕ) (q : Place) → Served row P k n q → T (isLive (q .state))
+reserve-live row P k n q v =
+    subst (λ x. T (isLive x)) (sym (v .taken .state)) (grant-live (classOf (enlarged k n)) k n (beginning row q) (v .taken .old))
 
 -- What a pool comes to is the same before a grant and with the slot that it takes in its old state, if slots that become ready, and a new
 -- group, change nothing.
 module _ {A : Type 0} (row : ℕ) (Q : Pool → A)
     (ready : (X : Pool) (c : ℕ) (ss : List Slot) (Y : Pool) → Q (X ++ (group c (refill ss) ∷ Y)) ≡ Q (X ++ (group c ss ∷ Y)))
     (new : (X : Pool) (c : ℕ) (Y : Pool) → Q (X ++ (group c (replicate (slotsOf c) Fresh) ∷ Y)) ≡ Q (X ++ (freshPool (rowsOf row c) ++ Y))) where
-  pub taken-same : (P : Pool) (n : ℕ) (q : Place) (v : Served row P n q) → Q (poolOf (become q (v .taken .old))) ≡ Q P
+  pub taken-same : (P : Pool) (k n : ℕ) (q : Place) (v : Served row P k n q) → Q (poolOf (become q (v .taken .old))) ≡ Q P
   unfolding grantIn
-  taken-same P n q v =
+  taken-same P k n q v =
       let s : Site = v .at in
-      let c : ℕ = classOf n in
+      let c : ℕ = classOf (enlarged k n) in
       let x : Slot = v .taken .old in
       let b : q .before ≡ s .before = ap (λ p. p .before) (v .place) in
       let d : q .after ≡ s .after = ap (λ p. p .after) (v .place) in
       let j : q .cls ≡ c = ap (λ p. p .cls) (v .place) in
-      let k : refill (s .slots) ≡ q .lower ++ (x ∷ q .upper) = v .taken .slots in
+      let r : refill (s .slots) ≡ q .lower ++ (x ∷ q .upper) = v .taken .slots in
       let e : poolOf (become q x) ≡ s .before ++ (group c (refill (s .slots)) ∷ s .after) = cc in
       ap Q e ∙ ready (s .before) c (s .slots) (s .after)
       ∙ ⊎-elim (λ (o : Open P c s). ap Q (sym (o .split)))

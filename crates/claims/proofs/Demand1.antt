@@ -1,30 +1,45 @@
 -- Demand 1: every call ends with the number of the first reason that is due, or 0, and a refusal changes no byte.
-use Rattle.mem.proofs.Prelude.{_≡_, sym, ap, refl, subst, true, Bool, false, not, inl, inr, some, none, Option, List, [], _∷_, ℕ, _<_, arith}
-use Rattle.mem.proofs.Prelude.{_&&_, leb-false, leb-true, T, leb, T-not, length}
+use Rattle.mem.proofs.Prelude.{_≡_, sym, ap, refl, subst, true, Bool, false, inl, inr, some, none, Option, List, [], _∷_, ℕ, _<_, _≤_, _+_, _-_, arith}
+use Rattle.mem.proofs.Prelude.{_&&_, leb-false, leb-true, T, leb, ltb, T-not, length, ⊎-elim, true≢false}
+use mathlib.Core.Logic.{_↔_}
+use borrow.Author.Tests.{ltb-true, ltb-false}
 use Rattle.mem.specs.Lists.{choose}
 use Rattle.mem.proofs.Tests.{true-T, choose-case}
-use Rattle.classes.specs.Classes.{tooLarge}
+use Rattle.classes.specs.Classes.{classOf, tooLarge}
+use Rattle.classes.specs.Alignments.{ordinary, alignOf, codeOf, enlarged}
+use Rattle.classes.proofs.Alignments.{enlarged-least}
+use Rattle.model.specs.declared.Slot.{Slot}
+use Rattle.model.specs.declared.Slot.the-variants.{Fresh, Idle, Live}
 use Rattle.model.specs.declared.Refusal.{Refusal}
 use Rattle.model.specs.declared.Refusal.the-variants.{BadArena, Unsound, TooLarge, NoSuchBlock, AlreadyFree, HeaderDamaged, Overrun, NoRoom, TooLong}
-use Rattle.model.specs.declared.Refusal.the-variants.{BadProposal}
+use Rattle.model.specs.declared.Refusal.the-variants.{BadProposal, BadAlignment}
 use Rattle.model.specs.declared.Damage.{Damage}
-use Rattle.model.specs.State.{Pool, Place, isLive, granted, wellFormed, poolOf, start}
+use Rattle.model.specs.State.{Pool, Place, isLive, granted, align, wellFormed, poolOf, start}
 use Rattle.model.specs.Blocks.{damageIn}
 use Rattle.model.specs.Answers.{numberOf, refusal}
-use Rattle.model.specs.Plans.{Plan, Call, setsUp, grants, releases, resizes, measures, reports, grantsList, refused, plan}
+use Rattle.model.specs.Plans.{Plan, Call, setsUp, grants, grantsAligned, releases, resizes, measures, reports, grantsList, refused, plan, NoPlace}
 use Rattle.model.specs.Proposals.{entries, accepts, plannable}
 use Rattle.model.specs.Plans.{reserveAll, grantAllAt, grantList}
-use Rattle.model.specs.Plans.{reserve, grantAt, lookup, onBlock, releaseAt, inPlace, resizeInPlace, resizeMove, moveTo, resizeAt, measureAt}
+use Rattle.model.specs.Plans.{reserve, grantAt, grantAs, grantAligned, lookup, newSize, onBlock, releaseAt, inPlace, resizeInPlace, resizeMove, moveTo}
+use Rattle.model.specs.Plans.{resizeAt, measureAt}
 use Rattle.model.specs.Tables.{view}
 use Rattle.model.specs.Calls as calls
 use Rattle.model.specs.Calls.{KeptBytes, Stands, engine, soundKept, Result, keeps, applied, unless, carried, setUpRight, setUp, checked, call, callBy}
 use Rattle.model.specs.Calls.{carriedBy, checkedBy, setUpBy}
 use Rattle.model.proofs.Kept.{engine-lawful}
-use Rattle.model.proofs.Lookup.{lookup-start, lookup-found}
+use Rattle.model.proofs.Lookup.{fits, lookup-start, lookup-found}
+use Rattle.model.proofs.Formed.{code-kept}
 use Rattle.model.proofs.Lowest.{reserve-none, reserve-some}
-use Rattle.claims.specs.Demand1.{order, sizeIn, offsetIn, FirstDue, refusedValues, StartsAt, LiveAt, headerDue, guardDue, Due, Demand1}
+use Rattle.claims.specs.Demand1.{order, offsetIn, FirstDue, refusedValues, StartsAt, LiveAt, headerDue, guardDue, TooLargeFor, Due, Demand1}
+use Rattle.claims.proofs.Codes.{no-code, some-code, enlarged-align, enlarged-code}
 use Rattle.claims.proofs.Cases.{release-parts}
 use Rattle.claims.proofs.Meets.{too-long, short-enough, meets, meets-none}
+
+-- a slot that is not live has no alignment: the size that a resize goes by is n itself
+idle-size : (x : Slot) (n : ℕ) → isLive x ≡ false → enlarged (align x) n ≡ n
+idle-size Fresh n e = refl
+idle-size (Idle r k d) n e = refl
+idle-size (Live a) n e = absurd (true≢false e)
 
 -- what is tested of the block at an offset, before other reasons
 abbrev pub blockFirst : List Refusal → List Refusal
@@ -47,12 +62,40 @@ module _ (row : ℕ) (pos : 0 < row) (P : Pool) (o : ℕ) where
       let f : (poolOf p ≡ P) × T (granted (p .state)) × (start row p ≡ o) = lookup-found row pos P o p e in
       record { slotted = record { pool = f .0; granted-once = f .1 }; starts = f .2 }
 
-  pub starts-alike : (M : Place → Bool) (p q : Place) → T (wellFormed P) → StartsAt row P o p → StartsAt row P o q → T (M p) → T (M q)
-  starts-alike M p q w s r m =
+  -- so there is but one
+  pub starts-same : (p q : Place) → T (wellFormed P) → StartsAt row P o p → StartsAt row P o q → p ≡ q
+  starts-same p q w s r =
       let e : lookup row P o ≡ some p = starts-found p w s in
       let f : lookup row P o ≡ some q = starts-found q w r in
-      let z : p ≡ q = cc in
-      subst (λ x. T (M x)) z m
+      cc
+
+  pub starts-alike : (M : Place → Bool) (p q : Place) → T (wellFormed P) → StartsAt row P o p → StartsAt row P o q → T (M p) → T (M q)
+  starts-alike M p q w s r m = subst (λ x. T (M x)) (starts-same p q w s r) m
+
+  -- the enlarged size of a live block
+  pub live-enlarged : (p : Place) (n : ℕ) → T (wellFormed P) → LiveAt row P o p → enlarged (align (p .state)) n ≡ n + (alignOf (align (p .state)) - 16)
+  live-enlarged p n w l =
+      let f = fits p (subst (λ Q. T (wellFormed Q)) (sym (l .here .slotted .pool)) w) in
+      enlarged-align (align (p .state)) n (code-kept (p .cls) (p .state) (l .live) (f .state) .0)
+
+  -- answer 3 of a resize, by what is found at its offset
+  pub resize-large : (n : ℕ) → T (wellFormed P) → (tooLarge ≤ newSize (lookup row P o) n) ↔ TooLargeFor row P (resizes o n)
+  resize-large n w = go (lookup row P o) refl
+    where
+      go : (r : Option Place) → lookup row P o ≡ r → (tooLarge ≤ newSize r n) ↔ TooLargeFor row P (resizes o n)
+      go none e = (inl, ⊎-elim (λ h. h) (λ (p, l, _). absurd (none-starts p w e (l .here))))
+      go (some p) e = (
+        by-state (isLive (p .state)) refl,
+        ⊎-elim (λ h. omega (arith, h, enlarged-least (align (p .state)) n))
+            (λ (q, l, h). subst (λ x. tooLarge ≤ enlarged (align (x .state)) n) (starts-same q p w (l .here) (found-starts p e))
+            (subst (λ m. tooLarge ≤ m) (sym (live-enlarged q n w l)) h)),
+      )
+        where
+          by-state : (b : Bool) → isLive (p .state) ≡ b → tooLarge ≤ enlarged (align (p .state)) n → TooLargeFor row P (resizes o n)
+          by-state true i h =
+              let l : LiveAt row P o p = record { here = found-starts p e; live = true-T (isLive (p .state)) i } in
+              inr (p, l, subst (λ m. tooLarge ≤ m) (live-enlarged p n w l) h)
+          by-state false i h = inl (subst (λ m. tooLarge ≤ m) (idle-size (p .state) n i) h)
 
 module _ (row : ℕ) (pos : 0 < row) (a : List ℕ) (t : KeptBytes) where
   -- what is claimed of a call, of the reasons that are left to test and a result
@@ -107,12 +150,22 @@ module _ (row : ℕ) (pos : 0 < row) (a : List ℕ) (t : KeptBytes) where
     refused-right d rs x = due-right c d rs (sym v) (sym (s .1)) x
 
     -- the size is tested first
-    small-right : (rs : List Refusal) (p : Plan) → Right c rs (carried row a t p)
-        → Right c (TooLarge ∷ rs) (carried row a t (choose (leb tooLarge (sizeIn c)) (refused TooLarge P) p))
-    small-right rs p r =
-        choose-case (λ p. Right c (TooLarge ∷ rs) (carried row a t p)) (leb tooLarge (sizeIn c)) (refused TooLarge P) p
-        (λ e. refused-right TooLarge rs (leb-true tooLarge (sizeIn c) e))
-        (λ e. later-right c TooLarge rs _ (λ d. omega (arith, d, leb-false tooLarge (sizeIn c) e)) r)
+    small-right : (rs : List Refusal) (p : Plan) (m : ℕ) → (tooLarge ≤ m) ↔ Due row a t c TooLarge → Right c rs (carried row a t p)
+        → Right c (TooLarge ∷ rs) (carried row a t (choose (leb tooLarge m) (refused TooLarge P) p))
+    small-right rs p m due r =
+        choose-case (λ p. Right c (TooLarge ∷ rs) (carried row a t p)) (leb tooLarge m) (refused TooLarge P) p
+        (λ e. refused-right TooLarge rs (due .0 (leb-true tooLarge m e)))
+        (λ e. later-right c TooLarge rs _ (λ d. omega (arith, due .1 d, leb-false tooLarge m e)) r)
+
+    -- a grant with the code k
+    granted-right : (k n : ℕ) → (tooLarge ≤ enlarged k n) ↔ Due row a t c TooLarge → NoPlace row P (classOf (enlarged k n)) ↔ Due row a t c NoRoom
+        → Right c (TooLarge ∷ NoRoom ∷ []) (carried row a t (grantAs row P k n))
+    unfolding grantAs carriedBy unless
+    granted-right k n large full = small-right (NoRoom ∷ []) _ (enlarged k n) large (room (reserve row P k n) refl)
+      where
+        room : (r : Option Place) → reserve row P k n ≡ r → Right c (NoRoom ∷ []) (carried row a t (grantAt row P r))
+        room none e = refused-right NoRoom [] (full .0 (reserve-none row pos P k n e))
+        room (some q) e = later-right c NoRoom [] _ (λ d. reserve-some row P k n q e (full .1 d)) (done-right c _ refl)
 
     -- then a live block's header and guard
     intact-right : (rs : List Refusal) (p : Place) (f : Plan) → f .checks ≡ some p → LiveAt row P (offsetIn c) p
@@ -155,21 +208,36 @@ module _ (row : ℕ) (pos : 0 < row) (a : List ℕ) (t : KeptBytes) where
 
   module _ (s : Sound) where
     grants-right : (n : ℕ) → Right (grants n) (TooLarge ∷ NoRoom ∷ []) (carried row a t (plan row P (grants n)))
-    unfolding plan carriedBy unless
-    grants-right n = small-right s (grants n) refl (NoRoom ∷ []) _ (room (reserve row P n) refl)
+    unfolding plan
+    grants-right n = granted-right s (grants n) refl ordinary n ((λ h. h), λ h. h) ((λ h. h), λ h. h)
+
+    -- an aligned grant is one of the alignment's code, if it has one
+    aligned-right : (n b : ℕ) → (let c = grantsAligned n b in Right c (BadAlignment ∷ TooLarge ∷ NoRoom ∷ []) (carried row a t (plan row P c)))
+    unfolding plan grantAligned
+    aligned-right n b =
+        choose-case (λ p. Right c (BadAlignment ∷ TooLarge ∷ NoRoom ∷ []) (carried row a t p)) (ltb 0 (codeOf b)) (grantAs row P (codeOf b) n)
+        (refused BadAlignment P)
+        (λ e.
+        let h : 0 < codeOf b = ltb-true 0 (codeOf b) e in
+        later-right c BadAlignment (TooLarge ∷ NoRoom ∷ []) _ (some-code b h)
+        (granted-right s c refl (codeOf b) n (sized h (λ m. tooLarge ≤ m)) (sized h (λ m. NoPlace row P (classOf m)))))
+        (λ e. refused-right s c refl BadAlignment (TooLarge ∷ NoRoom ∷ []) (no-code b (omega (arith, ltb-false 0 (codeOf b) e))))
       where
-        room : (r : Option Place) → reserve row P n ≡ r → Right (grants n) (NoRoom ∷ []) (carried row a t (grantAt row P r))
-        room none e = refused-right s (grants n) refl NoRoom [] (reserve-none row pos P n e)
-        room (some q) e = later-right (grants n) NoRoom [] _ (reserve-some row P n q e) (done-right (grants n) _ refl)
+        c : Call
+        c = grantsAligned n b
+
+        -- the enlarged size, by the code and by the alignment
+        sized : 0 < codeOf b → (M : ℕ → Type 0) → M (enlarged (codeOf b) n) ↔ M (n + (b - 16))
+        sized h M = (subst M (enlarged-code b n h), subst M (sym (enlarged-code b n h)))
 
     resizes-right : (o n : ℕ) → Right (resizes o n) (TooLarge ∷ blockFirst (NoRoom ∷ [])) (carried row a t (plan row P (resizes o n)))
     unfolding plan
     resizes-right o n =
-        small-right s c refl (blockFirst (NoRoom ∷ [])) _
+        small-right s c refl (blockFirst (NoRoom ∷ [])) _ (newSize (lookup row P o) n) (resize-large row pos P o n (s .0 .formed))
         (block-right s c refl (NoRoom ∷ []) (resizeAt row P n)
         (λ p. choose-case (M p) (inPlace p n) (resizeInPlace row p n) (resizeMove row P p n)
-        (λ e. (refl, λ l. later-right c NoRoom [] _ (λ d. T-not (inPlace p n) (d .0 p l) (true-T (inPlace p n) e)) (done-right c _ refl)))
-        (λ e. room p e (reserve row P n) refl)))
+        (λ e. (refl, λ l. later-right c NoRoom [] _ (λ (q, m, d, _). T-not (inPlace q n) d (fitting p q e l m)) (done-right c _ refl)))
+        (λ e. room p e (reserve row P (align (p .state)) n) refl)))
       where
         c : Call
         c = resizes o n
@@ -177,15 +245,29 @@ module _ (row : ℕ) (pos : 0 < row) (a : List ℕ) (t : KeptBytes) where
         M : Place → Plan → Type 0
         M p z = (z .checks ≡ some p) × (LiveAt row P o p → Right c (NoRoom ∷ []) (applied (engine row) a z))
 
-        room : (p : Place) → inPlace p n ≡ false → (r : Option Place) → reserve row P n ≡ r → M p (moveTo row P p n r)
+        -- the block at the offset is but one
+        fitting : (p q : Place) → inPlace p n ≡ true → LiveAt row P o p → LiveAt row P o q → T (inPlace q n)
+        fitting p q e l m = starts-alike row pos P o (λ z. inPlace z n) p q (s .0 .formed) (l .here) (m .here) (true-T (inPlace p n) e)
+
+        -- there is no place for a size
+        Full : ℕ → Type 0
+        Full m = NoPlace row P (classOf m)
+
+        room : (p : Place) → inPlace p n ≡ false → (r : Option Place) → reserve row P (align (p .state)) n ≡ r → M p (moveTo row P p n r)
         room p e none f = (
           refl,
-          λ l. due-right c NoRoom [] refl (sym (s .1)) (
-            λ q m. starts-alike row pos P o (λ z. not (inPlace z n)) p q (s .0 .formed) (l .here) (m .here) (rw e tt),
-            reserve-none row pos P n f,
-          ),
+          λ l. due-right c NoRoom [] refl (sym (s .1))
+              (p, l, rw e tt, subst Full (live-enlarged row pos P o p n (s .0 .formed) l) (reserve-none row pos P (align (p .state)) n f)),
         )
-        room p e (some q) f = (refl, λ l. later-right c NoRoom [] _ (λ d. reserve-some row P n q f (d .1)) (done-right c _ refl))
+        room p e (some q) f = (
+          refl,
+          λ l. later-right c NoRoom [] _
+              (λ (x, m, _, d). reserve-some row P (align (p .state)) n q f
+              (subst (λ (x : Place). Full (enlarged (align (x .state)) n))
+              (starts-same row pos P o x p (s .0 .formed) (m .here) (l .here))
+              (subst Full (sym (live-enlarged row pos P o x n (s .0 .formed) m)) d)))
+              (done-right c _ refl),
+        )
 
     lists-right : (total cap places : ℕ) (ns : List ℕ) → (let c = grantsList total cap places ns in
         Right c (TooLong ∷ BadProposal ∷ NoRoom ∷ []) (carried row a t (plan row P c)))
@@ -213,6 +295,7 @@ module _ (row : ℕ) (pos : 0 < row) (a : List ℕ) (t : KeptBytes) where
   unfolding callBy plan carriedBy unless
   call-right setsUp = set-up-right
   call-right (grants n) = checked-right (grants n) _ refl (λ s. grants-right s n)
+  call-right (grantsAligned n b) = checked-right (grantsAligned n b) _ refl (λ s. aligned-right s n b)
   call-right (releases o) =
       checked-right (releases o) _ refl
       (λ s. block-right s (releases o) refl [] (releaseAt row)

@@ -1,13 +1,14 @@
 -- Demand 2: release, measure and grant accept exactly what document 01 says, a granted block is where and what it says, and live blocks
 -- never share a byte.
 use Rattle.mem.proofs.Prelude.{_∙_, _≡_, sym, ap, refl, ap₂, subst, true, Bool, false, not, ⊎-elim, inl, inr, _⊎_, some, none, Option, List, [], _∷_, _++_, ℕ}
-use Rattle.mem.proofs.Prelude.{_<_, _≤_, _*_, arith, T, T-not, length}
+use Rattle.mem.proofs.Prelude.{_<_, _≤_, _*_, arith, T, T-not, lit≤, length}
 use mathlib.Core.Logic.{_↔_}
 use Rattle.mem.specs.Lists.{choose, first}
 use Rattle.mem.specs.Bytes.{put}
 use Rattle.mem.proofs.Tests.{T-true}
 use Rattle.mem.proofs.Laws.{zeros-length}
 use Rattle.classes.specs.Classes.{classOf, rowsOf, tooLarge}
+use Rattle.classes.specs.Alignments.{ordinary, enlarged, Askable}
 use Rattle.model.specs.declared.Refusal.{Refusal}
 use Rattle.model.specs.declared.Refusal.the-variants.{Unsound, AlreadyFree, HeaderDamaged, Overrun}
 use Rattle.model.specs.declared.Damage.{Damage}
@@ -15,8 +16,8 @@ use Rattle.model.specs.declared.Damage.the-variants.{Intact, Damaged}
 use Rattle.model.specs.State.{Pool, Place, group, isLive, isReady, disp, size, wellFormed, poolOf, slotNumber, rows, owned}
 use Rattle.model.specs.Blocks.{frame, damageIn}
 use Rattle.model.specs.Answers.{refusal}
-use Rattle.model.specs.Plans.{Plan, Site, freshPool, AllLive, NoPlace, Call, setsUp, grants, releases, resizes, measures, reports, plan, reserve, enframe}
-use Rattle.model.specs.Plans.{grantsList}
+use Rattle.model.specs.Plans.{Plan, Site, freshPool, AllLive, NoPlace, plan, reserve, enframe}
+use Rattle.model.specs.Plans.{Call, setsUp, grants, grantsAligned, releases, resizes, measures, reports, grantsList}
 use Rattle.model.specs.Plans.{grantAt, grantIn, lookup}
 use Rattle.model.specs.Tables.{byMasks, view}
 use Rattle.model.specs.Calls.{KeptBytes, Result, FormLaws, engine, soundKept, applied, keeps, damaged, setUpRight, call, callBy, carriedBy, checkedBy, unless}
@@ -30,7 +31,7 @@ use Rattle.model.proofs.Reserve.{Served, served, reserve-formed, reserve-size}
 use Rattle.model.proofs.Lowest.{site-lowest, first-lowest}
 use Rattle.claims.specs.Demand1.{order, offsetIn, FirstDue, StartsAt, LiveAt, headerDue, guardDue, Due}
 use Rattle.claims.specs.Demand2 as demand2
-use Rattle.claims.specs.Demand2.{ReleasesExactly, MeasuresExactly, GrantsExactly, Granted, GrantsAsSaid, InBlock, NeverShared, LeavesSound}
+use Rattle.claims.specs.Demand2.{ReleasesExactly, MeasuresExactly, GrantsExactly, GrantedBy, GrantsAsSaid, InBlock, NeverShared, LeavesSound}
 use Rattle.claims.proofs.Cases.{refuses, by-call, on-grant}
 use Rattle.claims.proofs.Demand1.{blockFirst, starts-found, none-starts, starts-alike, found-starts, demand1}
 
@@ -71,6 +72,7 @@ module _ (row : ℕ) (pos : 0 < row) (a : List ℕ) (t : KeptBytes) where
       asked-sound : (c : Call) → Asks c → All (λ r. Due row a t c r → ⊥) (order c) → T (soundKept row (length a) t)
       asked-sound setsUp k n = absurd k
       asked-sound (grants m) k n = unrefuted (soundKept row (length a) t) (n .0)
+      asked-sound (grantsAligned m b) k n = unrefuted (soundKept row (length a) t) (n .0)
       asked-sound (releases o) k n = unrefuted (soundKept row (length a) t) (n .0)
       asked-sound (resizes o m) k n = unrefuted (soundKept row (length a) t) (n .0)
       asked-sound (measures o) k n = unrefuted (soundKept row (length a) t) (n .0)
@@ -198,54 +200,59 @@ grants-exactly row pos a t n = (
     why (inr (_, inr (_, inl (_, x)))) z = inr (inr x)
     why (inr (_, inr (_, inr (_, e)))) z = absurd (z e)
 
+-- a block that a call grants with the code k is where and what document 01 says
+module _ (row : ℕ) (pos : 0 < row) (a : List ℕ) (t : KeptBytes) (asks : Call) (k n : ℕ) where
+  abbrev S : Pool
+  S = view row (t .tables)
+
+  abbrev c : ℕ
+  c = classOf (enlarged k n)
+
+  pub granted-by : T (wellFormed S) → (q : Place) → Askable k n → reserve row S k n ≡ some q
+      → call row a t asks ≡ applied (engine row) a (grantAt row S (some q)) → GrantedBy row a t asks k n c q
+  unfolding grantIn enframe
+  granted-by w q h e l =
+      let v : Served row S k n q = served row S k n q w e in
+      let s : Site = v .at in
+      let b : q .before ≡ s .before = ap (λ p. p .before) (v .place) in
+      let f : q .after ≡ s .after = ap (λ p. p .after) (v .place) in
+      let m : size (q .state) ≡ n = reserve-size row S k n q w e in
+      record {
+        slots = s .slots;
+        served =
+            ⊎-elim (λ o. inl (record {
+              there = o .there .split ∙ ap₂ (λ X Y. X ++ (group c (s .slots) ∷ Y)) (sym b) (sym f);
+              not-live = o .there .room;
+              lowest = subst (λ X. AllLive X c) (sym b) (o .lowest);
+            }))
+            (λ o. inr (record {
+              none = o .full;
+              there = o .there .split ∙ ap₂ (λ X Y. X ++ (freshPool (rowsOf row c) ++ Y)) (sym b) (sym f);
+              fresh = o .there .slots;
+              lowest = λ W Z e. subst (λ X. rows row X ≤ rows row W) (sym b) (o .lowest W Z e);
+            }))
+            (site-lowest row S c s (v .found));
+        old = v .taken .old;
+        refilled = v .taken .slots;
+        ready = v .taken .ready;
+        lowest = first-lowest (q .lower) (v .taken .old) (q .upper) (v .taken .number ∙ ap (first isReady) (v .taken .slots));
+        state = v .taken .state;
+        cls = ap (λ p. p .cls) (v .place);
+        bytes = m;
+        value = ap (λ r. r .answer .values) l;
+        pool = ap (λ r. view row (r .room .tables)) l ∙ engine-lawful row pos .says (poolOf q) (reserve-formed row S k n q w h e .formed);
+        arena = ap (λ r. r .arena) l ∙ ap (λ i. put (owned row q) (frame (q .cls) (slotNumber q) (disp (q .state)) i) a) m;
+      }
+
 pub grants-as-said : (row : ℕ) → 0 < row → GrantsAsSaid row
-unfolding plan grantIn enframe
+unfolding plan
 grants-as-said row pos a t n z =
     let y : Accepted row pos a t (grants n) = accepted row pos a t (grants n) tt z in
-    on-grant row pos P (λ p. p .answer .number ≡ 0 → call row a t (grants n) ≡ applied (engine row) a p → (q : Place) × Granted row a t n q)
-    (λ r z. absurd (refuses r z)) n (λ q h e _ l. (q, said (engine-lawful row pos .only (length a) t (y .sound-tables) .0 .formed) q h e l))
+    on-grant row pos (view row (t .tables))
+    (λ p. p .answer .number ≡ 0 → call row a t (grants n) ≡ applied (engine row) a p → (q : Place) × GrantedBy row a t (grants n) ordinary n (classOf n) q)
+    (λ r z. absurd (refuses r z)) ordinary n (lit≤ tt) (lit≤ tt)
+    (λ q h e _ l. (q, granted-by row pos a t (grants n) ordinary n (engine-lawful row pos .only (length a) t (y .sound-tables) .0 .formed) q h e l))
     (ap (λ (r : Result). r .answer .number) (sym (y .left)) ∙ z) (y .left)
-  where
-    P : Pool
-    P = view row (t .tables)
-
-    c : ℕ
-    c = classOf n
-
-    said : T (wellFormed P) → (q : Place) → n < tooLarge → reserve row P n ≡ some q
-        → call row a t (grants n) ≡ applied (engine row) a (grantAt row P (some q)) → Granted row a t n q
-    said w q h e l =
-        let v : Served row P n q = served row P n q w e in
-        let s : Site = v .at in
-        let b : q .before ≡ s .before = ap (λ p. p .before) (v .place) in
-        let f : q .after ≡ s .after = ap (λ p. p .after) (v .place) in
-        let m : size (q .state) ≡ n = reserve-size row P n q w e in
-        record {
-          slots = s .slots;
-          served =
-              ⊎-elim (λ o. inl (record {
-                there = o .there .split ∙ ap₂ (λ X Y. X ++ (group c (s .slots) ∷ Y)) (sym b) (sym f);
-                not-live = o .there .room;
-                lowest = subst (λ X. AllLive X c) (sym b) (o .lowest);
-              }))
-              (λ o. inr (record {
-                none = o .full;
-                there = o .there .split ∙ ap₂ (λ X Y. X ++ (freshPool (rowsOf row c) ++ Y)) (sym b) (sym f);
-                fresh = o .there .slots;
-                lowest = λ W Z e. subst (λ X. rows row X ≤ rows row W) (sym b) (o .lowest W Z e);
-              }))
-              (site-lowest row P c s (v .found));
-          old = v .taken .old;
-          refilled = v .taken .slots;
-          ready = v .taken .ready;
-          lowest = first-lowest (q .lower) (v .taken .old) (q .upper) (v .taken .number ∙ ap (first isReady) (v .taken .slots));
-          state = v .taken .state;
-          cls = ap (λ p. p .cls) (v .place);
-          bytes = m;
-          value = ap (λ r. r .answer .values) l;
-          pool = ap (λ r. view row (r .room .tables)) l ∙ engine-lawful row pos .says (poolOf q) (reserve-formed row P n q w h e .formed);
-          arena = ap (λ r. r .arena) l ∙ ap (λ i. put (owned row q) (frame (q .cls) (slotNumber q) (disp (q .state)) i) a) m;
-        }
 
 -- ---- live blocks never share a byte
 

@@ -5,13 +5,13 @@ use lib.Seq.{getD-set-other}
 use Rattle.mem.specs.Bytes.{zeros, put}
 use Rattle.mem.proofs.Tests.{T-true, and-right, choose-true}
 use Rattle.mem.proofs.Laws.{zeros-length}
-use Rattle.model.specs.State.{Pool, wellFormed, rows}
+use Rattle.model.specs.State.{Pool, wellFormed, aligned, rows}
 use Rattle.model.specs.Answers.{done, listed}
 use Rattle.model.specs.Plans.{Plan, Call, setsUp, reports, plan, report, totals}
 use Rattle.model.specs.Tables.{encode, arenaRight, roomBytes, roomFor}
 use Rattle.model.specs.Calls.{KeptBytes, Result, Stands, engine, soundKept, applied, written, carried, setUp, setUpRight, call, setUpRightBy}
 use Rattle.model.proofs.Kept.{engine-lawful}
-use Rattle.model.proofs.Fresh.{fresh-formed, whole-rows, set-up-lawful, set-up-done}
+use Rattle.model.proofs.Fresh.{fresh-formed, all-fresh, whole-rows, whole-units, set-up-lawful, set-up-done}
 use Rattle.model.proofs.Formed.{Formed, plan-formed}
 use Rattle.model.proofs.Calls.{call-sound, carried-whole}
 use Rattle.model.proofs.Forms.{call-step}
@@ -25,12 +25,12 @@ use Rattle.claims.proofs.Requested.{engine-keeps, outside}
 -- ---- one call
 
 module _ (row : ℕ) (pos : 0 < row) where
-  module _ (P : Pool) (w : T (wellFormed P)) (a : List ℕ) (h : T (arenaRight row (length a))) (g : Agrees (cells row P) a) where
+  module _ (P : Pool) (w : T (wellFormed P)) (b : T (aligned row P)) (a : List ℕ) (h : T (arenaRight row (length a))) (g : Agrees (cells row P) a) where
     l : length a ≡ row * rows row P
     l = arena-length row pos P w a g
 
     stands : Stands row (length a) P
-    stands = record { lawful = h; long = l; formed = w }
+    stands = record { lawful = h; long = l; formed = w; bounds = b }
 
     set-up-follows : call row a (engine row .encode P) setsUp ≡ applied (engine row) a (plan row P setsUp)
     unfolding plan
@@ -56,15 +56,21 @@ module _ (row : ℕ) (pos : 0 < row) where
     formed : T (wellFormed (model row P (calls us) .pool))
     agrees : Agrees (cells row (model row P (calls us) .pool)) (ran row a t us .arena)
 
-  follows : (P : Pool) (a : List ℕ) (us : List Turn) → T (wellFormed P) → T (arenaRight row (length a)) → Agrees (cells row P) a
+  follows : (P : Pool) (a : List ℕ) (us : List Turn) → T (wellFormed P) → T (aligned row P) → T (arenaRight row (length a)) → Agrees (cells row P) a
       → EngineOnly row P a (engine row .encode P) us → Follows P a (engine row .encode P) us
   unfolding EngineOnly AllCleared ran model plan report
-  follows P a [] w h g t = record {
-    modelled = record { answers = refl; tables = refl; kept = refl; counted = ap (λ (r : Result). r .answer) (call-follows P w a h g reports); cleared = tt };
+  follows P a [] w k h g t = record {
+    modelled = record {
+      answers = refl;
+      tables = refl;
+      kept = refl;
+      counted = ap (λ (r : Result). r .answer) (call-follows P w k a h g reports);
+      cleared = tt;
+    };
     formed = w;
     agrees = g;
   }
-  follows P a (u ∷ us) w h g t =
+  follows P a (u ∷ us) w k h g t =
       let b : List ℕ = u .arena in
       let c : Call = u .asks in
       let p : Plan = plan row P c in
@@ -75,9 +81,9 @@ module _ (row : ℕ) (pos : 0 < row) where
       let g₂ : Agrees (cells row (p .pool)) x = plan-kept row pos P w b g₁ c .agrees in
       let l : length b ≡ length x =
       arena-length row pos P w b g₁ ∙ ap (λ n. row * n) (sym (m .long)) ∙ sym (arena-length row pos (p .pool) (m .formed) x g₂) in
-      let e : call row b (engine row .encode P) c ≡ applied (engine row) b p = call-follows P w b h₁ g₁ c in
+      let e : call row b (engine row .encode P) c ≡ applied (engine row) b p = call-follows P w k b h₁ g₁ c in
       let r : Follows (p .pool) x (engine row .encode (p .pool)) us =
-      follows (p .pool) x us (m .formed) (subst (λ n. T (arenaRight row n)) l h₁) g₂
+      follows (p .pool) x us (m .formed) (m .bounds (whole-units row (length a) h) k) (subst (λ n. T (arenaRight row n)) l h₁) g₂
       (subst (λ r. EngineOnly row (p .pool) (r .arena) (r .room) us) e (t .1)) in
       record {
         modelled = record {
@@ -100,7 +106,8 @@ module _ (row : ℕ) (pos : 0 < row) where
       let P : Pool = fed row (length a) in
       let k : row * (length a / row) ≡ length a = whole-rows row (length a) (set-up-lawful row a t h) in
       rw (set-up-done row a t h)
-      (follows P (zeros (length a)) us (fresh-formed (length a / row)) (rw (zeros-length (length a)) (set-up-lawful row a t h))
+      (follows P (zeros (length a)) us (fresh-formed (length a / row)) (all-fresh row (length a / row))
+      (rw (zeros-length (length a)) (set-up-lawful row a t h))
       (subst (λ n. Agrees (cells row P) (zeros n)) k (fresh-agrees row pos (length a / row))) (rw (set-up-done row a t h) at s))
 
   -- ---- two runs

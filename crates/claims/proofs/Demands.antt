@@ -11,6 +11,10 @@ use Rattle.claims.proofs.Bench.{too-large-anywhere}
 use Rattle.claims.proofs.Demand1.{demand1}
 use Rattle.claims.proofs.Demand2.{releases-exactly, measures-exactly, grants-exactly, grants-as-said, never-shared, leaves-sound}
 use Rattle.claims.proofs.AsSaid.{never-at-zero, sets-up-as-said, reads-only, reports-as-said, releases-as-said}
+use Rattle.claims.proofs.Boundaries.{on-boundaries, serves-ordinary}
+use Rattle.claims.proofs.Stays.{alignment-stays}
+use Rattle.claims.proofs.Kept.{resizes-keep-alignment}
+use Rattle.claims.proofs.Aligned.{aligned-ordinary, aligned-exactly, aligned-as-said}
 use Rattle.claims.proofs.Guards.{guards-as-said}
 use Rattle.claims.proofs.Resizes.{resizes-as-said}
 use Rattle.claims.proofs.Demand3.{steers-nothing, stores-admitted, room-follows}
@@ -30,10 +34,14 @@ demands = record {
   releases-exactly = releases-exactly rowBytes some-bytes;
   measures-exactly = measures-exactly rowBytes some-bytes;
   grants-exactly = grants-exactly rowBytes some-bytes;
+  aligned-exactly = aligned-exactly rowBytes some-bytes;
   sets-up-as-said = sets-up-as-said rowBytes some-bytes;
   grants-as-said = grants-as-said rowBytes some-bytes;
+  aligned-as-said = aligned-as-said rowBytes some-bytes;
+  aligned-ordinary = aligned-ordinary rowBytes;
   releases-as-said = releases-as-said rowBytes some-bytes;
   resizes-as-said = resizes-as-said rowBytes some-bytes;
+  serves-ordinary = serves-ordinary;
   reports-as-said = reports-as-said rowBytes;
   reads-only = reads-only rowBytes some-bytes;
   never-at-zero = never-at-zero rowBytes;
@@ -42,6 +50,9 @@ demands = record {
   plans-as-said = plans-as-said;
   lists-as-grants = lists-as-grants rowBytes some-bytes;
   lists-exactly = lists-exactly rowBytes some-bytes;
+  on-boundaries = on-boundaries rowBytes;
+  resizes-keep-alignment = resizes-keep-alignment rowBytes some-bytes;
+  alignment-stays = alignment-stays rowBytes some-bytes;
   steers-nothing = steers-nothing rowBytes some-bytes;
   stores-admitted = stores-admitted rowBytes;
   room-follows = room-follows rowBytes;

@@ -19,11 +19,11 @@ use Rattle.model.specs.declared.Holder.{Holder}
 use Rattle.model.specs.declared.Holder.the-variants.{Free, First, Later}
 use Rattle.model.specs.declared.Totals.{Totals}
 use Rattle.model.specs.State.{Pool, free, group, isReady, isWaiting, size, slotSound, spanSound, wellFormed}
-use Rattle.model.specs.Plans.{Call, setsUp, grants, releases, resizes, measures, reports, grantsList, totals}
+use Rattle.model.specs.Plans.{Call, setsUp, grants, grantsAligned, releases, resizes, measures, reports, grantsList, totals}
 use Rattle.model.specs.Tables.{rowAt, slotRecord, rowRecord, laterRecords, spanRecordsBy, spanRecords, encodeBy, roomBytes, byMasks, view, sound}
 use Rattle.model.specs.Calls.{KeptBytes, keptIn, soundKept, unsound}
-use Rattle.model.proofs.Tables.{masks-laws, slot-length, row-length, group-few, mask-fits, encode-length, Sound, sound-facts}
-use Rattle.model.proofs.Counts.{size-small, mask-ones}
+use Rattle.model.proofs.Tables.{masks-laws, size-small, slot-length, row-length, group-few, mask-fits, encode-length, Sound, sound-facts}
+use Rattle.model.proofs.Counts.{mask-ones}
 use Rattle.model.proofs.Kept.{kept-totals}
 use Rattle.model.proofs.Calls.{Asks, call-unsound}
 use Rattle.claims.specs.Record.{flip, flipped, Counts, masks, sizes, FlipsRefused}
@@ -236,6 +236,7 @@ counts-in i p (sizes j k u h at) = (omega arith, omega arith)
 refuses : (c : Call) → (c ≡ setsUp → ⊥) → Asks c × (unsound c .number ≡ 2)
 refuses setsUp h = absurd (h refl)
 refuses (grants n) h = (tt, refl)
+refuses (grantsAligned n b) h = (tt, refl)
 refuses (releases o) h = (tt, refl)
 refuses (resizes o n) h = (tt, refl)
 refuses (measures o) h = (tt, refl)

@@ -1,18 +1,19 @@
 -- The history of report: what the tables count to is what the calls since the last set up come to.
 use Rattle.mem.proofs.Prelude.{_∙_, _≡_, sym, ap, refl, ap₂, subst, true, Bool, false, _&&_, not, true≢false, some, List, [], _∷_, _++_, append-assoc, map, _+_}
 use Rattle.mem.proofs.Prelude.{ℕ, _<_, _≤_, _*_, suc, _/_, zero, add-zero, zero-add, add-assoc, mul-div-cancel-left, arith, eqb-false, eqb-true, T, eqb, eqb→eq}
-use Rattle.mem.proofs.Prelude.{eqb-refl, length, length-append, replicate}
+use Rattle.mem.proofs.Prelude.{eqb-refl, lit≤, length, length-append, replicate}
 use Rattle.mem.specs.Lists.{choose, any, sum}
 use Rattle.mem.specs.Bytes.{bit}
 use Rattle.mem.proofs.Tests.{T-true, true-T, choose-true, choose-case, and-right, eq→eqb}
-use Rattle.classes.specs.Classes.{slotBytes, slotsOf, rowsOf, tooLarge}
+use Rattle.classes.specs.Classes.{slotBytes, slotsOf, rowsOf}
+use Rattle.classes.specs.Alignments.{ordinary, codeOf, Askable}
 use Rattle.model.specs.declared.Slot.{Slot}
 use Rattle.model.specs.declared.Slot.the-variants.{Fresh, Idle, Live}
 use Rattle.model.specs.declared.Refusal.{Refusal}
 use Rattle.model.specs.State.{Span, Pool, Place, free, group, isLive, isReady, disp, size, wellFormed, poolOf, become, slotNumber, rowsIn, rows, beginning}
-use Rattle.model.specs.State.{start, count}
+use Rattle.model.specs.State.{start, count, align}
 use Rattle.model.specs.Plans.{Plan, turnReady, refill, reserve, vacant, releaseAt, freshPool, refused, release, resizeInPlace, moveTo, measureAt, measure}
-use Rattle.model.specs.Plans.{slotSum, totals, report, Call, setsUp, grants, releases, resizes, measures, reports, grantsList, plan}
+use Rattle.model.specs.Plans.{slotSum, totals, report, Call, setsUp, grants, grantsAligned, releases, resizes, measures, reports, grantsList, plan}
 use Rattle.model.specs.Plans.{reserveAll, poolAfter}
 use Rattle.model.proofs.Lists.{small, by-grants, on-list}
 use Rattle.model.specs.Tables.{view, roomBytes}
@@ -27,8 +28,8 @@ use Rattle.model.proofs.Tables.{masks-laws, encode-length}
 use Rattle.model.proofs.Kept.{engine-lawful, kept-totals}
 use Rattle.model.proofs.Calls.{Asks}
 use Rattle.model.proofs.Moves.{Old, old, old-released, stays-start}
-use Rattle.claims.specs.History.{Entry, Ledger, opening, without, enteredEach, entered, Asked, booked, kept, Counts, Tells, History}
-use Rattle.claims.proofs.Cases.{reserve-live, taken-same, refuses, by-call, Named, on-named, on-grant, on-resize}
+use Rattle.claims.specs.History.{Entry, Ledger, opening, without, enteredGrant, enteredEach, entered, Asked, booked, kept, Counts, Tells, History}
+use Rattle.claims.proofs.Cases.{reserve-live, taken-same, refuses, by-call, Named, on-named, on-grant, on-aligned, on-resize}
 use Rattle.claims.proofs.Demand1.{demand1}
 use Rattle.claims.proofs.Demand2.{Accepted, accepted, set-up-accepted, sound-leaves}
 use Rattle.claims.proofs.AsSaid.{reports-as-said}
@@ -157,22 +158,22 @@ module _ (row : ℕ) (f : Entry → ℕ) where
       ))
 
   -- the slot that a grant takes
-  reserve-weigh : (P : Pool) (n : ℕ) (q : Place) → T (wellFormed P) → reserve row P n ≡ some q
+  reserve-weigh : (P : Pool) (k n : ℕ) (q : Place) → T (wellFormed P) → reserve row P k n ≡ some q
       → weigh 0 (poolOf q) ≡ f (record { start = start row q; size = n }) + weigh 0 P
   unfolding rest
-  reserve-weigh P n q w e =
-      let v : Served row P n q = served row P n q w e in
+  reserve-weigh P k n q w e =
+      let v : Served row P k n q = served row P k n q w e in
       let x : Slot = v .taken .old in
       omega (
         arith,
-        live-weigh q (reserve-live row P n q v),
-        ap (λ m. f (record { start = start row q; size = m })) (reserve-size row P n q w e),
+        live-weigh q (reserve-live row P k n q v),
+        ap (λ m. f (record { start = start row q; size = m })) (reserve-size row P k n q w e),
         place-weigh (become q x),
         ready-weight f (beginning row q) x (v .taken .ready),
         taken-same row (weigh 0)
             (λ X c ss Y. omega (arith, behind X (group c (refill ss) ∷ Y), behind X (group c ss ∷ Y), refill-weigh (rows row X) c ss))
             (λ X c Y. idle-weigh X c (replicate (slotsOf c) Fresh) Y (fresh-idle (slotsOf c)))
-            P n q v,
+            P k n q v,
       )
 
   -- ---- a pool weighs nothing where no live block does
@@ -240,13 +241,17 @@ module _ (row : ℕ) where
   fresh-tallies : (n : ℕ) → Tallies opening (freshPool n)
   fresh-tallies n = record { sums = λ f. sym (fresh-weigh row f 0 n); count = refl }
 
+  -- a grant, with whatever alignment
+  grant-tallies : (P : Pool) (k n : ℕ) (q : Place) → T (wellFormed P) → reserve row P k n ≡ some q → (l : Ledger) → Tallies l P
+      → Tallies (enteredGrant l (start row q) n) (poolOf q)
+  grant-tallies P k n q w r l t = record { sums = λ f. omega (arith, t .sums f, reserve-weigh row f P k n q w r); count = omega (arith, t .count) }
+
   -- each entry of a list is a grant
   list-tallies : (P : Pool) (ns : List ℕ) (qs : List Place) → T (wellFormed P) → T (small ns) → reserveAll row P ns ≡ some qs
       → (l : Ledger) → Tallies l P → Tallies (enteredEach l (map (start row) qs) ns) (poolAfter P qs)
   list-tallies =
       by-grants row (λ P ns qs. (l : Ledger) → Tallies l P → Tallies (enteredEach l (map (start row) qs) ns) (poolAfter P qs)) (λ P l t. t)
-      (λ P n ns q qs w h r k l t.
-      k _ (record { sums = λ f. omega (arith, t .sums f, reserve-weigh row f P n q w r); count = omega (arith, t .count) }))
+      (λ P n ns q qs w h r k l t. k _ (grant-tallies P ordinary n q w r l t))
 
   module _ (pos : 0 < row) (P : Pool) (w : T (wellFormed P)) (l : Ledger) (t : Tallies l P) where
     -- the ledger's block that starts where a live block of the pool does is that one
@@ -289,26 +294,28 @@ module _ (row : ℕ) where
     in-place-enters : (o m : ℕ) (p : Place) → Named row P o p → Enters (resizes o m) (resizeInPlace row p m)
     unfolding resizeInPlace rest
     in-place-enters o m p n z =
-        let q : Place = become p (Live (record { count = count (p .state); disp = disp (p .state); size = m })) in
+        let q : Place = become p (Live (record { count = count (p .state); disp = disp (p .state); size = m; align = align (p .state) })) in
         record {
           sums = λ g. omega (arith, struck p o n g, t .sums g, ap (weigh row g 0) (n .pool), live-weigh row g p (n .live), live-weigh row g q tt);
           count = omega (arith, struck p o n (λ e. 1), t .count);
         }
 
     -- the old block is where it was when the new one has been granted
-    moved-enters : (o m : ℕ) (p q : Place) → Named row P o p → m < tooLarge → reserve row P m ≡ some q → Enters (resizes o m) (moveTo row P p m (some q))
+    moved-enters : (o m : ℕ) (p q : Place) → Named row P o p → Askable (align (p .state)) m → reserve row P (align (p .state)) m ≡ some q
+        → Enters (resizes o m) (moveTo row P p m (some q))
     moved-enters o m p q n s e z =
-        let y : Old row pos P w m s q e p (n .pool) (n .live) = old row pos P w m s q e p (n .pool) (n .live) in
+        let k : ℕ = align (p .state) in
+        let y : Old row pos P w k m s q e p (n .pool) (n .live) = old row pos P w k m s q e p (n .pool) (n .live) in
         let p′ : Place = y .place in
         let i : start row p′ ≡ start row p = stays-start row p p′ (y .stays) in
-        let u : release row (poolOf q) (start row p) ≡ releaseAt row p′ = old-released row pos P w m s q e p (n .pool) (n .live) in
+        let u : release row (poolOf q) (start row p) ≡ releaseAt row p′ = old-released row pos P w k m s q e p (n .pool) (n .live) in
         record {
           sums = λ g.
               omega (
                 arith,
                 struck p o n g,
                 t .sums g,
-                reserve-weigh row g P m q w e,
+                reserve-weigh row g P k m q w e,
                 ap (weigh row g 0) (y .pool),
                 live-weigh row g p′ (y .live),
                 ap₂ (λ x y. g (record { start = x; size = y })) i (ap size (y .stays .state)),
@@ -322,12 +329,14 @@ module _ (row : ℕ) where
     unfolding plan release measure report
     plan-enters setsUp = λ z. fresh-tallies (rows row P)
     plan-enters (grants m) =
-        on-grant row pos P (Enters (grants m)) (refused-enters (grants m)) m
-        (λ q h e z. record { sums = λ f. omega (arith, t .sums f, reserve-weigh row f P m q w e); count = omega (arith, t .count) })
+        on-grant row pos P (Enters (grants m)) (refused-enters (grants m)) ordinary m (lit≤ tt) (lit≤ tt)
+        (λ q h e z. grant-tallies P ordinary m q w e l t)
+    plan-enters (grantsAligned m b) =
+        on-aligned row pos P (Enters (grantsAligned m b)) (refused-enters (grantsAligned m b)) m b (λ q h e z. grant-tallies P (codeOf b) m q w e l t)
     plan-enters (releases o) =
         on-named row pos P (Enters (releases o)) (refused-enters (releases o)) o (releaseAt row) (λ p n. release-enters o p n)
     plan-enters (resizes o m) =
-        on-resize row pos P (Enters (resizes o m)) (refused-enters (resizes o m)) o m (λ p n i. in-place-enters o m p n)
+        on-resize row pos P (Enters (resizes o m)) (refused-enters (resizes o m)) w o m (λ p n i. in-place-enters o m p n)
         (λ p n z. absurd (omega arith)) (λ p q n s e. moved-enters o m p q n s e)
     plan-enters (measures o) = on-named row pos P (Enters (measures o)) (refused-enters (measures o)) o (measureAt row P) (λ p n z. t)
     plan-enters reports = λ z. t

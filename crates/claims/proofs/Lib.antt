@@ -1,9 +1,14 @@
+pub mod Codes
 pub mod Tables
 pub mod Bench
 pub mod Cases
 pub mod Meets
 pub mod Demand1
 pub mod Demand2
+pub mod Boundaries
+pub mod Stays
+pub mod Kept
+pub mod Aligned
 pub mod AsSaid
 pub mod Guards
 pub mod Resizes

@@ -7,16 +7,19 @@ use Rattle.mem.specs.Lists.{any}
 use Rattle.mem.proofs.Tests.{T-true, true-T, and-both, choose-true, choose-false, choose-case}
 use Rattle.mem.proofs.Laws.{put-length}
 use Rattle.classes.specs.Classes.{tooLarge}
+use Rattle.classes.specs.Alignments.{ordinary}
 use Rattle.model.specs.declared.Refusal.the-variants.{NoRoom, TooLong}
 use Rattle.model.specs.State.{Pool, Place, disp, size, poolOf, slotNumber, rows, owned, start}
 use Rattle.model.specs.Blocks.{frame}
 use Rattle.model.specs.Answers.{Answer, done, listDone, refusal}
 use Rattle.model.specs.Proposals.{entries, accepts, plannable, fullCaps, planned}
-use Rattle.model.specs.Plans.{Plan, reserve, enframe, grantAt, grant, placed, placedBy, reserveAll, poolAfter, grantAllAt, grantList, grants, grantsList, plan}
+use Rattle.model.specs.Plans.{Plan, reserve, enframe, grantAt, grantAs, placed, placedBy, reserveAll, poolAfter, grantAllAt, grantList}
+use Rattle.model.specs.Plans.{grants, grantsList, plan}
 use Rattle.model.specs.Tables.{arenaRight, view}
 use Rattle.model.specs.Calls.{KeptBytes, Result, engine, soundKept, applied, carried, call, write, written}
 use Rattle.model.proofs.Kept.{engine-lawful}
-use Rattle.model.proofs.Reserve.{Granted, reserve-formed}
+use Rattle.model.proofs.Fresh.{whole-units}
+use Rattle.model.proofs.Reserve.{plain, Granted, reserve-formed}
 use Rattle.model.proofs.Calls.{call-sound, same-room, carried-whole}
 use Rattle.model.proofs.Lists.{small, small-first, small-rest, accepts-small, places-counted, on-list}
 use Rattle.model.proofs.Proposals.{planned-accepted, accepts-plannable, planned-fewest}
@@ -64,18 +67,18 @@ module _ (row : ℕ) where
       × (granting row a t ns .arena ≡ written a (map (enframe row) qs)) × (granting row a t ns .room ≡ engine row .encode (poolAfter P qs))
 
   module _ (a : List ℕ) (t : KeptBytes) (n : ℕ) (s : soundKept row (length a) t ≡ true) (h : n < tooLarge) where
-    granted-call : (o : Option Place) → reserve row (view row (t .tables)) n ≡ o
+    granted-call : (o : Option Place) → reserve row (view row (t .tables)) ordinary n ≡ o
         → call row a t (grants n) ≡ carried row a t (grantAt row (view row (t .tables)) o)
-    unfolding plan grant
+    unfolding plan grantAs
     granted-call o e =
         call-sound row a t s (grants n) tt
         ∙ ap (carried row a t) (choose-false (leb tooLarge n) _ _ (lt-leb tooLarge n h) ∙ ap (grantAt row (view row (t .tables))) e)
 
-    taken-call : (q : Place) → reserve row (view row (t .tables)) n ≡ some q
+    taken-call : (q : Place) → reserve row (view row (t .tables)) ordinary n ≡ some q
         → call row a t (grants n) ≡ applied (engine row) a (grantAt row (view row (t .tables)) (some q))
     taken-call q e = granted-call (some q) e ∙ carried-whole row a t (grantAt row (view row (t .tables)) (some q)) refl
 
-    full-call : reserve row (view row (t .tables)) n ≡ none → call row a t (grants n) .answer ≡ refusal NoRoom
+    full-call : reserve row (view row (t .tables)) ordinary n ≡ none → call row a t (grants n) .answer ≡ refusal NoRoom
     full-call e = ap (λ (r : Result). r .answer) (granted-call none e ∙ carried-whole row a t (grantAt row (view row (t .tables)) none) refl)
 
   module _ (pos : 0 < row) where
@@ -83,7 +86,7 @@ module _ (row : ℕ) where
         → Granting P a t ns (reserveAll row P ns)
     unfolding granting reserveAll enframe
     grantings P a t [] v s h = (refl, refl, sym (same-room row a t s) ∙ ap (engine row .encode) v)
-    grantings P a t (n ∷ ns) v s h = go (reserve row P n) refl (λ Q b u. grantings Q b u ns)
+    grantings P a t (n ∷ ns) v s h = go (reserve row P ordinary n) refl (λ Q b u. grantings Q b u ns)
       where
         small-n : n < tooLarge
         small-n = small-first n ns h
@@ -103,24 +106,29 @@ module _ (row : ℕ) where
           ap (λ (r : Result). granting row (r .arena) (r .room) ns .room) c ∙ k .2,
         )
 
-        next : (q : Place) → reserve row P n ≡ some q → Later → Granting P a t (n ∷ ns) (placed q (reserveAll row (poolOf q) ns))
+        next : (q : Place) → reserve row P ordinary n ≡ some q → Later → Granting P a t (n ∷ ns) (placed q (reserveAll row (poolOf q) ns))
         next q e k =
             let f = engine-lawful row pos .only (length a) t (true-T (soundKept row (length a) t) s) .0 in
-            let r : reserve row (view row (t .tables)) n ≡ some q = ap (λ P. reserve row P n) v ∙ e in
-            let g : Granted row (view row (t .tables)) n q = reserve-formed row (view row (t .tables)) n q (f .formed) small-n r in
+            let r : reserve row (view row (t .tables)) ordinary n ≡ some q = ap (λ P. reserve row P ordinary n) v ∙ e in
+            let g : Granted row (view row (t .tables)) ordinary n q = reserve-formed row (view row (t .tables)) ordinary n q (f .formed) (plain small-n) r in
             let b : List ℕ = write a (enframe row q) in
             let l : length b ≡ length a = put-length (owned row q) (frame (q .cls) (slotNumber q) (disp (q .state)) (size (q .state))) a in
             let m : length b ≡ row * rows row (poolOf q) = l ∙ f .long ∙ ap (λ k. row * k) (sym (g .long)) in
             let u : T (soundKept row (length b) (engine row .encode (poolOf q))) =
             engine-lawful row pos .right (length b) (poolOf q)
-            (record { lawful = subst (λ k. T (arenaRight row k)) (sym l) (f .lawful); long = m; formed = g .formed }) in
+            (record {
+              lawful = subst (λ k. T (arenaRight row k)) (sym l) (f .lawful);
+              long = m;
+              formed = g .formed;
+              bounds = g .bounds (whole-units row (length a) (f .lawful)) (f .bounds);
+            }) in
             lift q (taken-call a t n s small-n q r) (reserveAll row (poolOf q) ns)
             (k (poolOf q) b (engine row .encode (poolOf q)) (engine-lawful row pos .says (poolOf q) (g .formed)) (T-true _ u) (small-rest n ns h))
 
-        go : (o : Option Place) → reserve row P n ≡ o → Later → Granting P a t (n ∷ ns) (placedBy o (λ q. reserveAll row (poolOf q) ns))
+        go : (o : Option Place) → reserve row P ordinary n ≡ o → Later → Granting P a t (n ∷ ns) (placedBy o (λ q. reserveAll row (poolOf q) ns))
         go none e k =
             subst (λ (r : Answer). T (eight r || any eight (granting row (call row a t (grants n) .arena) (call row a t (grants n) .room) ns .answers)))
-            (sym (full-call a t n s small-n (ap (λ P. reserve row P n) v ∙ e))) tt
+            (sym (full-call a t n s small-n (ap (λ P. reserve row P ordinary n) v ∙ e))) tt
         go (some q) e k = next q e k
 
     pub lists-as-grants : ListsAsGrants row

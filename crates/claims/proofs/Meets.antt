@@ -4,6 +4,7 @@ use Rattle.mem.proofs.Prelude.{T, leb, ltb, leb→le, leb-false, ltb→lt}
 use borrow.Author.Tests.{ltb-false}
 use Rattle.mem.proofs.Tests.{and-left, and-right, true-T}
 use Rattle.classes.specs.Classes.{classOf, tooLarge}
+use Rattle.classes.specs.Alignments.{ordinary}
 use Rattle.model.specs.State.{Pool, Place, poolOf}
 use Rattle.model.specs.Proposals.{entries, capRight, plannable}
 use Rattle.model.specs.Plans.{reserve, placed, placedBy, reserveAll, poolAfter, NoPlace}
@@ -47,7 +48,7 @@ module _ (total cap places : ℕ) where
 -- ---- no room
 
 module _ (row : ℕ) where
-  meets-here : 0 < row → (P : Pool) (n : ℕ) (ns : List ℕ) → reserve row P n ≡ none → Meets row P (n ∷ ns)
+  meets-here : 0 < row → (P : Pool) (n : ℕ) (ns : List ℕ) → reserve row P ordinary n ≡ none → Meets row P (n ∷ ns)
   unfolding reserveAll
   meets-here pos P n ns e = record {
     earlier = [];
@@ -56,10 +57,10 @@ module _ (row : ℕ) where
     split = refl;
     places = [];
     granted-before = refl;
-    no-place = reserve-none row pos P n e;
+    no-place = reserve-none row pos P ordinary n e;
   }
 
-  meets-later : (P : Pool) (n : ℕ) (ns : List ℕ) (q : Place) → reserve row P n ≡ some q → Meets row (poolOf q) ns → Meets row P (n ∷ ns)
+  meets-later : (P : Pool) (n : ℕ) (ns : List ℕ) (q : Place) → reserve row P ordinary n ≡ some q → Meets row (poolOf q) ns → Meets row P (n ∷ ns)
   unfolding reserveAll
   meets-later P n ns q e m = record {
     earlier = n ∷ m .earlier;
@@ -75,13 +76,13 @@ module _ (row : ℕ) where
   pub meets : 0 < row → (P : Pool) (ns : List ℕ) → reserveAll row P ns ≡ none → Meets row P ns
   unfolding reserveAll
   meets pos P [] e = let z : _≡_ {A = ℕ} 0 1 = cc in absurd (omega arith)
-  meets pos P (n ∷ ns) e = go (reserve row P n) refl e (λ Q. meets pos Q ns)
+  meets pos P (n ∷ ns) e = go (reserve row P ordinary n) refl e (λ Q. meets pos Q ns)
     where
       rest : (q : Place) (o : Option (List Place)) → placed q o ≡ none → o ≡ none
       rest q none e = refl
       rest q (some qs) e = let z : _≡_ {A = ℕ} 0 1 = cc in absurd (omega arith)
 
-      go : (o : Option Place) → reserve row P n ≡ o → placedBy o (λ q. reserveAll row (poolOf q) ns) ≡ none
+      go : (o : Option Place) → reserve row P ordinary n ≡ o → placedBy o (λ q. reserveAll row (poolOf q) ns) ≡ none
           → ((Q : Pool) → reserveAll row Q ns ≡ none → Meets row Q ns) → Meets row P (n ∷ ns)
       go none r e k = meets-here pos P n ns r
       go (some q) r e k = meets-later P n ns q r (k (poolOf q) (rest q (reserveAll row (poolOf q) ns) e))
@@ -90,13 +91,13 @@ module _ (row : ℕ) where
   met : (P : Pool) (ms : List ℕ) (n : ℕ) (later : List ℕ) (ps qs : List Place) → reserveAll row P ms ≡ some ps → NoPlace row (poolAfter P ps) (classOf n)
       → reserveAll row P (ms ++ (n ∷ later)) ≡ some qs → ⊥
   unfolding reserveAll
-  met P [] n later [] qs e h f = go (reserve row P n) refl f
+  met P [] n later [] qs e h f = go (reserve row P ordinary n) refl f
     where
-      go : (o : Option Place) → reserve row P n ≡ o → placedBy o (λ q. reserveAll row (poolOf q) later) ≡ some qs → ⊥
+      go : (o : Option Place) → reserve row P ordinary n ≡ o → placedBy o (λ q. reserveAll row (poolOf q) later) ≡ some qs → ⊥
       go none r f = let z : _≡_ {A = ℕ} 0 1 = cc in omega arith
-      go (some q) r f = reserve-some row P n q r h
+      go (some q) r f = reserve-some row P ordinary n q r h
   met P [] n later (p ∷ ps) qs e h f = let z : _≡_ {A = ℕ} 0 1 = cc in omega arith
-  met P (m ∷ ms) n later ps qs e h f = go (reserve row P m) e f (λ Q. met Q ms n later)
+  met P (m ∷ ms) n later ps qs e h f = go (reserve row P ordinary m) e f (λ Q. met Q ms n later)
     where
       Later : Type 0
       Later = (Q : Pool) (ps qs : List Place) → reserveAll row Q ms ≡ some ps → NoPlace row (poolAfter Q ps) (classOf n)

@@ -1,39 +1,79 @@
 -- A resize leaves what document 01 says: in place, or as a grant, a copy and a release.
-use Rattle.mem.proofs.Prelude.{_∙_, _≡_, sym, ap, refl, subst, false, ⊎-elim, inl, inr, _⊎_, some, none, Option, List, [], _∷_, _++_, append-assoc, append-nil}
-use Rattle.mem.proofs.Prelude.{_+_, ℕ, _<_, _≤_, _*_, _-_, suc, arith, lt-leb, T, leb, leb→le, le→leb, length, drop, getD, length-append}
+use Rattle.mem.proofs.Prelude.{_∙_, _≡_, sym, ap, refl, subst, true, false, Bool, _||_, ⊎-elim, inl, inr, _⊎_, some, none, Option, List, [], _∷_, _++_}
+use Rattle.mem.proofs.Prelude.{append-assoc, append-nil, _+_, ℕ, _<_, _≤_, _*_, _-_, suc, arith, lt-leb, lt-ltb, T, leb, ltb, leb→le, le→leb, drop, getD}
+use Rattle.mem.proofs.Prelude.{length, length-append, eqb, eqb→eq, eq-eqb, eqb-true}
+use mathlib.Core.Logic.{_↔_}
 use Rattle.mem.specs.Lists.{choose}
 use Rattle.mem.specs.Bytes.{zeros, same, put, part}
-use Rattle.mem.proofs.Tests.{T-true, true-T, and-left, and-right, and-both, choose-case, choose-false}
+use Rattle.mem.proofs.Tests.{T-true, true-T, and-left, and-right, and-both, eq→eqb, choose-case, choose-true, choose-false}
 use Rattle.mem.proofs.Laws.{put-length, put-append, put-before, put-past, part-put, part-written, part-length, part-part, getD-part, zeros-length, zeros-add}
 use Rattle.mem.proofs.Laws.{zeros-put, eq→same}
-use Rattle.classes.specs.Classes.{slotBytes, classOf, tooLarge}
+use Rattle.classes.specs.Classes.{slotBytes, classOf, tooLarge, ownClass}
+use Rattle.classes.specs.Alignments.{alignOf, codeOf, enlarged, Askable}
 use Rattle.model.specs.declared.Refusal.the-variants.{NoRoom}
 use Rattle.model.specs.declared.Damage.the-variants.{Intact}
-use Rattle.model.specs.State.{Pool, Place, isLive, disp, size, wellFormed, poolOf, slotNumber, rows, owned, start}
+use Rattle.model.specs.State.{Pool, Place, isLive, disp, size, align, wellFormed, aligned, poolOf, slotNumber, rows, owned, start}
 use Rattle.model.specs.Blocks.{reserved, header, guard, firstSpare, spare, headerRight, guardRight, damageIn, damage, frame}
-use Rattle.model.specs.Plans.{Plan, Call, grants, releases, resizes, plan, lookup, onBlock, releaseAt, release, inPlace, resizeInPlace, resizeMove, moveTo}
-use Rattle.model.specs.Plans.{resizeAt, resize, reserve, grantAt, grant, enframe}
+use Rattle.model.specs.Plans.{Plan, Call, grantsAligned, releases, resizes, plan, lookup, newSize, onBlock, releaseAt, release, inPlace, resizeInPlace}
+use Rattle.model.specs.Plans.{resizeMove, moveTo, resizeAt, resize, reserve, grantAt, grantAs, grantAligned, enframe}
 use Rattle.model.specs.Tables.{view, arenaRight}
 use Rattle.model.specs.Calls.{KeptBytes, Stands, Result, engine, soundKept, applied, written, damaged, carried, call}
 use Rattle.model.proofs.Kept.{engine-lawful}
+use Rattle.model.proofs.Fresh.{whole-units}
 use Rattle.model.proofs.Blocks.{header-length, guard-fits, spare-length, spare-first, frame-length}
 use Rattle.model.proofs.Lookup.{Fits, fits, disp-inside, owned-inside, Owns, outside-group}
 use Rattle.model.proofs.Reserve.{Granted, reserve-formed, reserve-size, served}
-use Rattle.model.proofs.Formed.{resize-in-place-formed}
+use Rattle.model.proofs.Formed.{resize-in-place-formed, resizable}
 use Rattle.model.proofs.Calls.{call-sound, carried-whole}
 use Rattle.model.proofs.Moves.{Old, old, old-released, old-apart, stays-owned}
 use Rattle.claims.specs.Demand1.{order, headerDue, guardDue, Due}
 use Rattle.claims.specs.Demand2 as demand2
-use Rattle.claims.specs.AsSaid.{Waits, Goes, Serves, sized, stay, InPlace, MovedBy, ResizesAsSaid}
+use Rattle.claims.specs.AsSaid.{Waits, Goes, Near, Serves, sized, stay, InPlace, MovedBy, ResizesAsSaid}
 use Rattle.claims.proofs.Cases.{release-parts, reserve-live}
-use Rattle.claims.proofs.Demand1.{demand1}
+use Rattle.claims.proofs.Codes.{code-align, enlarged-align}
+use Rattle.claims.proofs.Demand1.{demand1, starts-found, resize-large}
 use Rattle.claims.proofs.Demand2.{Accepted, accepted, none-due, found-intact}
 use Rattle.claims.proofs.AsSaid.{released-as-said, on-intact, place-formed}
+
+-- ---- what serves in place
+
+-- a class is that of a size or the next one up
+own-near : (c m : ℕ) → T (ownClass c m) ↔ Near c m
+own-near c m = (
+  there (eqb c (classOf m)) refl,
+  ⊎-elim (λ e. rw (eq-eqb c (classOf m) e) tt) (λ e. back (eqb c (classOf m)) (eq→eqb c (suc (classOf m)) e)),
+)
+  where
+    there : (b : Bool) → eqb c (classOf m) ≡ b → T (b || eqb c (suc (classOf m))) → Near c m
+    there true e t = inl (eqb-true c (classOf m) e)
+    there false e t = inr (eqb→eq c (suc (classOf m)) t)
+
+    back : (b : Bool) → T (eqb c (suc (classOf m))) → T (b || eqb c (suc (classOf m)))
+    back true t = tt
+    back false t = t
+
+-- the test is what is said, of a live block
+in-place-serves : (p : Place) (n : ℕ) → 1 ≤ align (p .state) → T (inPlace p n) ↔ Serves p n
+unfolding inPlace
+in-place-serves p n h = (
+  λ t. record {
+    fits = leb→le n s (and-left (leb n s) (ownClass (p .cls) (enlarged (align (p .state)) n)) t);
+    near = subst (Near (p .cls)) e (own-near (p .cls) (enlarged (align (p .state)) n) .0 (and-right (leb n s) _ t));
+  },
+  λ v. and-both (leb n s) _ (le→leb n s (v .fits))
+      (own-near (p .cls) (enlarged (align (p .state)) n) .1 (subst (Near (p .cls)) (sym e) (v .near))),
+)
+  where
+    s : ℕ
+    s = slotBytes (p .cls) - 4 - 16 * disp (p .state)
+
+    e : enlarged (align (p .state)) n ≡ n + (alignOf (align (p .state)) - 16)
+    e = enlarged-align (align (p .state)) n h
 
 -- ---- resize in place
 
 module _ (row : ℕ) (pos : 0 < row) (a : List ℕ) (n : ℕ) (p : Place) (w : T (wellFormed (poolOf p))) (l : length a ≡ row * rows row (poolOf p))
-    (t : T (inPlace p n)) where
+    (asked : Askable (align (p .state)) n) (t : T (inPlace p n)) where
   abbrev c : ℕ
   c = p .cls
 
@@ -66,11 +106,7 @@ module _ (row : ℕ) (pos : 0 < row) (a : List ℕ) (n : ℕ) (p : Place) (w : T
   reframed = put (o + k) tail headed
 
   serves : Serves p n
-  unfolding inPlace
-  serves = record {
-    fits = leb→le n (slotBytes c - 4 - 16 * d) (and-left (leb n (slotBytes c - 4 - 16 * d)) (leb c (suc (classOf n))) t);
-    near = leb→le c (suc (classOf n)) (and-right (leb n (slotBytes c - 4 - 16 * d)) (leb c (suc (classOf n))) t);
-  }
+  serves = in-place-serves p n (asked .some-code) .0 t
 
   -- sizes of the block's parts
   inside : 16 * d + size (p .state) + 4 ≤ slotBytes c
@@ -137,12 +173,13 @@ module _ (row : ℕ) (pos : 0 < row) (a : List ℕ) (n : ℕ) (p : Place) (w : T
       bare : (x s h o k n r m : ℕ) → h ≤ r → r ≤ s → k ≤ n → o + n + r ≡ x + s → m ≡ n - k + (r - h) → x + (s - h) ≡ o + k + m
       bare x s h o k n r m j b i e f = omega arith
 
-  in-place-as-said : (z : Result) → n < tooLarge → T (isLive (p .state)) → z ≡ applied (engine row) a (resizeInPlace row p n) → InPlace row a o n p z
+  in-place-as-said : (z : Result) → T (isLive (p .state)) → z ≡ applied (engine row) a (resizeInPlace row p n) → InPlace row a o n p z
   unfolding resizeInPlace
-  in-place-as-said z h v e =
+  in-place-as-said z v e =
       let x : z .arena ≡ reframed = ap (λ (r : Result). r .arena) e in
       let y : view row (z .room .tables) ≡ poolOf (sized p n) =
-      ap (λ (r : Result). view row (r .room .tables)) e ∙ engine-lawful row pos .says (poolOf (sized p n)) (resize-in-place-formed row p n w v h t .formed) in
+      ap (λ (r : Result). view row (r .room .tables)) e
+      ∙ engine-lawful row pos .says (poolOf (sized p n)) (resize-in-place-formed row p n w v (asked .small) t .formed) in
       record {
         serves = serves;
         value = ap (λ (r : Result). r .answer .values) e;
@@ -169,27 +206,31 @@ module _ (row : ℕ) (pos : 0 < row) (a : List ℕ) (n : ℕ) (p : Place) (w : T
 
 -- ---- resize by a move
 
--- the old block p and the new block q, in an arena as long as the pool
-module _ (row : ℕ) (pos : 0 < row) (P : Pool) (w : T (wellFormed P)) (a : List ℕ) (long : length a ≡ row * rows row P) (n : ℕ) (small : n < tooLarge)
-    (q : Place) (found : reserve row P n ≡ some q) (p : Place) (i : demand2.Intact row a P (start row p) p) where
+-- the old block p and the new block q, which has its alignment, in an arena as long as the pool
+module _ (row : ℕ) (pos : 0 < row) (P : Pool) (w : T (wellFormed P)) (a : List ℕ) (long : length a ≡ row * rows row P) (n : ℕ) (p : Place)
+    (asked : Askable (align (p .state)) n) (q : Place) (found : reserve row P (align (p .state)) n ≡ some q)
+    (i : demand2.Intact row a P (start row p) p) where
+  abbrev code : ℕ
+  code = align (p .state)
+
   there : poolOf p ≡ P
   there = i .live .here .slotted .pool
 
   formed-p : T (wellFormed (poolOf p))
   formed-p = place-formed row pos P w a (start row p) p i
 
-  made : Granted row P n q
-  made = reserve-formed row P n q w small found
+  made : Granted row P code n q
+  made = reserve-formed row P code n q w asked found
 
-  beside : Old row pos P w n small q found p there (i .live .live)
-  beside = old row pos P w n small q found p there (i .live .live)
+  beside : Old row pos P w code n asked q found p there (i .live .live)
+  beside = old row pos P w code n asked q found p there (i .live .live)
 
   released-old : release row (poolOf q) (start row p) ≡ releaseAt row (beside .place)
   unfolding beside
-  released-old = old-released row pos P w n small q found p there (i .live .live)
+  released-old = old-released row pos P w code n asked q found p there (i .live .live)
 
   apart : (owned row p + slotBytes (p .cls) ≤ owned row q) ⊎ (owned row q + slotBytes (q .cls) ≤ owned row p)
-  apart = old-apart row pos P w n small q found p there (i .live .live)
+  apart = old-apart row pos P w code n asked q found p there (i .live .live)
 
   inside-p : 16 * disp (p .state) + size (p .state) + 4 ≤ slotBytes (p .cls)
   inside-p = let f : Fits p = fits p formed-p in disp-inside (p .cls) (p .state) (f .class) (f .state)
@@ -199,7 +240,7 @@ module _ (row : ℕ) (pos : 0 < row) (P : Pool) (w : T (wellFormed P)) (a : List
 
   -- as many bytes as are copied
   short : (stay p n ≤ size (p .state)) × (stay p n ≤ size (q .state))
-  short = (omega arith, omega (arith, reserve-size row P n q w found))
+  short = (omega arith, omega (arith, reserve-size row P code n q w found))
 
   -- the new block laid out, and the bytes copied into it
   abbrev framed : List ℕ
@@ -246,16 +287,17 @@ module _ (row : ℕ) (pos : 0 < row) (P : Pool) (w : T (wellFormed P)) (a : List
       e ∙ rw (old-bytes, T-true (headerDue row a p) (i .header), T-true (guardDue row a p) (i .guard))
 
   -- the release over the copy
-  release-done : T (arenaRight row (length a))
+  release-done : T (arenaRight row (length a)) → T (aligned row P)
       → call row copy (engine row .encode (poolOf q)) (releases (start row p)) ≡ applied (engine row) copy (releaseAt row (beside .place))
   unfolding plan release
-  release-done h =
+  release-done h b =
       let u : KeptBytes = engine row .encode (poolOf q) in
       let x : T (soundKept row (length copy) u) =
       engine-lawful row pos .right (length copy) (poolOf q) (record {
         lawful = subst (λ m. T (arenaRight row m)) (sym copy-length) h;
         long = copy-length ∙ long ∙ ap (λ m. row * m) (sym (made .long));
         formed = made .formed;
+        bounds = made .bounds (whole-units row (length a) h) b;
       }) in
       call-sound row copy u (T-true (soundKept row (length copy) u) x) (releases (start row p)) tt
       ∙ ap (carried row copy u)
@@ -275,7 +317,7 @@ module _ (row : ℕ) (pos : 0 < row) (P : Pool) (w : T (wellFormed P)) (a : List
   new-kept r (inr g) j o =
       g .bytes .others j
       (outside-group row pos (beside .place) q j (beside .formed) (sym (beside .pool)) (λ e. beside .other (sym e))
-      (reserve-live row P n q (served row P n q w found)) o (g .none-live))
+      (reserve-live row P code n q (served row P code n q w found)) o (g .none-live))
 
   -- the new block has the bytes that the old one had
   copy-there : (j : ℕ) → j < stay p n → getD copy (start row q + j) 0 ≡ getD a (start row p + j) 0
@@ -289,17 +331,16 @@ module _ (row : ℕ) (pos : 0 < row) (P : Pool) (w : T (wellFormed P)) (a : List
       (λ x. put-past (owned row q) framed a (start row p + j) 0 (omega (arith, x, framed-length))) apart
 
   -- the grant, the copy and the release make the move
-  moved : (g z : Result) → g ≡ applied (engine row) a (grantAt row P (some q)) → T (arenaRight row (length a)) → inPlace p n ≡ false
-      → z ≡ applied (engine row) a (moveTo row P p n (some q)) → MovedBy row a (start row p) n p g z
-  unfolding inPlace enframe
-  moved g z e h f l =
+  moved : (g z : Result) → g ≡ applied (engine row) a (grantAt row P (some q)) → T (arenaRight row (length a)) → T (aligned row P)
+      → inPlace p n ≡ false → z ≡ applied (engine row) a (moveTo row P p n (some q)) → MovedBy row a (start row p) n p g z
+  unfolding enframe
+  moved g z e h b f l =
       let r : Result = call row copy (engine row .encode (poolOf q)) (releases (start row p)) in
-      let x : r ≡ applied (engine row) copy (releaseAt row (beside .place)) = release-done h in
+      let x : r ≡ applied (engine row) copy (releaseAt row (beside .place)) = release-done h b in
       let y : z .arena ≡ r .arena =
       ap (λ (r : Result). r .arena) l ∙ ap (λ (d : Plan). written copy (d .changes)) released-old ∙ sym (ap (λ (r : Result). r .arena) x) in
       subst (λ (g : Result). MovedBy row a (start row p) n p g z) (sym e) (record {
-        serves-not = λ v. subst T f (and-both (leb n (slotBytes (p .cls) - 4 - 16 * disp (p .state))) (leb (p .cls) (suc (classOf n)))
-            (le→leb n (slotBytes (p .cls) - 4 - 16 * disp (p .state)) (v .fits)) (le→leb (p .cls) (suc (classOf n)) (v .near)));
+        serves-not = λ v. subst T f (in-place-serves p n (asked .some-code) .1 v);
         granted = refl;
         answer = ap (λ (r : Result). r .answer) l;
         released = ap (λ (r : Result). r .answer .number) x ∙ ap (λ r. r .number) (release-parts row (beside .place) .1);
@@ -313,7 +354,15 @@ module _ (row : ℕ) (pos : 0 < row) (P : Pool) (w : T (wellFormed P)) (a : List
 
 -- ---- every accepted resize
 
-module _ (row : ℕ) (pos : 0 < row) (a : List ℕ) (t : KeptBytes) (h : T (soundKept row (length a) t)) (n : ℕ) (small : n < tooLarge) where
+-- a grant of a code's bytes is one with that code
+aligned-as : (row : ℕ) (P : Pool) (k n : ℕ) → 1 ≤ k → k ≤ 9 → grantAligned row P n (alignOf k) ≡ grantAs row P k n
+unfolding grantAligned
+aligned-as row P k n s l =
+    let e : codeOf (alignOf k) ≡ k = code-align k s l in
+    choose-true (ltb 0 (codeOf (alignOf k))) _ _ (lt-ltb 0 (codeOf (alignOf k)) (omega (arith, e))) ∙ ap (λ j. grantAs row P j n) e
+
+module _ (row : ℕ) (pos : 0 < row) (a : List ℕ) (t : KeptBytes) (h : T (soundKept row (length a) t)) (n : ℕ) (p : Place)
+    (asked : Askable (align (p .state)) n) where
   abbrev P : Pool
   P = view row (t .tables)
 
@@ -321,31 +370,38 @@ module _ (row : ℕ) (pos : 0 < row) (a : List ℕ) (t : KeptBytes) (h : T (soun
   s = engine-lawful row pos .only (length a) t h .0
 
   -- the grant of a move
-  grant-done : (q : Place) → reserve row P n ≡ some q → call row a t (grants n) ≡ applied (engine row) a (grantAt row P (some q))
-  unfolding plan grant
+  abbrev asks : Call
+  asks = grantsAligned n (alignOf (align (p .state)))
+
+  grant-done : (q : Place) → reserve row P (align (p .state)) n ≡ some q → call row a t asks ≡ applied (engine row) a (grantAt row P (some q))
+  unfolding plan grantAs
   grant-done q e =
-      call-sound row a t (T-true (soundKept row (length a) t) h) (grants n) tt
-      ∙ ap (carried row a t) (choose-false (leb tooLarge n) _ (grantAt row P (reserve row P n)) (lt-leb tooLarge n small) ∙ ap (grantAt row P) e)
+      let k : ℕ = align (p .state) in
+      call-sound row a t (T-true (soundKept row (length a) t) h) asks tt
+      ∙ ap (carried row a t) (aligned-as row P k n (asked .some-code) (asked .last-code)
+      ∙ choose-false (leb tooLarge (enlarged k n)) _ (grantAt row P (reserve row P k n)) (lt-leb tooLarge (enlarged k n) (asked .small))
+      ∙ ap (grantAt row P) e)
       ∙ carried-whole row a t (grantAt row P (some q)) refl
 
   -- a resize that was done, of the block p
-  resized-as-said : (p : Place) → demand2.Intact row a P (start row p) p → (z : Result) → z .answer .number ≡ 0
+  resized-as-said : demand2.Intact row a P (start row p) p → (z : Result) → z .answer .number ≡ 0
       → z ≡ applied (engine row) a (resizeAt row P n p)
-      → InPlace row a (start row p) n p z ⊎ MovedBy row a (start row p) n p (call row a t (grants n)) z
+      → InPlace row a (start row p) n p z ⊎ MovedBy row a (start row p) n p (call row a t asks) z
   unfolding resizeAt resizeMove
-  resized-as-said p i z d l =
+  resized-as-said i z d l =
       choose-case (λ (r : Plan). z ≡ applied (engine row) a r → InPlace row a (start row p) n p z ⊎ M) (inPlace p n) (resizeInPlace row p n)
       (resizeMove row P p n)
       (λ e l. inl (in-place-as-said row pos a n p (place-formed row pos P (s .formed) a (start row p) p i)
-      (s .long ∙ ap (λ Q. row * rows row Q) (sym (i .live .here .slotted .pool))) (true-T (inPlace p n) e) z small (i .live .live) l))
-      (λ e l. inr (go e (reserve row P n) refl l)) l
+      (s .long ∙ ap (λ Q. row * rows row Q) (sym (i .live .here .slotted .pool))) asked (true-T (inPlace p n) e) z (i .live .live) l))
+      (λ e l. inr (go e (reserve row P (align (p .state)) n) refl l)) l
     where
       M : Type 0
-      M = MovedBy row a (start row p) n p (call row a t (grants n)) z
+      M = MovedBy row a (start row p) n p (call row a t asks) z
 
-      go : inPlace p n ≡ false → (r : Option Place) → reserve row P n ≡ r → z ≡ applied (engine row) a (moveTo row P p n r) → M
+      go : inPlace p n ≡ false → (r : Option Place) → reserve row P (align (p .state)) n ≡ r → z ≡ applied (engine row) a (moveTo row P p n r) → M
       go e none f l = absurd (omega (arith, d, ap (λ (r : Result). r .answer .number) l))
-      go e (some q) f l = moved row pos P (s .formed) a (s .long) n small q f p i (call row a t (grants n)) z (grant-done q f) (s .lawful) e l
+      go e (some q) f l =
+          moved row pos P (s .formed) a (s .long) n p asked q f i (call row a t asks) z (grant-done q f) (s .lawful) (s .bounds) e l
 
 pub resizes-as-said : (row : ℕ) → 0 < row → ResizesAsSaid row
 unfolding plan resize
@@ -355,24 +411,29 @@ resizes-as-said row pos a t o n z =
     let P : Pool = view row (t .tables) in
     let w : T (wellFormed P) = engine-lawful row pos .only (length a) t (y .sound-tables) .0 .formed in
     let (_, (n₃, m)) = none-due (Due row a t c) (order c) _ (demand1 row pos a t c .number) z in
-    let h : n < tooLarge = not-large n₃ in
+    let x : ℕ = newSize (lookup row P o) n in
+    let h : x < tooLarge = not-large x (λ g. n₃ (resize-large row pos P o n w .0 g)) in
     let (p, i) = found-intact row pos a t (y .sound-tables) c (NoRoom ∷ []) m in
+    let k : Askable (align (p .state)) n =
+    resizable row pos P o n w p (starts-found row pos P o p w (i .live .here)) (i .live .here .slotted .pool) (i .live .live) h in
     let l : call row a t c ≡ applied (engine row) a (resizeAt row P n p) =
     y .left
     ∙ ap (applied (engine row) a)
-    (choose-false (leb tooLarge n) _ (onBlock P (resizeAt row P n) (lookup row P o)) (lt-leb tooLarge n h)
+    (choose-false (leb tooLarge x) _ (onBlock P (resizeAt row P n) (lookup row P o)) (lt-leb tooLarge x h)
     ∙ on-intact row pos P w a o p i (resizeAt row P n)) in
     let e : start row p ≡ o = i .live .here .starts in (
       p,
       record {
         block = i;
         done = subst (λ o. Done o p) e
-            (resized-as-said row pos a t (y .sound-tables) n h p (subst (λ o. demand2.Intact row a P o p) (sym e) i) (call row a t c) z l);
+            (resized-as-said row pos a t (y .sound-tables) n p k (subst (λ o. demand2.Intact row a P o p) (sym e) i) (call row a t c) z l);
       },
     )
   where
-    not-large : (tooLarge ≤ n → ⊥) → n < tooLarge
-    not-large f = omega (arith, f)
+    not-large : (x : ℕ) → (tooLarge ≤ x → ⊥) → x < tooLarge
+    not-large x f = omega (arith, f)
 
     Done : ℕ → Place → Type 0
-    Done s p = InPlace row a s n p (call row a t (resizes o n)) ⊎ MovedBy row a s n p (call row a t (grants n)) (call row a t (resizes o n))
+    Done s p =
+        InPlace row a s n p (call row a t (resizes o n))
+        ⊎ MovedBy row a s n p (call row a t (grantsAligned n (alignOf (align (p .state))))) (call row a t (resizes o n))

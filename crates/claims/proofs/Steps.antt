@@ -1,30 +1,32 @@
 -- Every call keeps tables and arena in agreement, finds no damage, and leaves zeros where a block gains bytes.
 use Rattle.mem.proofs.Prelude.{_∙_, _≡_, sym, ap, refl, subst, some, List, [], _∷_, _++_, map, _+_, ℕ, _<_, _≤_, _*_, _-_, suc, zero, min, arith}
-use Rattle.mem.proofs.Prelude.{T, leb, leb→le, length, drop, getD, replicate}
+use Rattle.mem.proofs.Prelude.{T, leb, leb→le, lit≤, length, drop, getD, replicate}
 use native.Mathlib.Nat.{zero-mul}
 use lib.ListN.{length-take}
 use Rattle.mem.specs.Lists.{choose, every, any}
 use Rattle.mem.specs.Bytes.{zeros, put, part}
 use Rattle.mem.proofs.Tests.{and-left, and-both, every-right, every-append, choose-case}
 use Rattle.mem.proofs.Laws.{zeros-length, zeros-none, zero-put, zeros-put, put-all, put-past}
-use Rattle.classes.specs.Classes.{slotBytes, classOf, slotsOf, rowsOf, tooLarge}
+use Rattle.classes.specs.Classes.{slotBytes, classOf, slotsOf, rowsOf}
+use Rattle.classes.specs.Alignments.{ordinary, codeOf, enlarged, Askable}
 use Rattle.classes.proofs.Laws.{rows-hold}
 use Rattle.model.specs.declared.Slot.{Slot}
 use Rattle.model.specs.declared.Slot.the-variants.{Fresh, Idle, Live}
 use Rattle.model.specs.declared.Refusal.{Refusal}
 use Rattle.model.specs.declared.Damage.the-variants.{Intact}
-use Rattle.model.specs.State.{Pool, Place, group, isLive, disp, size, slotSound, wellFormed, poolOf, become, slotNumber, rows, base, start, owned}
+use Rattle.model.specs.State.{Pool, Place, group, isLive, disp, size, align, slotSound, wellFormed, poolOf, become, slotNumber, rows, base, start, owned}
 use Rattle.model.specs.Blocks.{reserved, header, spare}
+use Rattle.model.specs.Answers.{done}
 use Rattle.model.specs.Plans.{Plan, refused, turnReady, refill, grantIn, reserve, enframe, vacant, releaseAt, release, inPlace, resizeInPlace, moveTo}
-use Rattle.model.specs.Plans.{measureAt, measure, report, freshPool, Call, setsUp, grants, releases, resizes, measures, reports, grantsList, plan, lookup}
-use Rattle.model.specs.Plans.{reserveAll, poolAfter}
+use Rattle.model.specs.Plans.{measureAt, measure, report, freshPool, Call, setsUp, grants, grantsAligned, releases, resizes, measures, reports, grantsList}
+use Rattle.model.specs.Plans.{plan, lookup, grantAt, reserveAll, poolAfter}
 use Rattle.model.proofs.Lists.{small, by-grants, on-list}
 use Rattle.model.specs.Calls.{write, written, damaged}
 use Rattle.model.proofs.Lookup.{Fits, fits, disp-inside}
-use Rattle.model.proofs.Reserve.{Served, served, reserve-formed, refill-sound, reserve-size}
+use Rattle.model.proofs.Reserve.{plain, Served, served, reserve-formed, refill-sound, reserve-size}
 use Rattle.model.proofs.Formed.{become-fits, vacant-sound}
-use Rattle.claims.specs.Demand3.{sizeAt, Cleared}
-use Rattle.claims.proofs.Cases.{release-parts, Named, on-named, on-grant, on-resize, reserve-live, taken-same, refuses}
+use Rattle.claims.specs.Demand3.{sizeAt, Gains, Cleared}
+use Rattle.claims.proofs.Cases.{release-parts, Named, on-named, on-grant, on-aligned, on-resize, reserve-live, taken-same, refuses}
 use Rattle.claims.proofs.Gathers.{framed, list-clears}
 use Rattle.claims.proofs.Cells.{due, slotCells, slotsCells, pad, spanCells, cells, cells-append, cells-length, group-length, fresh-pool-cells, zeros-due}
 use Rattle.claims.proofs.Cells.{due-zeros, Agrees, agrees-length, agrees-due, agrees-over, agrees-frame, undamaged, slot-written, copied, resized}
@@ -57,30 +59,30 @@ module _ (row : ℕ) (pos : 0 < row) where
 
   -- ---- grant
 
-  module _ (P : Pool) (n : ℕ) (q : Place) (w : T (wellFormed P)) (h : n < tooLarge) (r : reserve row P n ≡ some q) where
+  module _ (P : Pool) (k n : ℕ) (q : Place) (w : T (wellFormed P)) (h : Askable k n) (r : reserve row P k n ≡ some q) where
     -- framed in an arena that agrees, it leaves one that agrees
     reserve-agrees : (a : List ℕ) → Agrees (cells row P) a → Agrees (cells row (poolOf q)) (write a (enframe row q))
     unfolding grantIn enframe
     reserve-agrees a g =
-        let v : Served row P n q = served row P n q w r in
-        let c : ℕ = classOf n in
+        let v : Served row P k n q = served row P k n q w r in
+        let c : ℕ = classOf (enlarged k n) in
         let x : Slot = v .taken .old in
-        let f : Fits q = fits q (reserve-formed row P n q w h r .formed) in
+        let f : Fits q = fits q (reserve-formed row P k n q w h r .formed) in
         let t : T (every (slotSound c) (q .lower ++ (x ∷ q .upper))) =
         subst (λ ss. T (every (slotSound c) ss)) (v .taken .slots) (refill-sound c (v .at .slots) (v .ground .sound)) in
         let u : T (slotSound c x) = and-left (slotSound c x) (every (slotSound c) (q .upper)) (every-right (slotSound c) (q .lower) (x ∷ q .upper) t) in
-        let y : T (slotSound (q .cls) x) = subst (λ k. T (slotSound k x)) (sym (ap (λ p. p .cls) (v .place))) u in
+        let y : T (slotSound (q .cls) x) = subst (λ i. T (slotSound i x)) (sym (ap (λ p. p .cls) (v .place))) u in
         let e : cells row (poolOf (become q x)) ≡ cells row P =
-        taken-same row (cells row) (λ X c ss Y. simp (cells-append, refill-cells)) (λ X c Y. simp (cells-append, new-cells, fresh-pool-cells)) P n q v in
+        taken-same row (cells row) (λ X c ss Y. simp (cells-append, refill-cells)) (λ X c Y. simp (cells-append, new-cells, fresh-pool-cells)) P k n q v in
         slot-written row pos (become q x) (become-fits q x f y) a (q .state) _ (f .state)
-        (agrees-frame (q .cls) (slotNumber q) (q .state) (reserve-live row P n q v)) (subst (λ l. Agrees l a) (sym e) g)
+        (agrees-frame (q .cls) (slotNumber q) (q .state) (reserve-live row P k n q v)) (subst (λ l. Agrees l a) (sym e) g)
 
   -- a list of grants
   list-agrees : (P : Pool) (ns : List ℕ) (qs : List Place) → T (wellFormed P) → T (small ns) → reserveAll row P ns ≡ some qs
       → (a : List ℕ) → Agrees (cells row P) a → Agrees (cells row (poolAfter P qs)) (written a (map (enframe row) qs))
   list-agrees =
       by-grants row (λ P ns qs. (a : List ℕ) → Agrees (cells row P) a → Agrees (cells row (poolAfter P qs)) (written a (map (enframe row) qs)))
-      (λ P a g. g) (λ P n ns q qs w h r k a g. k (write a (enframe row q)) (reserve-agrees P n q w h r a g))
+      (λ P a g. g) (λ P n ns q qs w h r k a g. k (write a (enframe row q)) (reserve-agrees P ordinary n q w (plain h) r a g))
 
   -- ---- release
 
@@ -178,18 +180,20 @@ module _ (row : ℕ) (pos : 0 < row) where
 
   module _ (P : Pool) (w : T (wellFormed P)) (a : List ℕ) (g : Agrees (cells row P) a) where
     -- "a grant of n is made while the old block is live, that many bytes are copied, then the old is released"
-    moved-kept : (p q : Place) (o n : ℕ) → Named row P o p → n < tooLarge → reserve row P n ≡ some q → Kept P (resizes o n) a (moveTo row P p n (some q))
+    moved-kept : (p q : Place) (o n : ℕ) → Named row P o p → Askable (align (p .state)) n → reserve row P (align (p .state)) n ≡ some q
+        → Kept P (resizes o n) a (moveTo row P p n (some q))
     unfolding Cleared
     moved-kept p q o n b h r =
+        let m : ℕ = align (p .state) in
         let k : ℕ = min (size (p .state)) n in
         let x : List ℕ = write a (enframe row q) in
         let bs : List ℕ = part (start row p) k x in
-        let z : size (q .state) ≡ n = reserve-size row P n q w r in
+        let z : size (q .state) ≡ n = reserve-size row P m n q w r in
         let e : sizeAt row (lookup row P o) ≡ size (p .state) = ap (sizeAt row) (b .found) in
         let j : length bs ≤ k = omega (arith, length-take k (drop (start row p) x)) in
-        let w′ : T (wellFormed (poolOf q)) = reserve-formed row P n q w h r .formed in
+        let w′ : T (wellFormed (poolOf q)) = reserve-formed row P m n q w h r .formed in
         let y : Agrees (cells row (poolOf q)) (put (start row q) bs x) =
-        copied row pos q (fits q w′) (reserve-live row P n q (served row P n q w r)) x bs (omega arith) (reserve-agrees P n q w h r a g) in
+        copied row pos q (fits q w′) (reserve-live row P m n q (served row P m n q w r)) x bs (omega arith) (reserve-agrees P m n q w h r a g) in
         record {
           agrees = release-kept (poolOf q) w′ (put (start row q) bs x) y (start row p) .agrees;
           whole = block-whole P w a g p o b;
@@ -197,6 +201,16 @@ module _ (row : ℕ) (pos : 0 < row) where
               release-zero (poolOf q) (start row p) (put (start row q) bs x) i
               (put-past (start row q) bs x i 0 (omega (arith, g .0)) ∙ framed row q a i (omega (arith, g .0)) (omega (arith, g .1)));
         }
+
+    -- a call that grants a block, whose bytes it gains
+    granted-kept : (c : Call) (k n : ℕ) (q : Place) → Askable k n → reserve row P k n ≡ some q
+        → ((i : ℕ) → Gains row P c (done (start row q ∷ [])) i → (start row q ≤ i) × (i < start row q + n)) → Kept P c a (grantAt row P (some q))
+    unfolding Cleared
+    granted-kept c k n q h e gains = record {
+      agrees = reserve-agrees P k n q w h e a g;
+      whole = refl;
+      cleared = λ z i x. framed row q a i (gains i x .0) (omega (arith, gains i x .1, reserve-size row P k n q w e));
+    }
 
     pub plan-kept : (c : Call) → Kept P c a (plan row P c)
     unfolding plan measure report Cleared
@@ -206,15 +220,14 @@ module _ (row : ℕ) (pos : 0 < row) where
       cleared = λ z i g. absurd g;
     }
     plan-kept (grants n) =
-        on-grant row pos P (Kept P (grants n) a) (refused-kept P w a g (grants n)) n
-        (λ q h e. record {
-          agrees = reserve-agrees P n q w h e a g;
-          whole = refl;
-          cleared = λ z i g. framed row q a i (g .0) (omega (arith, g .1, reserve-size row P n q w e));
-        })
+        on-grant row pos P (Kept P (grants n) a) (refused-kept P w a g (grants n)) ordinary n (lit≤ tt) (lit≤ tt)
+        (λ q h e. granted-kept (grants n) ordinary n q h e (λ i x. x))
+    plan-kept (grantsAligned n b) =
+        on-aligned row pos P (Kept P (grantsAligned n b) a) (refused-kept P w a g (grantsAligned n b)) n b
+        (λ q h e. granted-kept (grantsAligned n b) (codeOf b) n q h e (λ i x. x))
     plan-kept (releases o) = release-kept P w a g o
     plan-kept (resizes o n) =
-        on-resize row pos P (Kept P (resizes o n) a) (refused-kept P w a g (resizes o n)) o n (λ p b t. in-place-kept P w a g p o n b t)
+        on-resize row pos P (Kept P (resizes o n) a) (refused-kept P w a g (resizes o n)) w o n (λ p b t. in-place-kept P w a g p o n b t)
         (λ p b. record { agrees = g; whole = block-whole P w a g p o b; cleared = λ z. absurd (omega arith) }) (λ p q b h e. moved-kept p q o n b h e)
     plan-kept (measures o) =
         on-named row pos P (Kept P (measures o) a) (refused-kept P w a g (measures o)) o (measureAt row P)

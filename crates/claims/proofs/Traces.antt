@@ -6,11 +6,11 @@ use Rattle.mem.specs.Lists.{choose}
 use Rattle.mem.specs.Bytes.{zeros, put}
 use Rattle.mem.proofs.Laws.{zeros-length, put-length, put-before, put-past}
 use Rattle.classes.specs.Classes.{rowBytes}
-use Rattle.model.specs.State.{Pool, wellFormed}
+use Rattle.model.specs.State.{Pool, wellFormed, aligned}
 use Rattle.model.specs.Plans.{Plan, Call, grants, releases, resizes, measures, reports, plan}
 use Rattle.model.specs.Tables.{arenaRight, roomBytes}
 use Rattle.model.specs.Calls.{KeptBytes, keptIn, Result, engine, applied, call, callBy, written, setUpRight, setUpRightBy}
-use Rattle.model.proofs.Fresh.{fresh-formed, whole-rows, set-up-lawful, set-up-done}
+use Rattle.model.proofs.Fresh.{fresh-formed, all-fresh, whole-rows, whole-units, set-up-lawful, set-up-done}
 use Rattle.model.proofs.Formed.{Formed, plan-formed}
 use Rattle.trace.specs.Trace.{Operation, grant, release, resize, measure, store, report, Item, does, items, traceRight}
 use Rattle.trace.specs.Replay.{noTotals, arenaBytes, Line, Effect, effect, lineThen, performed, linesFrom, replayedOver, replayed}
@@ -27,6 +27,7 @@ use Rattle.claims.proofs.Demand3.{call-follows}
 -- a state of the model, and the arena of n bytes and the room that hold it
 record Holds (row n : ℕ) (P : Pool) (a : List ℕ) (t : KeptBytes) : Type 0 where
   formed : T (wellFormed P)
+  bounds : T (aligned row P)
   long : length a ≡ n
   agrees : Agrees (cells row P) a
   room : t ≡ engine row .encode P
@@ -63,9 +64,13 @@ module _ (row : ℕ) (pos : 0 < row) (n : ℕ) (h : T (arenaRight row n)) where
         let l : length x ≡ n =
         arena-length row pos (p .pool) (m .formed) x g ∙ ap (λ k. row * k) (m .long) ∙ sym (arena-length row pos P (r .formed) a (r .agrees)) ∙ r .long in
         let e : call row a t c ≡ applied (engine row) a p =
-        ap (λ t. call row a t c) (r .room) ∙ call-follows row pos P (r .formed) a (subst (λ m. T (arenaRight row m)) (sym (r .long)) h) (r .agrees) c in
+        ap (λ t. call row a t c) (r .room)
+        ∙ call-follows row pos P (r .formed) (r .bounds) a (subst (λ m. T (arenaRight row m)) (sym (r .long)) h) (r .agrees) c in
         subst (λ z. Follows row n (effect z) (stepped p)) (sym e)
-        (record { tells = refl; holds = record { formed = m .formed; long = l; agrees = g; room = refl } })
+        (record {
+          tells = refl;
+          holds = record { formed = m .formed; bounds = m .bounds (whole-units row n h) (r .bounds); long = l; agrees = g; room = refl };
+        })
 
     -- every record; a store changes no byte that the tables fix
     acted : (x : Operation) → Lies row P x → Follows row n (performed row a t x) (steps row n P x)
@@ -77,6 +82,7 @@ module _ (row : ℕ) (pos : 0 < row) (n : ℕ) (h : T (arenaRight row n)) where
     acted (store o bs) s =
         let after : Holds row n P (put o bs a) t = record {
           formed = r .formed;
+          bounds = r .bounds;
           long = put-length o bs a ∙ r .long;
           agrees = engine-keeps row pos P (r .formed) a (put o bs a) (stored-outside row P a o bs s) (r .agrees);
           room = r .room;
@@ -149,6 +155,7 @@ module _ (row : ℕ) (pos : 0 < row) where
       let w : T (arenaRight row n) = set-up-lawful row a t h in
       let r : Holds row n P (zeros n) (engine row .encode P) = record {
         formed = fresh-formed (n / row);
+        bounds = all-fresh row (n / row);
         long = zeros-length n;
         agrees = subst (λ m. Agrees (cells row P) (zeros m)) (whole-rows row n w) (fresh-agrees row pos (n / row));
         room = refl;

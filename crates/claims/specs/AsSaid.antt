@@ -10,11 +10,12 @@ use lib.ListN.{length, getD}
 use Rattle.mem.specs.Lists.{any, every}
 use Rattle.mem.specs.Bytes.{low, part}
 use Rattle.classes.specs.Classes.{slotBytes, classOf, rowsOf}
+use Rattle.classes.specs.Alignments.{alignOf}
 use Rattle.model.specs.declared.Slot.the-variants.{Idle, Live}
-use Rattle.model.specs.State.{Pool, Place, isLive, count, disp, size, poolOf, become, base, beginning, owned, start}
+use Rattle.model.specs.State.{Pool, Place, isLive, count, disp, size, align, poolOf, become, base, beginning, owned, start}
 use Rattle.model.specs.Blocks.{reserved, guard}
 use Rattle.model.specs.Answers.{done, listed}
-use Rattle.model.specs.Plans.{copies, Call, setsUp, grants, releases, resizes, measures, reports, freshPool, totals}
+use Rattle.model.specs.Plans.{copies, Call, setsUp, grantsAligned, releases, resizes, measures, reports, freshPool, totals}
 use Rattle.model.specs.Tables.{view, sound}
 use Rattle.model.specs.Calls.{KeptBytes, Result, write, soundKept, call}
 use Rattle.claims.specs.Demand1.{StartsAt, guardDue}
@@ -26,14 +27,22 @@ pub record ZeroedOnly (a b : List ℕ) (from k : ℕ) : Type 0 where
   pub zero : (i : ℕ) → from ≤ i → i < from + k → getD b i 0 ≡ 0
   pub others : (i : ℕ) → (i < from) ⊎ (from + k ≤ i) → getD b i 0 ≡ getD a i 0
 
--- "In place if n is at most s − 4 − 16d and the block's class is at most one above n's class"
+-- a block's class is that of a size or the next one up
+abbrev pub Near : (c n : ℕ) → Type 0
+Near c n = (c ≡ classOf n) ⊎ (c ≡ suc (classOf n))
+
+-- 02 §6: "it is in place if n itself fits as in 01 and the block's class is that of the enlarged size or the next one up"
 pub record Serves (p : Place) (n : ℕ) : Type 0 where
   pub fits : n ≤ slotBytes (p .cls) - 4 - 16 * disp (p .state)
-  pub near : p .cls ≤ suc (classOf n)
+  pub near : Near (p .cls) (n + (alignOf (align (p .state)) - 16))
 
--- the block with another size: "Count and start change only by such a grant."
+-- of an ordinary block that is document 01's: "In place if n is at most s − 4 − 16d and the block's class is at most one above n's class"
+abbrev pub ServesOrdinary : Type 0
+ServesOrdinary = (c d n : ℕ) → c < 48 → n ≤ slotBytes c - 4 - 16 * d → Near c n ↔ (c ≤ suc (classOf n))
+
+-- the block with another size: "Count and start change only by such a grant." It keeps its alignment.
 abbrev pub sized : Place → ℕ → Place
-sized p n = become p (Live (record { count = count (p .state); disp = disp (p .state); size = n }))
+sized p n = become p (Live (record { count = count (p .state); disp = disp (p .state); size = n; align = align (p .state) }))
 
 -- as many bytes as stay: "the lesser of old and new n"
 abbrev pub stay : Place → ℕ → ℕ
@@ -134,8 +143,9 @@ module _ (row : ℕ) where
     -- no byte before the header or behind the block changes
     pub others : (i : ℕ) → (i + 4 < o) ⊎ (owned row p + slotBytes (p .cls) ≤ i) → getD (r .arena) i 0 ≡ getD a i 0
 
-  -- "Otherwise a grant of n is made while the old block is live, that many bytes are copied, then the old is released": g is what the
-  -- grant leaves, v the new start, b the arena after the copy
+  -- "Otherwise a grant of n is made while the old block is live, that many bytes are copied, then the old is released". 02 §6: "Resize of an
+  -- aligned block keeps the boundary": the grant is one of the block's alignment, which for an ordinary block is a plain one. g is what it
+  -- leaves, v the new start, b the arena after the copy
   pub record Moved (a : List ℕ) (o n : ℕ) (p : Place) (g : Result) (v : ℕ) (b : List ℕ) (r : Result) : Type 0 where
     pub serves-not : Serves p n → ⊥
     pub granted : g .answer .number ≡ 0
@@ -151,7 +161,8 @@ module _ (row : ℕ) where
 
   pub record Resized (a : List ℕ) (t : KeptBytes) (o n : ℕ) (p : Place) : Type 0 where
     pub block : Intact row a (view row (t .tables)) o p
-    pub done : InPlace a o n p (call row a t (resizes o n)) ⊎ MovedBy a o n p (call row a t (grants n)) (call row a t (resizes o n))
+    pub done : InPlace a o n p (call row a t (resizes o n)) ⊎ MovedBy a o n p (call row a t (grantsAligned n (alignOf (align (p .state)))))
+        (call row a t (resizes o n))
 
   abbrev pub ResizesAsSaid : Type 0
   ResizesAsSaid = (a : List ℕ) (t : KeptBytes) (o n : ℕ) → call row a t (resizes o n) .answer .number ≡ 0 → (p : Place) × Resized a t o n p

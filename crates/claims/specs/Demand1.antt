@@ -1,6 +1,6 @@
 -- Demand 1: "Any arena bytes, table bytes, offset and size may be given. Every call ends with an answer of document 01's table. A
 -- refusal names its reason, in the fixed order, and changes no byte of arena or tables."
-use Prim.Native.Nat.{ℕ, _*_, _≤_, _<_}
+use Prim.Native.Nat.{ℕ, _+_, _*_, _-_, _^_, _≤_, _<_}
 use mathlib.Core.Path.{_≡_}
 use mathlib.Core.Bool.{Bool, not}
 use mathlib.Core.Logic.{_⊎_}
@@ -9,41 +9,35 @@ use mathlib.Core.List.{List, [], _∷_, _++_}
 use lib.Dec.{T}
 use lib.ListN.{length}
 use Rattle.classes.specs.Classes.{classOf, tooLarge}
+use Rattle.classes.specs.Alignments.{alignOf}
 use Rattle.model.specs.declared.Refusal.{Refusal}
 use Rattle.model.specs.declared.Refusal.the-variants.{BadArena, Unsound, TooLarge, NoSuchBlock, AlreadyFree, HeaderDamaged, Overrun, NoRoom, TooLong}
-use Rattle.model.specs.declared.Refusal.the-variants.{BadProposal}
-use Rattle.model.specs.State.{Pool, Place, isLive, granted, disp, size, poolOf, slotNumber, start}
+use Rattle.model.specs.declared.Refusal.the-variants.{BadProposal, BadAlignment}
+use Rattle.model.specs.State.{Pool, Place, isLive, granted, disp, size, align, poolOf, slotNumber, start}
 use Rattle.model.specs.Blocks.{headerRight, guardRight, ownedBytes}
 use Rattle.model.specs.Answers.{numberOf}
 use Rattle.model.specs.Proposals.{entries, accepts}
-use Rattle.model.specs.Plans.{Call, setsUp, grants, releases, resizes, measures, reports, grantsList, inPlace, reserveAll, poolAfter, NoPlace}
+use Rattle.model.specs.Plans.{Call, setsUp, grants, grantsAligned, releases, resizes, measures, reports, grantsList, inPlace, reserveAll, poolAfter, NoPlace}
 use Rattle.model.specs.Tables.{view}
 use Rattle.model.specs.Calls.{KeptBytes, soundKept, call, setUpRight}
 
 -- "They are tested in this order, each where it applies: grant 2, 3, 8; release and measure 2, 4, 5, 6, 7; resize all of 2 to 8;
--- report 2." 02 §3: "Order: 2, 9, 17, 8."
+-- report 2." 02 §3: "Order: 2, 9, 17, 8." 02 §6: "answer 13, tested between 2 and 3"
 abbrev pub order : Call → List Refusal
 order setsUp = BadArena ∷ []
 order (grants n) = Unsound ∷ TooLarge ∷ NoRoom ∷ []
+order (grantsAligned n b) = Unsound ∷ BadAlignment ∷ TooLarge ∷ NoRoom ∷ []
 order (releases o) = Unsound ∷ NoSuchBlock ∷ AlreadyFree ∷ HeaderDamaged ∷ Overrun ∷ []
 order (resizes o n) = Unsound ∷ TooLarge ∷ NoSuchBlock ∷ AlreadyFree ∷ HeaderDamaged ∷ Overrun ∷ NoRoom ∷ []
 order (measures o) = Unsound ∷ NoSuchBlock ∷ AlreadyFree ∷ HeaderDamaged ∷ Overrun ∷ []
 order reports = Unsound ∷ []
 order (grantsList total cap places ns) = Unsound ∷ TooLong ∷ BadProposal ∷ NoRoom ∷ []
 
--- what a call names
-abbrev pub sizeIn : Call → ℕ
-sizeIn setsUp = 0
-sizeIn (grants n) = n
-sizeIn (releases o) = 0
-sizeIn (resizes o n) = n
-sizeIn (measures o) = 0
-sizeIn reports = 0
-sizeIn (grantsList total cap places ns) = 0
-
+-- the offset that a call names
 abbrev pub offsetIn : Call → ℕ
 offsetIn setsUp = 0
 offsetIn (grants n) = 0
+offsetIn (grantsAligned n b) = 0
 offsetIn (releases o) = o
 offsetIn (resizes o n) = o
 offsetIn (measures o) = o
@@ -59,6 +53,7 @@ FirstDue Due (r ∷ rs) k = ((k ≡ numberOf r) × Due r) ⊎ ((Due r → ⊥) �
 abbrev pub refusedValues : Call → List ℕ
 refusedValues setsUp = 0 ∷ []
 refusedValues (grants n) = 0 ∷ []
+refusedValues (grantsAligned n b) = 0 ∷ []
 refusedValues (releases o) = 0 ∷ []
 refusedValues (resizes o n) = 0 ∷ []
 refusedValues (measures o) = 0 ∷ []
@@ -77,11 +72,27 @@ pub data TooLongList (total cap places : ℕ) : Type 0 where
 abbrev pub OfList : ((total cap places : ℕ) → List ℕ → Type 0) → Call → Type 0
 OfList M setsUp = ⊥
 OfList M (grants n) = ⊥
+OfList M (grantsAligned n b) = ⊥
 OfList M (releases o) = ⊥
 OfList M (resizes o n) = ⊥
 OfList M (measures o) = ⊥
 OfList M reports = ⊥
 OfList M (grantsList total cap places ns) = M total cap places ns
+
+-- 02 §6: "Alignments 1, 2, 4, 8 and 16 are an ordinary grant. Any other that is not a power of two up to 4,096 is answer 13"
+abbrev pub NoAlignment : ℕ → Type 0
+NoAlignment b = (j : ℕ) → j ≤ 12 → b ≡ 2 ^ j → ⊥
+
+-- what holds of the alignment that a call asks for; of a call that asks for none it does not
+abbrev pub OfAlignment : (ℕ → Type 0) → Call → Type 0
+OfAlignment M setsUp = ⊥
+OfAlignment M (grants n) = ⊥
+OfAlignment M (grantsAligned n b) = M b
+OfAlignment M (releases o) = ⊥
+OfAlignment M (resizes o n) = ⊥
+OfAlignment M (measures o) = ⊥
+OfAlignment M reports = ⊥
+OfAlignment M (grantsList total cap places ns) = ⊥
 
 module _ (row : ℕ) where
   -- a granted slot of a pool, and the one whose last start an offset is
@@ -115,12 +126,26 @@ module _ (row : ℕ) where
     pub granted-before : reserveAll row P earlier ≡ some places
     pub no-place : NoPlace row (poolAfter P places) (classOf size)
 
+  -- "too large: n is 131,052 or more". 02 §6: "an enlarged size of 131,052 or more is 3", which is n + align − 16, or n up to an alignment of
+  -- 16; "Resize .. : answer 3 reads the enlarged new size where the offset starts such a live block"
+  abbrev pub TooLargeFor : Pool → Call → Type 0
+  TooLargeFor P setsUp = ⊥
+  TooLargeFor P (grants n) = tooLarge ≤ n
+  TooLargeFor P (grantsAligned n b) = tooLarge ≤ n + (b - 16)
+  TooLargeFor P (releases o) = ⊥
+  TooLargeFor P (resizes o n) = (tooLarge ≤ n) ⊎ ((p : Place) × LiveAt P o p × (tooLarge ≤ n + (alignOf (align (p .state)) - 16)))
+  TooLargeFor P (measures o) = ⊥
+  TooLargeFor P reports = ⊥
+  TooLargeFor P (grantsList total cap places ns) = ⊥
+
   -- no room: for a resize, of a block that is not changed in place
   abbrev pub NoRoomFor : Pool → Call → Type 0
   NoRoomFor P setsUp = ⊥
   NoRoomFor P (grants n) = NoPlace row P (classOf n)
+  NoRoomFor P (grantsAligned n b) = NoPlace row P (classOf (n + (b - 16)))
   NoRoomFor P (releases o) = ⊥
-  NoRoomFor P (resizes o n) = ((p : Place) → LiveAt P o p → T (not (inPlace p n))) × NoPlace row P (classOf n)
+  NoRoomFor P (resizes o n) =
+      (p : Place) × LiveAt P o p × T (not (inPlace p n)) × NoPlace row P (classOf (n + (alignOf (align (p .state)) - 16)))
   NoRoomFor P (measures o) = ⊥
   NoRoomFor P reports = ⊥
   NoRoomFor P (grantsList total cap places ns) = Meets P ns
@@ -129,7 +154,7 @@ module _ (row : ℕ) where
   abbrev pub Due : List ℕ → KeptBytes → Call → Refusal → Type 0
   Due a t c BadArena = T (not (setUpRight row a t))
   Due a t c Unsound = T (not (soundKept row (length a) t))
-  Due a t c TooLarge = tooLarge ≤ sizeIn c
+  Due a t c TooLarge = TooLargeFor (view row (t .tables)) c
   Due a t c NoSuchBlock = (p : Place) → StartsAt (view row (t .tables)) (offsetIn c) p → ⊥
   Due a t c AlreadyFree = (p : Place) × StartsAt (view row (t .tables)) (offsetIn c) p × T (not (isLive (p .state)))
   Due a t c HeaderDamaged = (p : Place) × LiveAt (view row (t .tables)) (offsetIn c) p × T (not (headerDue a p))
@@ -138,6 +163,7 @@ module _ (row : ℕ) where
   Due a t c TooLong = OfList (λ total cap places ns. TooLongList total cap places) c
   -- 02 §3: "Answer 17, bad proposal, exactly if the check refuses it."
   Due a t c BadProposal = OfList (λ total cap places ns. T (not (accepts total cap ns))) c
+  Due a t c BadAlignment = OfAlignment NoAlignment c
 
   -- DEMAND 1, of any bytes, any record and any call; 02 §3: "A refused list leaves arena, tables and lent list unchanged"; 02 §4: "a refusal
   -- keeps it", the record, which is lent with the tables

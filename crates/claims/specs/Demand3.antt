@@ -12,7 +12,8 @@ use lib.ListN.{length, getD, set}
 use Rattle.mem.specs.Lists.{any}
 use Rattle.model.specs.State.{Pool, Place, isLive, size, places, start}
 use Rattle.model.specs.Answers.{Answer, done, listed}
-use Rattle.model.specs.Plans.{Call, setsUp, grants, releases, resizes, measures, reports, grantsList, plan, lookup, totals, freshPool}
+use Rattle.model.specs.Plans.{Call, setsUp, grants, grantsAligned, releases, resizes, measures, reports, grantsList}
+use Rattle.model.specs.Plans.{plan, lookup, totals, freshPool}
 use Rattle.model.specs.Tables.{encode, roomFor}
 use Rattle.model.specs.Calls.{KeptBytes, call, setUp, setUpRight}
 
@@ -106,6 +107,7 @@ module _ (row : ℕ) where
   abbrev pub Gains : Pool → Call → Answer → ℕ → Type 0
   Gains P setsUp r i = ⊥
   Gains P (grants n) r i = (value r ≤ i) × (i < value r + n)
+  Gains P (grantsAligned n b) r i = (value r ≤ i) × (i < value r + n)
   Gains P (releases o) r i = ⊥
   Gains P (resizes o n) r i = (value r + min (sizeAt (lookup row P o)) n ≤ i) × (i < value r + n)
   Gains P (measures o) r i = ⊥

@@ -10,8 +10,11 @@ use Rattle.trace.specs.Written.{ReadsBack, WritesBack}
 use Rattle.claims.specs.Tables.{TableForm}
 use Rattle.claims.specs.Bench.{TooLargeAnywhere}
 use Rattle.claims.specs.Demand1.{Demand1}
-use Rattle.claims.specs.Demand2.{ReleasesExactly, MeasuresExactly, GrantsExactly, GrantsAsSaid, NeverShared, LeavesSound}
-use Rattle.claims.specs.AsSaid.{NeverAtZero, GuardsAsSaid, SetsUpAsSaid, ReadsOnly, ReportsAsSaid, ReleasesAsSaid, ResizesAsSaid}
+use Rattle.claims.specs.Demand2.{ReleasesExactly, MeasuresExactly, GrantsExactly, AlignedExactly, GrantsAsSaid, AlignedAsSaid, AlignedOrdinary}
+use Rattle.claims.specs.Demand2.{NeverShared}
+use Rattle.claims.specs.Demand2.{LeavesSound}
+use Rattle.claims.specs.AsSaid.{ServesOrdinary, NeverAtZero, GuardsAsSaid, SetsUpAsSaid, ReadsOnly, ReportsAsSaid, ReleasesAsSaid, ResizesAsSaid}
+use Rattle.claims.specs.Alignment.{OnBoundaries, ResizesKeepAlignment, AlignmentStays}
 use Rattle.claims.specs.Demand3.{RoomFollows, SteersNothing, StoresAdmitted}
 use Rattle.claims.specs.Lists.{PlansAsSaid, ListsAsGrants, ListsExactly}
 use Rattle.claims.specs.History.{History}
@@ -25,10 +28,14 @@ pub record Demands (row : ℕ) : Type 0 where
   pub releases-exactly : ReleasesExactly row
   pub measures-exactly : MeasuresExactly row
   pub grants-exactly : GrantsExactly row
+  pub aligned-exactly : AlignedExactly row
   pub sets-up-as-said : SetsUpAsSaid row
   pub grants-as-said : GrantsAsSaid row
+  pub aligned-as-said : AlignedAsSaid row
+  pub aligned-ordinary : AlignedOrdinary row
   pub releases-as-said : ReleasesAsSaid row
   pub resizes-as-said : ResizesAsSaid row
+  pub serves-ordinary : ServesOrdinary
   pub reports-as-said : ReportsAsSaid row
   pub reads-only : ReadsOnly row
   pub never-at-zero : NeverAtZero row
@@ -38,6 +45,10 @@ pub record Demands (row : ℕ) : Type 0 where
   pub plans-as-said : PlansAsSaid
   pub lists-as-grants : ListsAsGrants row
   pub lists-exactly : ListsExactly row
+  -- aligned blocks are on their boundaries, and calls keep alignments
+  pub on-boundaries : OnBoundaries row
+  pub resizes-keep-alignment : ResizesKeepAlignment row
+  pub alignment-stays : AlignmentStays row
   -- 3: packet contents steer nothing
   pub steers-nothing : SteersNothing row
   pub stores-admitted : StoresAdmitted row

@@ -9,7 +9,7 @@ use lib.ListN.{length, getD}
 use Rattle.mem.specs.Lists.{choose, sum}
 use Rattle.model.specs.declared.Totals.{Totals}
 use Rattle.model.specs.Answers.{Answer, done, listed}
-use Rattle.model.specs.Plans.{Call, setsUp, grants, releases, resizes, measures, reports, grantsList}
+use Rattle.model.specs.Plans.{Call, setsUp, grants, grantsAligned, releases, resizes, measures, reports, grantsList}
 use Rattle.model.specs.Calls.{KeptBytes, call, setUp, setUpRight}
 
 -- a call over whatever arena bytes
@@ -50,6 +50,7 @@ enteredEach l (v ∷ vs) (n ∷ ns) = enteredEach (enteredGrant l v n) vs ns
 abbrev pub entered : Ledger → Call → Answer → Ledger
 entered l setsUp r = opening
 entered l (grants n) r = enteredGrant l (getD (r .values) 0 0) n
+entered l (grantsAligned n b) r = enteredGrant l (getD (r .values) 0 0) n
 entered l (releases o) r = record { granted = l .granted; released = suc (l .released); blocks = without o (l .blocks) }
 entered l (resizes o n) r =
     record { granted = l .granted; released = l .released; blocks = record { start = getD (r .values) 0 0; size = n } ∷ without o (l .blocks) }

@@ -7,13 +7,13 @@ use lib.Dec.{T, ltb}
 use lib.ListN.{length}
 use Rattle.mem.specs.Lists.{every}
 use Rattle.mem.specs.Bytes.{zeros}
-use Rattle.model.specs.State.{Pool, wellFormed, rows}
+use Rattle.model.specs.State.{Pool, wellFormed, aligned, rows}
 use Rattle.model.specs.Tables.{encode, view, sound, arenaRight, roomBytes, roomFor}
 
 pub record TableForm (row : ℕ) : Type 0 where
   -- "One state of the tables has one byte form over the whole room": the form says the state, and is sound
   pub says : (P : Pool) → T (wellFormed P) → view row (encode row P) ≡ P
-  pub accepted : (P : Pool) (n : ℕ) → T (wellFormed P) → T (arenaRight row n) → n ≡ row * rows row P → T (sound row n (encode row P))
+  pub accepted : (P : Pool) (n : ℕ) → T (wellFormed P) → T (aligned row P) → T (arenaRight row n) → n ≡ row * rows row P → T (sound row n (encode row P))
   -- "other bytes are unsound"
   pub only : (n : ℕ) (t : List ℕ) → T (sound row n t) → encode row (view row t) ≡ t
   pub never-set-up : (n k : ℕ) → sound row n (zeros k) ≡ false

@@ -1,7 +1,9 @@
-// The 48 size classes: units of a slot, slots and rows of a group, and the class of a size.
+// The 48 size classes: units of a slot, slots and rows of a group, and the class of a size. Alignments, by their codes.
 ghost use mathlib.Core.Path.{_≡_};
-ghost use Prim.Native.Nat.{_/_, _≤_, _<_};
+ghost use Prim.Native.Nat.{_-_, _/_, _≤_, _<_, max};
+ghost use lib.Dec.{leb};
 ghost use Rattle.classes.specs.Classes.{unitsOf, slotsOf, rowsOf, classOf, tooLarge, Lawful};
+ghost use Rattle.classes.specs.Alignments.{ordinary, alignOf, codeOf, enlarged, roundUp};
 
 // The bytes of a row.
 pub const ROW: usize = 512;
@@ -154,4 +156,76 @@ pub fn with_class(n: usize, known: Sized) -> Sized
     }
     let c = class_of(n);
     Sized { size: n, class: c }
+}
+
+// The alignments that can be asked for.
+const POWERS: [u16; 13] = [1, 2, 4, 8, 16, 32, 64, 128, 256, 512, 1024, 2048, 4096];
+
+// The code of an ordinary block, whose start is on a boundary of 16 bytes.
+pub const ORDINARY: u8 = 1;
+
+// The code of the alignment at a place of the table: the first five are an ordinary block's.
+fn code_at(i: usize) -> u8
+    requires { ⌜ i < 13 ⌝ }
+    ensures { λ r. ⌜ r ≡ max ordinary (i - 3) ⌝ }
+{
+    if i < 5 {
+        return ORDINARY;
+    }
+    (i - 3) as u8
+}
+
+// The code of an alignment in bytes, or 0 where it is none that can be asked for.
+pub fn code_of(align: usize) -> u8
+    ensures { λ r. ⌜ r ≡ codeOf align ⌝ }
+    ensures small { λ r. ⌜ r ≤ 9 ⌝ }
+{
+    let mut i = 0;
+    while i < 13 {
+        if POWERS[i] as usize == align {
+            return code_at(i);
+        }
+        i += 1;
+    }
+    0
+}
+
+// The bytes of an alignment.
+pub fn align_of(code: u8) -> usize
+    requires { ⌜ code ≤ 9 ⌝ }
+    ensures { λ r. ⌜ r ≡ alignOf code ⌝ }
+    ensures small { λ r. ⌜ (8 ≤ r) × (r ≤ 4096) ⌝ }
+{
+    8 << code as u32
+}
+
+// The enlarged size, which a block's class and slot go by: n itself for an ordinary block.
+pub fn enlarged(code: u8, n: usize) -> usize
+    requires { ⌜ (code ≤ 9) × (n < tooLarge) ⌝ }
+    ensures { λ r. ⌜ r ≡ enlarged code n ⌝ }
+    ensures small { λ r. ⌜ r < 135168 ⌝ }
+{
+    if code <= ORDINARY {
+        return n;
+    }
+    n + (align_of(code) - 16)
+}
+
+// Whether the enlarged size is one that cannot be asked for. It does not wrap, whatever n is.
+pub fn too_large(code: u8, n: usize) -> bool
+    requires { ⌜ code ≤ 9 ⌝ }
+    ensures { λ r. ⌜ r ≡ leb tooLarge (enlarged code n) ⌝ }
+{
+    if TOO_LARGE <= n {
+        return true;
+    }
+    TOO_LARGE <= enlarged(code, n)
+}
+
+// The lowest multiple of an alignment at or after a place.
+pub fn round_up(align: usize, at: usize) -> usize
+    requires { ⌜ (8 ≤ align) × (align ≤ 4096) × (at < 16777216) ⌝ }
+    ensures { λ r. ⌜ r ≡ roundUp align at ⌝ }
+{
+    align * ((at + (align - 1)) / align)
 }

@@ -6,6 +6,7 @@ use Rattle.mem.specs.Bytes.{put}
 use Rattle.mem.proofs.Tests.{choose-case}
 use Rattle.mem.proofs.Laws.{put-nil, put-cons}
 use Rattle.classes.specs.Classes.{classOf, tooLarge}
+use Rattle.classes.specs.Alignments.{ordinary}
 use Rattle.model.specs.declared.Totals.{Totals}
 use Rattle.model.specs.State.{Pool, Place, group, poolOf, start}
 use Rattle.model.specs.Blocks.{frame}
@@ -13,7 +14,7 @@ use Rattle.model.specs.Plans.{openFrom, reserve, enframe, placed, placedBy, res
 use Rattle.model.specs.Tables.{byMasks, encode, view}
 use Rattle.model.specs.Calls.{written}
 use Rattle.model.proofs.Tables.{masks-laws, view-encode}
-use Rattle.model.proofs.Reserve.{reserve-formed}
+use Rattle.model.proofs.Reserve.{plain, reserve-formed}
 use Rattle.model.proofs.Lowest.{pass-shut, grant-shut}
 use Rattle.model.proofs.Lists.{small, small-at, all-placed, next-placed}
 use Rattle.rows.specs.declared.Block.{Block}
@@ -30,17 +31,17 @@ use Rattle.lists.specs.Grants.{granted, startOr, firstOr, totalsOr, aren
 module _ {row len : ℕ} {t : List ℕ} (r : Lent byMasks row len t) (n : ℕ) (h : n < tooLarge) where
   pub record GrantedOne (a : List ℕ) (s : Totals) (b : Block) (z : Totals) : Type 0 where
     pub stands : Standing row len b
-    pub start : startAt row b ≡ startOr row (reserve row (view row t) n)
-    pub first : b .first ≡ firstOr row (reserve row (view row t) n)
-    pub counts : z ≡ totalsOr row s (reserve row (view row t) n)
-    pub arena : put (ownedAt row b) (frame (b .class) (b .slot) (b .alloc .disp) (b .alloc .size)) a ≡ arenaAfter row a (reserve row (view row t) n)
+    pub start : startAt row b ≡ startOr row (reserve row (view row t) ordinary n)
+    pub first : b .first ≡ firstOr row (reserve row (view row t) ordinary n)
+    pub counts : z ≡ totalsOr row s (reserve row (view row t) ordinary n)
+    pub arena : put (ownedAt row b) (frame (b .class) (b .slot) (b .alloc .disp) (b .alloc .size)) a ≡ arenaAfter row a (reserve row (view row t) ordinary n)
 
-  pub granted-one : (a : List ℕ) (s : Totals) (b : Block) (z : Totals) → reservedAs row (reserve row (view row t) n) ≡ Taken b z → GrantedOne a s b z
+  pub granted-one : (a : List ℕ) (s : Totals) (b : Block) (z : Totals) → reservedAs row (reserve row (view row t) ordinary n) ≡ Taken b z → GrantedOne a s b z
   unfolding enframe
   granted-one a s b z e =
-      let (q, f, k, y) = reserved-place row (reserve row (view row t) n) b z e in
+      let (q, f, k, y) = reserved-place row (reserve row (view row t) ordinary n) b z e in
       subst (λ b. GrantedOne a s b z) k (record {
-        stands = reserve-leaves r n h q f .stands;
+        stands = reserve-leaves r ordinary n (plain h) q f .stands;
         start = sym (ap (startOr row) f);
         first = sym (ap (firstOr row) f);
         counts = sym y ∙ sym (ap (totalsOr row s) f);
@@ -79,12 +80,12 @@ module _ (row : ℕ) (ns A : List ℕ) (Q : Pool) (L : List ℕ) where
 
   -- one grant further; the search for its class goes on where its group is
   pub one-further : small ns ≡ true → (i : ℕ) (a t l : List ℕ) → i < length ns → ToGo i a t l → (b u : List ℕ) (k : ℕ)
-      → k ≡ startOr row (reserve row (view row t) (getD ns i 0)) → b ≡ arenaAfter row a (reserve row (view row t) (getD ns i 0))
-      → u ≡ roomAfter row t (reserve row (view row t) (getD ns i 0)) → length b ≡ length a
-      → (f : ℕ) → f ≡ firstOr row (reserve row (view row t) (getD ns i 0))
-      → (y z : Totals) → z ≡ totalsOr row y (reserve row (view row t) (getD ns i 0))
+      → k ≡ startOr row (reserve row (view row t) ordinary (getD ns i 0)) → b ≡ arenaAfter row a (reserve row (view row t) ordinary (getD ns i 0))
+      → u ≡ roomAfter row t (reserve row (view row t) ordinary (getD ns i 0)) → length b ≡ length a
+      → (f : ℕ) → f ≡ firstOr row (reserve row (view row t) ordinary (getD ns i 0))
+      → (y z : Totals) → z ≡ totalsOr row y (reserve row (view row t) ordinary (getD ns i 0))
       → ToGo (i + 1) b u (set l i k) × Passed row u (classOf (getD ns i 0)) f × (z ≡ totals row (view row u))
-  one-further s i a t l h g b u k ek eb eu el f ef y z ez = go (reserve row (view row t) n) refl
+  one-further s i a t l h g b u k ek eb eu el f ef y z ez = go (reserve row (view row t) ordinary n) refl
     where
       n : ℕ
       n = getD ns i 0
@@ -93,7 +94,7 @@ module _ (row : ℕ) (ns A : List ℕ) (Q : Pool) (L : List ℕ) where
       behind : Place → Pool
       behind q = group (q .cls) (q .lower ++ (q .state ∷ q .upper)) ∷ q .after
 
-      whole : (o : Option Place) → reserve row (view row t) n ≡ o
+      whole : (o : Option Place) → reserve row (view row t) ordinary n ≡ o
           → placedBy o (λ q. reserveAll row (poolOf q) (drop (i + 1) ns)) ≡ reserveAll row (view row t) (drop i ns)
       whole o r =
           sym (next-placed row (view row t) ns i h ∙ ap (λ o. placedBy o (λ q. reserveAll row (poolOf q) (drop (i + 1) ns))) r)
@@ -101,16 +102,16 @@ module _ (row : ℕ) (ns A : List ℕ) (Q : Pool) (L : List ℕ) where
       Further : Type 0
       Further = ToGo (i + 1) b u (set l i k) × Passed row u (classOf n) f × (z ≡ totals row (view row u))
 
-      next : (q : Place) → reserve row (view row t) n ≡ some q → Further
+      next : (q : Place) → reserve row (view row t) ordinary n ≡ some q → Further
       next q r =
           let e : u ≡ encode row (poolOf q) = eu ∙ ap (roomAfter row t) r in
-          let w = reserve-formed row (view row t) n q (facts (g .lent) .formed) (small-at ns i s h) r in
+          let w = reserve-formed row (view row t) ordinary n q (facts (g .lent) .formed) (plain (small-at ns i s h)) r in
           let says : view row u ≡ poolOf q = ap (view row) e ∙ view-encode masks-laws row (g .lent .pos) (poolOf q) (w .formed) in
           let qs : List Place = granted (reserveAll row (poolOf q) (drop (i + 1) ns)) in
           let m : (granted (reserveAll row (view row t) (drop i ns)) ≡ q ∷ qs) × (isSome (reserveAll row (poolOf q) (drop (i + 1) ns)) ≡ true) =
           granted-next q (reserveAll row (poolOf q) (drop (i + 1) ns)) (reserveAll row (view row t) (drop i ns)) (whole (some q) r) (g .fits) in (
             record {
-              lent = rw (e, el) (reserve-leaves (g .lent) n (small-at ns i s h) q r .room);
+              lent = rw (e, el) (reserve-leaves (g .lent) ordinary n (plain (small-at ns i s h)) q r .room);
               fits = rw says (m .1);
               arena =
                   rw says
@@ -129,12 +130,12 @@ module _ (row : ℕ) (ns A : List ℕ) (Q : Pool) (L : List ℕ) where
               split = says;
               count = sym (ef ∙ ap (firstOr row) r);
               same = ap (openFrom [] (classOf n)) says
-                  ∙ pass-shut (classOf n) [] (q .before) (behind q) (grant-shut row (view row t) n q (facts (g .lent) .formed) r);
+                  ∙ pass-shut (classOf n) [] (q .before) (behind q) (grant-shut row (view row t) ordinary n q (facts (g .lent) .formed) r);
             },
             ez ∙ ap (totalsOr row y) r ∙ sym (ap (totals row) says),
           )
 
-      go : (o : Option Place) → reserve row (view row t) n ≡ o → Further
+      go : (o : Option Place) → reserve row (view row t) ordinary n ≡ o → Further
       go (some q) r = next q r
       go none r =
           let z : false ≡ true = ap isSome (whole none r) ∙ g .fits in

@@ -8,6 +8,7 @@ ghost use lib.ListN.{length};
 ghost use Rattle.mem.specs.Lists.{choose, every, isSome};
 ghost use Rattle.mem.specs.Bytes.{put};
 ghost use Rattle.classes.specs.Classes.{Lawful, classOf, tooLarge};
+ghost use Rattle.classes.specs.Alignments.{ordinary};
 ghost use Rattle.model.specs.State.{start};
 ghost use Rattle.model.specs.Plans.{reserve, enframe, reserveAll, poolAfter, totals};
 ghost use Rattle.model.specs.Tables.{sound, view, encode};
@@ -39,11 +40,11 @@ fn grant_one(
     requires { ⌜ (s .size < tooLarge) × (s .class ≡ classOf (s .size)) × (s .class < 48) × Passed row (now room) (s .class) from
         × (t ≡ totals row (view row (now room))) ⌝ }
     requires { ⌜ Lawful row ⌝ }
-    ensures { λ r. ⌜ (r .start ≡ startOr row (reserve row (view row (now (room .entry))) (s .size)))
-        × (r .first ≡ firstOr row (reserve row (view row (now (room .entry))) (s .size)))
-        × (r .totals ≡ totalsOr row t (reserve row (view row (now (room .entry))) (s .size))) ⌝ }
-    ensures { λ r. ⌜ now (arena .exit) ≡ arenaAfter row (now (arena .entry)) (reserve row (view row (now (room .entry))) (s .size)) ⌝ }
-    ensures { λ r. ⌜ now (room .exit) ≡ roomAfter row (now (room .entry)) (reserve row (view row (now (room .entry))) (s .size)) ⌝ }
+    ensures { λ r. ⌜ (r .start ≡ startOr row (reserve row (view row (now (room .entry))) ordinary (s .size)))
+        × (r .first ≡ firstOr row (reserve row (view row (now (room .entry))) ordinary (s .size)))
+        × (r .totals ≡ totalsOr row t (reserve row (view row (now (room .entry))) ordinary (s .size))) ⌝ }
+    ensures { λ r. ⌜ now (arena .exit) ≡ arenaAfter row (now (arena .entry)) (reserve row (view row (now (room .entry))) ordinary (s .size)) ⌝ }
+    ensures { λ r. ⌜ now (room .exit) ≡ roomAfter row (now (room .entry)) (reserve row (view row (now (room .entry))) ordinary (s .size)) ⌝ }
 {
     let Reserved::Taken(b, taken) = ops::reserve_in(
         row,
@@ -51,6 +52,7 @@ fn grant_one(
         room,
         t,
         s.class,
+        classes::ORDINARY,
         s.size,
         from,
     ) else {

@@ -6,7 +6,8 @@ use Rattle.model.specs.declared.Damage.{Damage}
 use Rattle.model.specs.declared.Damage.the-variants.{Intact, Damaged}
 use Rattle.model.specs.State.{Pool, Place, isLive}
 use Rattle.model.specs.Answers.{refusal}
-use Rattle.model.specs.Plans.{Plan, Call, setsUp, grants, releases, resizes, measures, reports, grantsList, plan, onBlock, lookup, measureAt}
+use Rattle.model.specs.Plans.{Plan, Call, setsUp, grants, grantsAligned, releases, resizes, measures, reports, grantsList}
+use Rattle.model.specs.Plans.{plan, onBlock, lookup, measureAt}
 use Rattle.model.specs.Plans.{measure, report}
 use Rattle.model.specs.Tables.{view}
 use Rattle.model.specs.Calls.{KeptBytes, Result, engine, soundKept, call, checked, carried, applied, damaged, keeps, unsound, callBy, carriedBy}
@@ -17,6 +18,7 @@ use Rattle.model.proofs.Kept.{kept-whole}
 abbrev pub Asks : Call → Type 0
 Asks setsUp = ⊥
 Asks (grants n) = Unit {0}
+Asks (grantsAligned n b) = Unit {0}
 Asks (releases o) = Unit {0}
 Asks (resizes o n) = Unit {0}
 Asks (measures o) = Unit {0}
@@ -28,6 +30,7 @@ module _ (row : ℕ) (a : List ℕ) (t : KeptBytes) where
   unfolding callBy
   call-checked setsUp k = absurd k
   call-checked (grants n) k = refl
+  call-checked (grantsAligned n b) k = refl
   call-checked (releases o) k = refl
   call-checked (resizes o n) k = refl
   call-checked (measures o) k = refl

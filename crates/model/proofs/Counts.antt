@@ -1,5 +1,5 @@
 -- What report counts: rows held and rows free are all rows, and no total is large.
-use Rattle.mem.proofs.Prelude.{_∙_, _≡_, ap, refl, Bool, true, false, List, [], _∷_, map, ℕ, _+_, _*_, _<_, _≤_, arith, T, ltb→lt, eqb→eq, length, ones}
+use Rattle.mem.proofs.Prelude.{_∙_, _≡_, ap, refl, Bool, true, false, List, [], _∷_, map, ℕ, _+_, _*_, _<_, _≤_, arith, T, eqb→eq, length, ones}
 use Rattle.mem.proofs.Prelude.{not, eqb, zero-add, ne-eqb}
 use native.Mathlib.Nat.{mul-le-mul-left}
 use Rattle.mem.specs.Lists.{any, sum}
@@ -7,12 +7,13 @@ use Rattle.mem.specs.Bytes.{bit, mask}
 use Rattle.mem.proofs.Tests.{and-left, and-right}
 use Rattle.mem.proofs.Masks.{ones-sum}
 use Rattle.mem.proofs.Laws.{sum-below}
-use Rattle.classes.specs.Classes.{slotsOf, tooLarge}
+use Rattle.classes.specs.Classes.{slotsOf}
 use Rattle.classes.proofs.Laws.{slots-small, rows-pos}
 use Rattle.model.specs.declared.Slot.{Slot}
 use Rattle.model.specs.declared.Slot.the-variants.{Fresh, Idle, Live}
 use Rattle.model.specs.declared.Totals.{Totals}
 use Rattle.model.specs.State.{Span, Pool, free, group, isLive, isReady, isWaiting, size, slotSound, spanSound, wellFormed, rows}
+use Rattle.model.proofs.Tables.{size-small}
 use Rattle.model.specs.Plans.{slotSum, heldRows, freeRow, totals}
 
 pub held-free : (row : ℕ) (P : Pool) → sum (heldRows row) P + sum freeRow P ≡ rows row P
@@ -33,12 +34,6 @@ slots-below f k h free t = omega arith
 slots-below f k h (group c ss) t =
     let l : length ss ≤ 31 = omega (arith, eqb→eq (length ss) (slotsOf c) (search (and-left, and-right)), slots-small c) in
     omega (arith, sum-below f k (slotSound c) (h c) ss (search and-right), mul-le-mul-left {m = length ss} {n = 31} k l)
-
-pub size-small : (c : ℕ) (x : Slot) → T (slotSound c x) → size x ≤ 131051
-unfolding slotSound tooLarge
-size-small c Fresh t = omega arith
-size-small c (Idle r k d) t = omega arith
-size-small c (Live a) t = omega (arith, ltb→lt (a .size) 131052 (search (and-left, and-right)))
 
 -- totals whose numbers have at most five digits, and the bytes ten
 pub record Few (s : Totals) : Type 0 where
@@ -63,7 +58,7 @@ module _ (row : ℕ) (pos : 0 < row) (P : Pool) (t : T (wellFormed P)) (h : rows
       let n = few-spans row pos P in
       record {
         blocks = omega (arith, spans-below (λ x. bit (isLive x)) 1 (λ c x u. bit-small (isLive x)));
-        bytes = omega (arith, spans-below size 131051 size-small);
+        bytes = omega (arith, spans-below size 131051 (λ c x u. omega (arith, size-small c x u)));
         held = omega (arith, held-free row P);
         free = omega (arith, held-free row P);
         ready = omega (arith, spans-below (λ x. bit (isReady x)) 1 (λ c x u. bit-small (isReady x)));

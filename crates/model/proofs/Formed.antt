@@ -1,23 +1,27 @@
 -- What a call leaves: a well-formed pool of as many rows; and where it refuses, the pool as it was, and nothing written.
 use Rattle.mem.proofs.Prelude.{_∙_, _≡_, sym, ap, refl, subst, true, Bool, false, _||_, some, none, Option, List, [], _∷_, _++_, _+_, ℕ, _<_, _≤_}
-use Rattle.mem.proofs.Prelude.{_*_, _-_, suc, arith, leb-false, eqb-false, T, eqb, leb, ltb, leb→le, lt→ltb, le→leb, length, length-append}
+use Rattle.mem.proofs.Prelude.{_*_, _-_, arith, leb-false, T, eqb, leb, ltb, leb→le, ltb→lt, lt→ltb, le→leb, length, length-append, lit≤, _%_}
 use Rattle.mem.specs.Lists.{every, any}
 use Rattle.mem.proofs.Tests.{and-left, and-right, and-both, every-append, choose-case, true-T, eq→eqb}
-use Rattle.classes.specs.Classes.{slotBytes, classOf, slotsOf, rowsOf, tooLarge}
-use Rattle.classes.proofs.Laws.{bytes-least, class-least}
+use Rattle.classes.specs.Classes.{slotBytes, slotsOf, rowsOf, tooLarge, ownClass}
+use Rattle.classes.specs.Alignments.{ordinary, codeOf, enlarged, Askable}
+use Rattle.classes.proofs.Alignments.{code-most}
 use Rattle.model.specs.declared.Slot.{Slot}
 use Rattle.model.specs.declared.Slot.the-variants.{Fresh, Idle, Live}
 use Rattle.model.specs.declared.Refusal.the-variants.{NoSuchBlock, AlreadyFree}
-use Rattle.model.specs.State.{Pool, Place, group, isLive, count, disp, slotSound, spanSound, wellFormed, poolOf, become, rows, start}
-use Rattle.model.specs.Plans.{Plan, refused, reserve, grantAt, grant, lookup, vacant, onBlock, releaseAt, release, inPlace}
-use Rattle.model.specs.Plans.{resizeInPlace, moveTo, resizeMove, resizeAt, resize}
-use Rattle.model.specs.Plans.{measure, measureAt, report, freshPool, Call, setsUp, grants, releases, resizes, measures, reports, grantsList, plan}
+use Rattle.model.specs.State.{Pool, Place, group, isLive, count, disp, align, slotSound, spanSound, wellFormed, poolOf, become, rows, start}
+use Rattle.model.specs.State.{slotAligned, aligned, beginning}
+use Rattle.model.specs.Plans.{Plan, refused, reserve, grantAt, grantAs, grantAligned, lookup, vacant, onBlock, releaseAt, release, inPlace}
+use Rattle.model.specs.Plans.{resizeInPlace, newSize, moveTo, resizeMove, resizeAt, resize}
+use Rattle.model.specs.Plans.{measure, measureAt, report, freshPool, Call, setsUp, grants, grantsAligned, releases, resizes, measures, reports, plan}
+use Rattle.model.specs.Plans.{grantsList}
 use Rattle.model.specs.Plans.{reserveAll, poolAfter, grantList}
 use Rattle.model.proofs.Rooms.{rows-append}
-use Rattle.model.proofs.Fresh.{fresh-formed, fresh-rows}
+use Rattle.model.proofs.Fresh.{fresh-formed, all-fresh, fresh-rows}
+use Rattle.model.proofs.Bounds.{parts, freed-whole, here-aligned, become-aligned, resized-aligned}
 use Rattle.model.proofs.Lookup.{Fits, fits, lookup-found}
 use Rattle.model.proofs.Lists.{small, by-grants, on-list}
-use Rattle.model.proofs.Reserve.{Granted, reserve-formed}
+use Rattle.model.proofs.Reserve.{plain, Granted, reserve-formed}
 
 -- an element in the middle of a list
 pub any-middle : {A : Type 0} (f : A → Bool) (xs : List A) (y : A) (ys : List A) → any f (xs ++ (y ∷ ys)) ≡ (f y || any f (xs ++ ys))
@@ -28,14 +32,6 @@ any-middle f (x ∷ xs) y ys = ap (λ b. f x || b) (any-middle f xs y ys) ∙ sw
     swap true true c = refl
     swap true false c = refl
     swap false b c = refl
-
--- a number from m to the next one
-same-or-next : (c m : ℕ) → m ≤ c → c ≤ suc m → T (eqb c m || eqb c (suc m))
-same-or-next c m h l = go (eqb c m) refl
-  where
-    go : (b : Bool) → eqb c m ≡ b → T (b || eqb c (suc m))
-    go true e = tt
-    go false e = let n : c ≡ m → ⊥ = eqb-false c m e in eq→eqb c (suc m) (omega arith)
 
 -- ---- slots that change
 
@@ -50,19 +46,20 @@ vacant-sound c (Live a) l t =
     (le→leb (16 * a .disp) (slotBytes c - 4) (omega (arith, leb→le (16 * a .disp + a .size) (slotBytes c - 4) u)))
 
 -- a live slot may get another size in place
-pub resized-sound : (c : ℕ) (x : Slot) (n : ℕ) → c < 48 → T (isLive x) → T (slotSound c x) → n < tooLarge → n ≤ slotBytes c - 4 - 16 * disp x
-    → c ≤ suc (classOf n)
-    → T (slotSound c (Live (record { count = count x; disp = disp x; size = n })))
+pub resized-sound : (c : ℕ) (x : Slot) (n : ℕ) → T (isLive x) → T (slotSound c x) → enlarged (align x) n < tooLarge
+    → n ≤ slotBytes c - 4 - 16 * disp x → T (ownClass c (enlarged (align x) n))
+    → T (slotSound c (Live (record { count = count x; disp = disp x; size = n; align = align x })))
 unfolding slotSound
-resized-sound c Fresh n h l t s f k = absurd l
-resized-sound c (Idle r j d) n h l t s f k = absurd l
-resized-sound c (Live a) n h l t s f k =
+resized-sound c Fresh n l t s f k = absurd l
+resized-sound c (Idle r j d) n l t s f k = absurd l
+resized-sound c (Live a) n l t s f k =
     let u : T (leb (16 * a .disp + a .size) (slotBytes c - 4)) = search (and-left, and-right) in
     let u₁ : T (ltb (a .count) 256) = search (and-left, and-right) in
     let v : 16 * a .disp + n ≤ slotBytes c - 4 = omega (arith, leb→le (16 * a .disp + a .size) (slotBytes c - 4) u) in
     let u₂ : T (leb (16 * a .disp + n) (slotBytes c - 4)) = le→leb (16 * a .disp + n) (slotBytes c - 4) v in
-    let u₃ : T (ltb n tooLarge) = lt→ltb n tooLarge s in
-    let u₄ : T (eqb c (classOf n) || eqb c (suc (classOf n))) = same-or-next c (classOf n) (class-least n c (omega (arith, bytes-least c h))) k in
+    let u₃ : T (ltb (enlarged (a .align) n) tooLarge) = lt→ltb (enlarged (a .align) n) tooLarge s in
+    let u₄ : T (leb 1 (a .align)) = search (and-left, and-right) in
+    let u₅ : T (leb (a .align) 9) = search (and-left, and-right) in
     search and-both
 
 -- the rules of a place hold with the slot in another sound state
@@ -82,12 +79,14 @@ module _ (row : ℕ) where
   pub record Formed (P Q : Pool) : Type 0 where
     pub formed : T (wellFormed Q)
     pub long : rows row Q ≡ rows row P
+    -- its blocks are on their boundaries, if those of the other are
+    pub bounds : row % 16 ≡ 0 → T (aligned row P) → T (aligned row Q)
 
   -- a slot in another sound state, with a live slot in its group
   pub become-formed : (p : Place) (x : Slot) → T (wellFormed (poolOf p)) → T (slotSound (p .cls) x) → T (any isLive (p .lower ++ (x ∷ p .upper)))
-      → Formed (poolOf p) (poolOf (become p x))
+      → (T (slotAligned (beginning row p) (p .state)) → T (slotAligned (beginning row p) x)) → Formed (poolOf p) (poolOf (become p x))
   unfolding spanSound
-  become-formed p x w s l =
+  become-formed p x w s l b =
       let f : Fits (become p x) = become-fits p x (fits p w) s in
       let c : ℕ = p .cls in
       let ss : List Slot = p .lower ++ (x ∷ p .upper) in
@@ -100,6 +99,7 @@ module _ (row : ℕ) where
         formed = every-append spanSound (p .before) (group c ss ∷ p .after) (f .before)
             (and-both (spanSound (group c ss)) (wellFormed (p .after)) g (f .after));
         long = rows-append row (p .before) (group c ss ∷ p .after) ∙ sym (rows-append row (p .before) (group c (p .lower ++ (p .state ∷ p .upper)) ∷ p .after));
+        bounds = λ _ t. become-aligned row p x (b (here-aligned row p t)) t;
       }
 
   -- a group's rows become free
@@ -113,6 +113,9 @@ module _ (row : ℕ) where
         long = rows-append row (p .before) (F ++ p .after)
             ∙ ap (λ k. rows row (p .before) + k) (rows-append row F (p .after) ∙ ap (λ k. k + rows row (p .after)) (fresh-rows row (rowsOf row (p .cls))))
             ∙ sym (rows-append row (p .before) (group (p .cls) (p .lower ++ (p .state ∷ p .upper)) ∷ p .after));
+        bounds = λ _ t.
+            let ss : List Slot = p .lower ++ (p .state ∷ p .upper) in
+            freed-whole row (p .before) (p .cls) ss (p .after) (parts row (p .before) (p .cls) ss (p .after) t);
       }
 
   -- ---- one block released, or resized in place
@@ -122,23 +125,38 @@ module _ (row : ℕ) where
   release-formed p w l =
       choose-case (λ (r : Plan). Formed (poolOf p) (r .pool)) (any isLive (p .lower ++ p .upper)) _ _
       (λ e. become-formed p (vacant p) w (vacant-sound (p .cls) (p .state) l (fits p w .state))
-      (true-T _ (any-middle isLive (p .lower) (vacant p) (p .upper) ∙ e)))
+      (true-T _ (any-middle isLive (p .lower) (vacant p) (p .upper) ∙ e)) (λ _. tt))
       (λ e. freed-formed p w)
 
-  pub resize-in-place-formed : (p : Place) (n : ℕ) → T (wellFormed (poolOf p)) → T (isLive (p .state)) → n < tooLarge → T (inPlace p n)
+  pub resize-in-place-formed : (p : Place) (n : ℕ) → T (wellFormed (poolOf p)) → T (isLive (p .state)) → enlarged (align (p .state)) n < tooLarge
+      → T (inPlace p n)
       → Formed (poolOf p) (resizeInPlace row p n .pool)
   unfolding resizeInPlace inPlace
   resize-in-place-formed p n w l h t =
       let f : Fits p = fits p w in
-      let x : Slot = Live (record { count = count (p .state); disp = disp (p .state); size = n }) in
+      let x : Slot = Live (record { count = count (p .state); disp = disp (p .state); size = n; align = align (p .state) }) in
       become-formed p x w
-      (resized-sound (p .cls) (p .state) n (f .class) l (f .state) h (leb→le n (slotBytes (p .cls) - 4 - 16 * disp (p .state)) (search and-left))
-      (leb→le (p .cls) (suc (classOf n)) (search (and-left, and-right))))
-      (true-T _ (any-middle isLive (p .lower) x (p .upper)))
+      (resized-sound (p .cls) (p .state) n l (f .state) h (leb→le n (slotBytes (p .cls) - 4 - 16 * disp (p .state)) (search and-left))
+      (search (and-left, and-right)))
+      (true-T _ (any-middle isLive (p .lower) x (p .upper))) (resized-aligned (beginning row p) n (p .state) l)
 
   -- a pool that stays as it is
   pub unchanged : (P : Pool) → T (wellFormed P) → Formed P P
-  unchanged P w = record { formed = w; long = refl }
+  unchanged P w = record { formed = w; long = refl; bounds = λ _ t. t }
+
+-- the code that the tables keep of a live block
+pub code-kept : (c : ℕ) (x : Slot) → T (isLive x) → T (slotSound c x) → (1 ≤ align x) × (align x ≤ 9)
+unfolding slotSound
+code-kept c Fresh l t = absurd l
+code-kept c (Idle r k d) l t = absurd l
+code-kept c (Live a) l t = (leb→le 1 (a .align) (search (and-left, and-right)), leb→le (a .align) 9 (search (and-left, and-right)))
+
+-- a live block that is found gets a size for which answer 3 is not due
+pub resizable : (row : ℕ) (pos : 0 < row) (P : Pool) (o n : ℕ) → T (wellFormed P) → (p : Place) → lookup row P o ≡ some p → poolOf p ≡ P
+    → T (isLive (p .state)) → newSize (lookup row P o) n < tooLarge → Askable (align (p .state)) n
+resizable row pos P o n w p f q l h =
+    let k = code-kept (p .cls) (p .state) l (fits p (subst (λ Q. T (wellFormed Q)) (sym q) w) .state) in
+    record { some-code = k .0; last-code = k .1; small = subst (λ r. newSize r n < tooLarge) f h }
 
 module _ (row : ℕ) (pos : 0 < row) where
   -- what a call on a block does, by what is found at its offset
@@ -154,14 +172,25 @@ module _ (row : ℕ) (pos : 0 < row) where
 
   -- ---- calls
 
-  pub grant-formed : (P : Pool) (n : ℕ) → T (wellFormed P) → Formed row P (grant row P n .pool)
-  unfolding grant
-  grant-formed P n w =
-      choose-case (λ (r : Plan). Formed row P (r .pool)) (leb tooLarge n) _ _ (λ e. unchanged row P w) (λ e. go (leb-false tooLarge n e) (reserve row P n) refl)
+  -- a grant after others
+  granted-formed : {P : Pool} (k n : ℕ) (q : Place) {Q : Pool} → Granted row P k n q → Formed row (poolOf q) Q → Formed row P Q
+  granted-formed k n q g f = record { formed = f .formed; long = f .long ∙ g .long; bounds = λ u t. f .bounds u (g .bounds u t) }
+
+  pub grant-formed : (P : Pool) (k n : ℕ) → 1 ≤ k → k ≤ 9 → T (wellFormed P) → Formed row P (grantAs row P k n .pool)
+  unfolding grantAs
+  grant-formed P k n s l w =
+      choose-case (λ (r : Plan). Formed row P (r .pool)) (leb tooLarge (enlarged k n)) _ _ (λ e. unchanged row P w)
+      (λ e. go (record { some-code = s; last-code = l; small = leb-false tooLarge (enlarged k n) e }) (reserve row P k n) refl)
     where
-      go : n < tooLarge → (r : Option Place) → reserve row P n ≡ r → Formed row P (grantAt row P r .pool)
+      go : Askable k n → (r : Option Place) → reserve row P k n ≡ r → Formed row P (grantAt row P r .pool)
       go h none e = unchanged row P w
-      go h (some q) e = let g : Granted row P n q = reserve-formed row P n q w h e in record { formed = g .formed; long = g .long }
+      go h (some q) e = granted-formed k n q (reserve-formed row P k n q w h e) (unchanged row (poolOf q) (reserve-formed row P k n q w h e .formed))
+
+  grant-aligned-formed : (P : Pool) (n a : ℕ) → T (wellFormed P) → Formed row P (grantAligned row P n a .pool)
+  unfolding grantAligned
+  grant-aligned-formed P n a w =
+      choose-case (λ (r : Plan). Formed row P (r .pool)) (ltb 0 (codeOf a)) _ _
+      (λ e. grant-formed P (codeOf a) n (ltb→lt 0 (codeOf a) (true-T (ltb 0 (codeOf a)) e)) (code-most a) w) (λ _. unchanged row P w)
 
   pub release-plan-formed : (P : Pool) (o : ℕ) → T (wellFormed P) → Formed row P (release row P o .pool)
   unfolding release
@@ -169,36 +198,35 @@ module _ (row : ℕ) (pos : 0 < row) where
       on-block (λ (r : Plan). Formed row P (r .pool)) P o (releaseAt row) (unchanged row P w) (unchanged row P w)
       (λ p f e l. subst (λ Q. Formed row Q (releaseAt row p .pool)) e (release-formed row p (subst (λ Q. T (wellFormed Q)) (sym e) w) l))
 
-  pub resize-move-formed : (P : Pool) (p : Place) (n : ℕ) → T (wellFormed P) → n < tooLarge → Formed row P (resizeMove row P p n .pool)
+  pub resize-move-formed : (P : Pool) (p : Place) (n : ℕ) → T (wellFormed P) → Askable (align (p .state)) n → Formed row P (resizeMove row P p n .pool)
   unfolding resizeMove
-  resize-move-formed P p n w h = go (reserve row P n) refl
+  resize-move-formed P p n w h = go (reserve row P (align (p .state)) n) refl
     where
-      go : (r : Option Place) → reserve row P n ≡ r → Formed row P (moveTo row P p n r .pool)
+      go : (r : Option Place) → reserve row P (align (p .state)) n ≡ r → Formed row P (moveTo row P p n r .pool)
       go none e = unchanged row P w
       go (some q) e =
-          let g : Granted row P n q = reserve-formed row P n q w h e in
-          let r : Formed row (poolOf q) (release row (poolOf q) (start row p) .pool) = release-plan-formed (poolOf q) (start row p) (g .formed) in
-          record { formed = r .formed; long = r .long ∙ g .long }
+          let g : Granted row P (align (p .state)) n q = reserve-formed row P (align (p .state)) n q w h e in
+          granted-formed (align (p .state)) n q g (release-plan-formed (poolOf q) (start row p) (g .formed))
 
   pub resize-formed : (P : Pool) (o n : ℕ) → T (wellFormed P) → Formed row P (resize row P o n .pool)
   unfolding resize resizeAt
   resize-formed P o n w =
       let M : Plan → Type 0 = λ r. Formed row P (r .pool) in
-      choose-case M (leb tooLarge n) _ _ (λ e. unchanged row P w)
+      choose-case M (leb tooLarge (newSize (lookup row P o) n)) _ _ (λ e. unchanged row P w)
       (λ e. on-block M P o (resizeAt row P n) (unchanged row P w) (unchanged row P w)
-      (λ p f q l. choose-case M (inPlace p n) (resizeInPlace row p n) (resizeMove row P p n)
+      (λ p f q l.
+      let h : Askable (align (p .state)) n = resizable row pos P o n w p f q l (leb-false tooLarge (newSize (lookup row P o) n) e) in
+      choose-case M (inPlace p n) (resizeInPlace row p n) (resizeMove row P p n)
       (λ t. subst (λ Q. Formed row Q (resizeInPlace row p n .pool)) q
-      (resize-in-place-formed row p n (subst (λ Q. T (wellFormed Q)) (sym q) w) l (leb-false tooLarge n e) (true-T (inPlace p n) t)))
-      (λ t. resize-move-formed P p n w (leb-false tooLarge n e))))
+      (resize-in-place-formed row p n (subst (λ Q. T (wellFormed Q)) (sym q) w) l (h .small) (true-T (inPlace p n) t)))
+      (λ t. resize-move-formed P p n w h)))
 
   -- a list of grants
   list-formed : (P : Pool) (ns : List ℕ) (qs : List Place) → T (wellFormed P) → T (small ns) → reserveAll row P ns ≡ some qs → Formed row P (poolAfter P qs)
   list-formed P ns qs w h e =
       by-grants row (λ P ns qs. T (wellFormed P) → Formed row P (poolAfter P qs)) (λ P w. unchanged row P w)
       (λ P n ns q qs w s r k v.
-      let g : Granted row P n q = reserve-formed row P n q w s r in
-      let m : Formed row (poolOf q) (poolAfter (poolOf q) qs) = k (g .formed) in
-      record { formed = m .formed; long = m .long ∙ g .long }) P ns qs w h e w
+      let g : Granted row P ordinary n q = reserve-formed row P ordinary n q w (plain s) r in granted-formed ordinary n q g (k (g .formed))) P ns qs w h e w
 
   grant-list-formed : (P : Pool) (total cap places : ℕ) (ns : List ℕ) → T (wellFormed P) → Formed row P (grantList row P total cap places ns .pool)
   grant-list-formed P total cap places ns w =
@@ -212,8 +240,9 @@ module _ (row : ℕ) (pos : 0 < row) where
   -- every call leaves a well-formed pool of as many rows
   pub plan-formed : (P : Pool) (c : Call) → T (wellFormed P) → Formed row P (plan row P c .pool)
   unfolding plan report
-  plan-formed P setsUp w = record { formed = fresh-formed (rows row P); long = fresh-rows row (rows row P) }
-  plan-formed P (grants n) w = grant-formed P n w
+  plan-formed P setsUp w = record { formed = fresh-formed (rows row P); long = fresh-rows row (rows row P); bounds = λ _ _. all-fresh row (rows row P) }
+  plan-formed P (grants n) w = grant-formed P ordinary n (lit≤ tt) (lit≤ tt) w
+  plan-formed P (grantsAligned n a) w = grant-aligned-formed P n a w
   plan-formed P (releases o) w = release-plan-formed P o w
   plan-formed P (resizes o n) w = resize-formed P o n w
   plan-formed P (measures o) w = measure-formed P o w

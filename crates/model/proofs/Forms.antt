@@ -8,11 +8,12 @@ use Rattle.model.specs.declared.Damage.{Damage}
 use Rattle.model.specs.declared.Damage.the-variants.{Intact, Damaged}
 use Rattle.model.specs.State.{Pool}
 use Rattle.model.specs.Answers.{done, refusal}
-use Rattle.model.specs.Plans.{Plan, Write, writes, copies, Call, setsUp, grants, releases, resizes, measures, reports, grantsList, plan, freshPool}
+use Rattle.model.specs.Plans.{Plan, Write, writes, copies, Call, setsUp, grants, grantsAligned, releases, resizes, measures, reports}
+use Rattle.model.specs.Plans.{grantsList, plan, freshPool}
 use Rattle.model.specs.Tables.{arenaRight}
 use Rattle.model.specs.Calls.{Form, Outcome, Stands, FormLaws, keeps, written, unless, damaged, carriedBy, setUpRightBy}
 use Rattle.model.specs.Calls.{setUpBy, checkedBy, callBy}
-use Rattle.model.proofs.Fresh.{fresh-formed, fresh-rows, whole-rows}
+use Rattle.model.proofs.Fresh.{fresh-formed, all-fresh, fresh-rows, whole-rows, whole-units}
 use Rattle.model.proofs.Formed.{Formed, plan-formed}
 
 written-length : (a : List ℕ) (ws : List Write) → length (written a ws) ≡ length a
@@ -42,6 +43,7 @@ module _ (row : ℕ) where
   abbrev pub step : List ℕ → Pool → Call → Outcome Pool
   step a P setsUp = record { answer = done (0 ∷ []); arena = zeros (length a); room = freshPool (length a / row) }
   step a P (grants n) = stepped a P (plan row P (grants n))
+  step a P (grantsAligned n b) = stepped a P (plan row P (grantsAligned n b))
   step a P (releases o) = stepped a P (plan row P (releases o))
   step a P (resizes o n) = stepped a P (plan row P (resizes o n))
   step a P (measures o) = stepped a P (plan row P (measures o))
@@ -70,6 +72,7 @@ module _ (row : ℕ) where
     unfolding callBy
     call-step setsUp = set-up-step
     call-step (grants n) = checked-step (grants n)
+    call-step (grantsAligned n b) = checked-step (grantsAligned n b)
     call-step (releases o) = checked-step (releases o)
     call-step (resizes o n) = checked-step (resizes o n)
     call-step (measures o) = checked-step (measures o)
@@ -82,6 +85,7 @@ module _ (row : ℕ) where
     lawful = h;
     long = sym (ap (λ k. row * k) (fresh-rows row (n / row)) ∙ whole-rows row n h);
     formed = fresh-formed (n / row);
+    bounds = all-fresh row (n / row);
   }
 
   module _ (pos : 0 < row) (n : ℕ) (a : List ℕ) (e : length a ≡ n) (P : Pool) (s : Stands row n P) where
@@ -95,7 +99,12 @@ module _ (row : ℕ) where
         unless-case Standing (damaged row a (plan row P c .checks)) _ _
         (record {
           long = written-length a (plan row P c .changes) ∙ e;
-          stands = record { lawful = s .lawful; long = s .long ∙ ap (λ k. row * k) (sym (f .long)); formed = f .formed };
+          stands = record {
+            lawful = s .lawful;
+            long = s .long ∙ ap (λ k. row * k) (sym (f .long));
+            formed = f .formed;
+            bounds = f .bounds (whole-units row n (s .lawful)) (s .bounds);
+          };
         })
         (λ r. record { long = e; stands = s })
       where
@@ -108,6 +117,7 @@ module _ (row : ℕ) where
       stands = rw e (fresh-stands n (s .lawful));
     }
     step-stands (grants n) = stepped-stands (grants n)
+    step-stands (grantsAligned n b) = stepped-stands (grantsAligned n b)
     step-stands (releases o) = stepped-stands (releases o)
     step-stands (resizes o n) = stepped-stands (resizes o n)
     step-stands (measures o) = stepped-stands (measures o)

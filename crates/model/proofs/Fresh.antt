@@ -4,7 +4,7 @@ use native.Mathlib.Nat.{div-add-mod}
 use Rattle.mem.specs.Bytes.{zeros}
 use Rattle.mem.proofs.Tests.{and-left, and-right, T-true, choose-true}
 use Rattle.model.specs.declared.Totals.{Totals}
-use Rattle.model.specs.State.{wellFormed, spanSound, rows}
+use Rattle.model.specs.State.{wellFormed, spanSound, alignedFrom, aligned, rows}
 use Rattle.model.specs.Answers.{done}
 use Rattle.model.specs.Plans.{freshPool, totals}
 use Rattle.model.specs.Tables.{arenaRight}
@@ -16,6 +16,14 @@ unfolding spanSound
 fresh-formed zero = tt
 fresh-formed (suc n) = fresh-formed n
 
+pub fresh-aligned : (row b n : ℕ) → T (alignedFrom row b (freshPool n))
+fresh-aligned row b zero = tt
+fresh-aligned row b (suc n) = fresh-aligned row (b + row) n
+
+pub all-fresh : (row n : ℕ) → T (aligned row (freshPool n))
+unfolding aligned
+all-fresh row n = fresh-aligned row 0 n
+
 pub fresh-rows : (row n : ℕ) → rows row (freshPool n) ≡ n
 fresh-rows row zero = refl
 fresh-rows row (suc n) = omega (arith, fresh-rows row n)
@@ -26,6 +34,11 @@ unfolding arenaRight
 whole-rows row n t =
     let e : n % row ≡ 0 = eqb→eq (n % row) 0 (search (and-left, and-right)) in
     omega (arith, div-add-mod n row)
+
+-- and a row is whole units
+pub whole-units : (row n : ℕ) → T (arenaRight row n) → row % 16 ≡ 0
+unfolding arenaRight
+whole-units row n t = eqb→eq (row % 16) 0 (search (and-left, and-right))
 
 module _ (row : ℕ) (a : List ℕ) (t : KeptBytes) (h : T (setUpRight row a t)) where
   pub set-up-lawful : T (arenaRight row (length a))
@@ -43,6 +56,7 @@ module _ (row : ℕ) (a : List ℕ) (t : KeptBytes) (h : T (setUpRight row a t))
         lawful = set-up-lawful;
         long = sym (ap (λ n. row * n) (fresh-rows row (length a / row)) ∙ whole-rows row (length a) set-up-lawful);
         formed = fresh-formed (length a / row);
+        bounds = all-fresh row (length a / row);
       })
 
 one-more : (n : ℕ) → 1 + n ≡ suc n

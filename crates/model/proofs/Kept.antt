@@ -36,10 +36,10 @@ totals-same s = same-refl (listed s)
 pub layout-lawful : (L : Layout) → LayoutLaws L → (row : ℕ) → 0 < row → FormLaws row (formOf row L)
 layout-lawful L law row pos = record {
   says = view-encode law row pos;
-  right = λ n P s. encode-sound law row pos P n (s .formed) (s .lawful) (s .long);
+  right = λ n P s. encode-sound law row pos P n (s .formed) (s .bounds) (s .lawful) (s .long);
   only = λ n t h.
       let f = sound-facts L row n t h in
-      (record { lawful = f .lawful; long = f .long; formed = f .formed }, f .form);
+      (record { lawful = f .lawful; long = f .long; formed = f .formed; bounds = f .bounds }, f .form);
   taken = λ n P s. eq→eqb (length (encodeBy L row P)) (roomBytes (n / row)) (encode-length law row pos P (s .formed) ∙ ap roomBytes (rows-in n P s));
 }
   where

@@ -3,6 +3,7 @@ pub mod Tables
 pub mod Rooms
 pub mod Kept
 pub mod Fresh
+pub mod Bounds
 pub mod Lookup
 pub mod Reserve
 pub mod Lowest

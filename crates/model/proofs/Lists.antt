@@ -5,12 +5,13 @@ use lib.ListN.{drop-of-length-le}
 use Rattle.mem.specs.Lists.{isSome, every, sum}
 use Rattle.mem.proofs.Tests.{and-left, and-right, and-both, true-T, every-in, choose-case}
 use Rattle.classes.specs.Classes.{tooLarge}
+use Rattle.classes.specs.Alignments.{ordinary}
 use Rattle.model.specs.declared.Refusal.{Refusal}
 use Rattle.model.specs.declared.Refusal.the-variants.{NoRoom, TooLong, BadProposal}
 use Rattle.model.specs.State.{Pool, Place, wellFormed, poolOf, start}
 use Rattle.model.specs.Proposals.{entries, capRight, sizeRight, accepts, plannable}
 use Rattle.model.specs.Plans.{Plan, refused, reserve, placed, placedBy, reserveAll, grantAllAt, grantList}
-use Rattle.model.proofs.Reserve.{reserve-formed}
+use Rattle.model.proofs.Reserve.{plain, reserve-formed}
 
 -- sizes that a grant does not refuse with answer 3
 abbrev pub small : List ℕ → Bool
@@ -56,33 +57,34 @@ module _ (row : ℕ) (P : Pool) (ns : List ℕ) (i : ℕ) where
   all-placed h = rw (drop-of-length-le ns h)
 
   pub next-placed : i < length ns
-      → reserveAll row P (drop i ns) ≡ placedBy (reserve row P (getD ns i 0)) (λ q. reserveAll row (poolOf q) (drop (i + 1) ns))
+      → reserveAll row P (drop i ns) ≡ placedBy (reserve row P ordinary (getD ns i 0)) (λ q. reserveAll row (poolOf q) (drop (i + 1) ns))
   unfolding reserveAll
   next-placed h = rw (add-one, drop-cons ns i 0 h)
 
 module _ (row : ℕ) where
   -- a list that is granted, by its grants
   pub by-grants : (M : Pool → List ℕ → List Place → Type 0) → ((P : Pool) → M P [] [])
-      → ((P : Pool) (n : ℕ) (ns : List ℕ) (q : Place) (qs : List Place) → T (wellFormed P) → n < tooLarge → reserve row P n ≡ some q → M (poolOf q) ns qs
+      → ((P : Pool) (n : ℕ) (ns : List ℕ) (q : Place) (qs : List Place) → T (wellFormed P) → n < tooLarge → reserve row P ordinary n ≡ some q
+      → M (poolOf q) ns qs
       → M P (n ∷ ns) (q ∷ qs))
       → (P : Pool) (ns : List ℕ) (qs : List Place) → T (wellFormed P) → T (small ns) → reserveAll row P ns ≡ some qs → M P ns qs
   unfolding reserveAll
   by-grants M nil step P [] [] w h e = nil P
   by-grants M nil step P [] (q ∷ qs) w h e = let z : _≡_ {A = ℕ} 0 1 = cc in absurd (omega arith)
-  by-grants M nil step P (n ∷ ns) qs w h e = first (reserve row P n) refl e (λ Q rs. by-grants M nil step Q ns rs)
+  by-grants M nil step P (n ∷ ns) qs w h e = first (reserve row P ordinary n) refl e (λ Q rs. by-grants M nil step Q ns rs)
     where
       Later : Type 0
       Later = (Q : Pool) (rs : List Place) → T (wellFormed Q) → T (small ns) → reserveAll row Q ns ≡ some rs → M Q ns rs
 
-      rest : (q : Place) → reserve row P n ≡ some q → (o : Option (List Place)) → reserveAll row (poolOf q) ns ≡ o → placed q o ≡ some qs → Later
+      rest : (q : Place) → reserve row P ordinary n ≡ some q → (o : Option (List Place)) → reserveAll row (poolOf q) ns ≡ o → placed q o ≡ some qs → Later
           → M P (n ∷ ns) qs
       rest q r none f e k = let z : _≡_ {A = ℕ} 0 1 = cc in absurd (omega arith)
       rest q r (some rs) f e k =
           let z : q ∷ rs ≡ qs = cc in
           let s : n < tooLarge = small-first n ns h in
-          subst (M P (n ∷ ns)) z (step P n ns q rs w s r (k (poolOf q) rs (reserve-formed row P n q w s r .formed) (small-rest n ns h) f))
+          subst (M P (n ∷ ns)) z (step P n ns q rs w s r (k (poolOf q) rs (reserve-formed row P ordinary n q w (plain s) r .formed) (small-rest n ns h) f))
 
-      first : (o : Option Place) → reserve row P n ≡ o → placedBy o (λ q. reserveAll row (poolOf q) ns) ≡ some qs → Later → M P (n ∷ ns) qs
+      first : (o : Option Place) → reserve row P ordinary n ≡ o → placedBy o (λ q. reserveAll row (poolOf q) ns) ≡ some qs → Later → M P (n ∷ ns) qs
       first none r e k = let z : _≡_ {A = ℕ} 0 1 = cc in absurd (omega arith)
       first (some q) r e k = rest q r (reserveAll row (poolOf q) ns) refl e k
 

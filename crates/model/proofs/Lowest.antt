@@ -5,6 +5,7 @@ use Rattle.mem.proofs.Prelude.{replicate}
 use Rattle.mem.specs.Lists.{choose, every, any, first}
 use Rattle.mem.proofs.Tests.{T-true, and-left, and-right, and-both, every-left, choose-false}
 use Rattle.classes.specs.Classes.{classOf, slotsOf, rowsOf}
+use Rattle.classes.specs.Alignments.{enlarged}
 use Rattle.classes.proofs.Laws.{rows-pos}
 use Rattle.model.specs.declared.Slot.{Slot}
 use Rattle.model.specs.declared.Slot.the-variants.{Fresh, Idle, Live}
@@ -193,21 +194,23 @@ module _ (row : ℕ) where
       (site-found row P c s e)
 
   -- a grant takes a place exactly if there is one
-  pub reserve-none : 0 < row → (P : Pool) (n : ℕ) → reserve row P n ≡ none → NoPlace row P (classOf n)
+  pub reserve-none : 0 < row → (P : Pool) (k n : ℕ) → reserve row P k n ≡ none → NoPlace row P (classOf (enlarged k n))
   unfolding reserve
-  reserve-none pos P n e = go (site row P (classOf n)) refl e
+  reserve-none pos P k n e = go (site row P (classOf (enlarged k n))) refl e
     where
-      go : (o : Option Site) → site row P (classOf n) ≡ o → reserveIn (classOf n) n o ≡ none → NoPlace row P (classOf n)
-      go none h e = site-none pos P (classOf n) h
+      go : (o : Option Site) → site row P (classOf (enlarged k n)) ≡ o → reserveIn row (classOf (enlarged k n)) k n o ≡ none
+          → NoPlace row P (classOf (enlarged k n))
+      go none h e = site-none pos P (classOf (enlarged k n)) h
       go (some s) h e = let z : _≡_ {A = ℕ} 0 1 = cc in absurd (omega arith)
 
-  pub reserve-some : (P : Pool) (n : ℕ) (q : Place) → reserve row P n ≡ some q → NoPlace row P (classOf n) → ⊥
+  pub reserve-some : (P : Pool) (k n : ℕ) (q : Place) → reserve row P k n ≡ some q → NoPlace row P (classOf (enlarged k n)) → ⊥
   unfolding reserve
-  reserve-some P n q e = go (site row P (classOf n)) refl e
+  reserve-some P k n q e = go (site row P (classOf (enlarged k n))) refl e
     where
-      go : (o : Option Site) → site row P (classOf n) ≡ o → reserveIn (classOf n) n o ≡ some q → NoPlace row P (classOf n) → ⊥
+      go : (o : Option Site) → site row P (classOf (enlarged k n)) ≡ o → reserveIn row (classOf (enlarged k n)) k n o ≡ some q
+          → NoPlace row P (classOf (enlarged k n)) → ⊥
       go none h e = let z : _≡_ {A = ℕ} 0 1 = cc in absurd (omega arith)
-      go (some s) h e = site-some P (classOf n) s h
+      go (some s) h e = site-some P (classOf (enlarged k n)) s h
 
 -- ---- the search goes on where the last one ended
 
@@ -226,8 +229,8 @@ module _ (row : ℕ) where
           let (R, k, t) = some-shut c [] P g (f ∙ ap some z) in
           subst (Shut c) (sym k) t
 
-  pub grant-shut : (P : Pool) (n : ℕ) (q : Place) → T (wellFormed P) → reserve row P n ≡ some q → Shut (classOf n) (q .before)
+  pub grant-shut : (P : Pool) (k n : ℕ) (q : Place) → T (wellFormed P) → reserve row P k n ≡ some q → Shut (classOf (enlarged k n)) (q .before)
   unfolding grantIn
-  grant-shut P n q w e =
-      let v : Served row P n q = served row P n q w e in
-      subst (Shut (classOf n)) (sym (ap (λ p. p .before) (v .place))) (site-shut P (classOf n) (v .at) (v .found))
+  grant-shut P k n q w e =
+      let v : Served row P k n q = served row P k n q w e in
+      subst (Shut (classOf (enlarged k n))) (sym (ap (λ p. p .before) (v .place))) (site-shut P (classOf (enlarged k n)) (v .at) (v .found))

@@ -1,6 +1,7 @@
 -- A block that moves: in the pool that the grant makes it lives on where it was, beside the new block, and is released by its start.
 use Rattle.mem.proofs.Prelude.{_∙_, _≡_, sym, ap, ap₂, subst, ⊎-elim, inl, inr, _⊎_, some, _+_, ℕ, _<_, _≤_, _*_, arith, T}
-use Rattle.classes.specs.Classes.{slotBytes, tooLarge}
+use Rattle.classes.specs.Classes.{slotBytes}
+use Rattle.classes.specs.Alignments.{Askable}
 use Rattle.model.specs.declared.Slot.{Slot}
 use Rattle.model.specs.declared.Slot.the-variants.{Fresh, Idle, Live}
 use Rattle.model.specs.State.{Pool, Place, isLive, granted, disp, wellFormed, poolOf, owned, start}
@@ -30,7 +31,7 @@ module _ (row : ℕ) where
     release-found p w l =
         ap (onBlock (poolOf p) (releaseAt row)) (lookup-start row pos p w (live-granted (p .state) l)) ∙ on-live (poolOf p) (releaseAt row) p l
 
-    module _ (P : Pool) (w : T (wellFormed P)) (n : ℕ) (small : n < tooLarge) (q : Place) (found : reserve row P n ≡ some q)
+    module _ (P : Pool) (w : T (wellFormed P)) (k n : ℕ) (small : Askable k n) (q : Place) (found : reserve row P k n ≡ some q)
         (p : Place) (here : poolOf p ≡ P) (lives : T (isLive (p .state))) where
       -- the old block in the pool that a grant makes
       pub record Old : Type 0 where
@@ -43,14 +44,14 @@ module _ (row : ℕ) where
 
       pub old : Old
       old =
-          let (p′, e, s) = reserve-keeps row P n q w found p here lives in
+          let (p′, e, s) = reserve-keeps row P k n q w found p here lives in
           record {
             place = p′;
             pool = e;
             stays = s;
             live = subst (λ x. T (isLive x)) (sym (s .state)) lives;
-            formed = subst (λ Q. T (wellFormed Q)) (sym e) (reserve-formed row P n q w small found .formed);
-            other = λ z. reserve-other row pos P n q w found p here lives (subst (Stays row p) z s);
+            formed = subst (λ Q. T (wellFormed Q)) (sym e) (reserve-formed row P k n q w small found .formed);
+            other = λ z. reserve-other row pos P k n q w found p here lives (subst (Stays row p) z s);
           }
 
       pub old-released : release row (poolOf q) (start row p) ≡ releaseAt row (old .place)

@@ -2,21 +2,27 @@
 use Rattle.mem.proofs.Prelude.{_∙_, _≡_, sym, ap, refl, subst, true, Bool, false, _&&_, not, _||_, ⊎-elim, inl, inr, _⊎_, some, none, Option, List, [], _∷_}
 use Rattle.mem.proofs.Prelude.{_++_, append-assoc, map, append-nil, _+_, ℕ, _<_, _≤_, _*_, _-_, suc, _/_, zero, _%_, add-zero, arith, eq-eqb, T, eqb, leb, ltb}
 use Rattle.mem.proofs.Prelude.{eqb→eq, eqb-refl, lt→ltb, le→leb, length, drop, getD, length-append, replicate, length-map, length-replicate, length-take-le}
+use Rattle.mem.proofs.Prelude.{leb-false, lit≤}
 use native.Mathlib.Nat.{mod-lt}
 use lib.Seq.{split-at}
 use Rattle.mem.specs.Lists.{choose, every, any, first}
 use Rattle.mem.proofs.Tests.{and-left, and-right, and-both, every-left, every-right, every-append, choose-case, T-true, true-T}
 use Rattle.mem.proofs.Splits.{Before, Within, Behind, splits}
-use Rattle.classes.specs.Classes.{slotBytes, classOf, slotsOf, rowsOf, tooLarge}
+use Rattle.classes.specs.Classes.{slotBytes, classOf, slotsOf, rowsOf, tooLarge, ownClass}
+use Rattle.classes.specs.Alignments.{ordinary, alignOf, enlarged, roundUp, Askable}
 use Rattle.classes.specs.Facts.{ClassFacts}
+use Rattle.classes.proofs.Alignments.{enlarged-least, enlarged-by, align-units, align-least, round-near}
 use Rattle.classes.proofs.Laws.{class-facts, slots-pos, rows-pos}
 use Rattle.model.specs.declared.Slot.{Slot}
 use Rattle.model.specs.declared.Slot.the-variants.{Fresh, Idle, Live}
-use Rattle.model.specs.State.{Span, Pool, Place, free, group, isLive, isReady, count, slotSound, spanSound, wellFormed, poolOf, slotNumber, rows, size}
-use Rattle.model.specs.Plans.{Site, opens, openFrom, run, turnReady, refill, grantSlot, grantIn, runFrom, siteOr, site, reserveIn, reserve, freshPool}
+use Rattle.model.specs.State.{Span, Pool, Place, free, group, isLive, isReady, count, size, align, slotSound, spanSound, wellFormed, poolOf}
+use Rattle.model.specs.State.{slotNumber, rows, base, beginning, slotsAligned, aligned}
+use Rattle.model.specs.Plans.{Site, opens, openFrom, run, turnReady, refill, displaced, grantSlot, grantIn, runFrom, siteOr, site, reserveIn, reserve}
+use Rattle.model.specs.Plans.{freshPool}
 use Rattle.model.proofs.Tables.{group-slots}
 use Rattle.model.proofs.Rooms.{rows-append}
 use Rattle.model.proofs.Fresh.{fresh-rows}
+use Rattle.model.proofs.Bounds.{Parts, parts, whole, made-parts, refilled, granted-aligned}
 use Rattle.model.proofs.Lookup.{placed, groupOf, InRows, span-unique, split-unique}
 
 -- ---- refill
@@ -65,6 +71,10 @@ first-ready (x ∷ ss) t = go (isReady x) refl t (λ u. first-ready ss u)
     go false e u r = (omega (arith, r u .0), r u .1)
 
 -- ---- the site of a grant
+
+fresh-slots-aligned : (c b n : ℕ) → T (slotsAligned c b (replicate n Fresh))
+fresh-slots-aligned c b zero = tt
+fresh-slots-aligned c b (suc n) = fresh-slots-aligned c (b + slotBytes c) n
 
 pub fresh-slots : (c n : ℕ) → T (every (slotSound c) (replicate n Fresh))
 unfolding slotSound
@@ -179,16 +189,16 @@ module _ (row : ℕ) where
           }
 
 -- the slot taken: the lowest ready one after refill
-pub record Taken (c n : ℕ) (s : Site) (q : Place) : Type 0 where
+pub record Taken (row c k n : ℕ) (s : Site) (q : Place) : Type 0 where
   pub old : Slot
   pub ready : T (isReady old)
   pub slots : refill (s .slots) ≡ q .lower ++ (old ∷ q .upper)
   pub number : slotNumber q ≡ first isReady (refill (s .slots))
-  pub state : q .state ≡ grantSlot c n old
+  pub state : q .state ≡ grantSlot c k n (beginning row q) old
 
-pub grant-taken : (c n : ℕ) (s : Site) → T (any (λ x. not (isLive x)) (s .slots)) → Taken c n s (grantIn c n s)
+pub grant-taken : (row c k n : ℕ) (s : Site) → T (any (λ x. not (isLive x)) (s .slots)) → Taken row c k n s (grantIn row c k n s)
 unfolding grantIn
-grant-taken c n s t =
+grant-taken row c k n s t =
     let ss : List Slot = refill (s .slots) in
     let f : (first isReady ss < length ss) × T (isReady (getD ss (first isReady ss) Fresh)) = first-ready ss (refill-ready (s .slots) t) in
     record {
@@ -196,28 +206,46 @@ grant-taken c n s t =
       ready = f .1;
       slots = split-at ss (first isReady ss) Fresh (f .0);
       number = length-take-le (first isReady ss) ss (omega (arith, f .0));
-      state = refl;
+      state =
+          ap (λ i. grantSlot c k n (row * rows row (s .before) + 16 + i * slotBytes c) (getD ss (first isReady ss) Fresh))
+          (sym (length-take-le (first isReady ss) ss (omega (arith, f .0))));
     }
 
-pub grant-live : (c n : ℕ) (x : Slot) → T (isLive (grantSlot c n x))
+pub grant-live : (c k n b : ℕ) (x : Slot) → T (isLive (grantSlot c k n b x))
 unfolding grantSlot
-grant-live c n x = tt
+grant-live c k n b x = tt
 
--- "16d + n at most s − 4, and its class is that of n"
-pub grant-sound : (n : ℕ) (x : Slot) → n < tooLarge → T (slotSound (classOf n) (grantSlot (classOf n) n x))
+-- an ordinary grant
+pub plain : {n : ℕ} → n < tooLarge → Askable ordinary n
+plain h = record { some-code = lit≤ tt; last-code = lit≤ tt; small = h }
+
+-- a displacement leaves room for the size
+displaced-fits : (c k n b j : ℕ) → 1 ≤ k → enlarged k n + 4 ≤ slotBytes c → 16 * displaced c k n b j + n ≤ slotBytes c - 4
+unfolding displaced
+displaced-fits c k n b j h f =
+    choose-case (λ d. 16 * d + n ≤ slotBytes c - 4) (leb k ordinary) _ _
+    (λ _. let l : j % suc ((slotBytes c - 4 - n) / 16) < suc ((slotBytes c - 4 - n) / 16) = mod-lt j (omega arith) in
+    omega (arith, enlarged-least k n))
+    (λ e.
+    let m : 1 < k = omega (arith, leb-false k ordinary e) in
+    let r : (b ≤ roundUp (alignOf k) b) × (roundUp (alignOf k) b < b + alignOf k) = round-near (alignOf k) b (omega (arith, align-least k h)) in
+    omega (arith, r .0, r .1, align-units k h, align-least k h, enlarged-by k n m))
+
+-- "16d + n at most s − 4, and its class is that of n": of the enlarged size
+pub grant-sound : (k n b : ℕ) (x : Slot) → Askable k n → T (slotSound (classOf (enlarged k n)) (grantSlot (classOf (enlarged k n)) k n b x))
 unfolding slotSound grantSlot
-grant-sound n x h =
-    let c : ℕ = classOf n in
-    let t : ℕ = (slotBytes c - 4 - n) / 16 in
-    let f : ClassFacts n = class-facts n h in
-    let l : count x % suc t < suc t = mod-lt (count x) (omega arith) in
-    let k : (count x + 1) % 256 < 256 = mod-lt (count x + 1) (omega arith) in
-    let b : 16 * (count x % suc t) + n ≤ slotBytes c - 4 = omega (arith, f .holds) in
-    and-both (ltb ((count x + 1) % 256) 256 && leb (16 * (count x % suc t) + n) (slotBytes c - 4) && ltb n tooLarge) _
-    (and-both (ltb ((count x + 1) % 256) 256 && leb (16 * (count x % suc t) + n) (slotBytes c - 4)) (ltb n tooLarge)
-    (and-both (ltb ((count x + 1) % 256) 256) (leb (16 * (count x % suc t) + n) (slotBytes c - 4)) (lt→ltb _ _ k) (le→leb _ _ b))
-    (lt→ltb n tooLarge h))
-    (rw (T-true (eqb c c) (eqb-refl c)) tt)
+grant-sound k n b x h =
+    let e : ℕ = enlarged k n in
+    let c : ℕ = classOf e in
+    let d : ℕ = displaced c k n b (count x) in
+    let f : ClassFacts e = class-facts e (h .small) in
+    let t₁ : T (ltb ((count x + 1) % 256) 256) = lt→ltb _ _ (mod-lt (count x + 1) (omega arith)) in
+    let t₂ : T (leb (16 * d + n) (slotBytes c - 4)) = le→leb _ _ (displaced-fits c k n b (count x) (h .some-code) (f .holds)) in
+    let t₃ : T (leb 1 k) = le→leb 1 k (h .some-code) in
+    let t₄ : T (leb k 9) = le→leb k 9 (h .last-code) in
+    let t₅ : T (ltb e tooLarge) = lt→ltb e tooLarge (h .small) in
+    let t₆ : T (ownClass c e) = rw (T-true (eqb c c) (eqb-refl c)) tt in
+    search and-both
 
 any-here : {A : Type 0} (f : A → Bool) (xs : List A) (y : A) (ys : List A) → T (f y) → T (any f (xs ++ (y ∷ ys)))
 any-here f [] y ys t = rw (T-true (f y) t) tt
@@ -227,43 +255,59 @@ any-here f (x ∷ xs) y ys t = or-right (f x) (any f (xs ++ (y ∷ ys))) (any-he
     or-right true b t = tt
     or-right false b t = t
 
-module _ (row : ℕ) (P : Pool) (n : ℕ) where
+module _ (row : ℕ) (P : Pool) (k n : ℕ) where
+  -- the class that serves
+  abbrev pub servedBy : ℕ
+  servedBy = classOf (enlarged k n)
+
   -- what a grant takes, and where
   pub record Served (q : Place) : Type 0 where
     pub at : Site
-    pub found : site row P (classOf n) ≡ some at
-    pub place : q ≡ grantIn (classOf n) n at
-    pub taken : Taken (classOf n) n at q
-    pub ground : Ground row P (classOf n) at
+    pub found : site row P servedBy ≡ some at
+    pub place : q ≡ grantIn row servedBy k n at
+    pub taken : Taken row servedBy k n at q
+    pub ground : Ground row P servedBy at
 
-  pub served : (q : Place) → T (wellFormed P) → reserve row P n ≡ some q → Served q
+  pub served : (q : Place) → T (wellFormed P) → reserve row P k n ≡ some q → Served q
   unfolding reserve
-  served q w e = go (site row P (classOf n)) refl e
+  served q w e = go (site row P servedBy) refl e
     where
-      go : (o : Option Site) → site row P (classOf n) ≡ o → reserveIn (classOf n) n o ≡ some q → Served q
+      go : (o : Option Site) → site row P servedBy ≡ o → reserveIn row servedBy k n o ≡ some q → Served q
       go none h e = let z : _≡_ {A = ℕ} 0 1 = cc in absurd (omega arith)
       go (some s) h e =
-          let p : grantIn (classOf n) n s ≡ q = cc in
-          let g : Ground row P (classOf n) s = ground row P (classOf n) s w h in
-          record { at = s; found = h; place = sym p; taken = subst (Taken (classOf n) n s) p (grant-taken (classOf n) n s (g .room)); ground = g }
+          let p : grantIn row servedBy k n s ≡ q = cc in
+          let g : Ground row P servedBy s = ground row P servedBy s w h in
+          record {
+            at = s;
+            found = h;
+            place = sym p;
+            taken = subst (Taken row servedBy k n s) p (grant-taken row servedBy k n s (g .room));
+            ground = g;
+          }
 
-  -- a reserved slot has the size asked for
-  pub reserve-size : (q : Place) → T (wellFormed P) → reserve row P n ≡ some q → size (q .state) ≡ n
+  -- a reserved slot has the size and the alignment asked for
+  pub reserve-size : (q : Place) → T (wellFormed P) → reserve row P k n ≡ some q → size (q .state) ≡ n
   unfolding grantSlot
   reserve-size q w r = ap size (served q w r .taken .state)
+
+  pub reserve-align : (q : Place) → T (wellFormed P) → reserve row P k n ≡ some q → align (q .state) ≡ k
+  unfolding grantSlot
+  reserve-align q w r = ap align (served q w r .taken .state)
 
   -- the pool that a grant makes
   pub record Granted (q : Place) : Type 0 where
     pub formed : T (wellFormed (poolOf q))
     pub long : rows row (poolOf q) ≡ rows row P
+    -- its blocks are on their boundaries, if they were
+    pub bounds : row % 16 ≡ 0 → T (aligned row P) → T (aligned row (poolOf q))
 
-  pub reserve-formed : (q : Place) → T (wellFormed P) → n < tooLarge → reserve row P n ≡ some q → Granted q
+  pub reserve-formed : (q : Place) → T (wellFormed P) → Askable k n → reserve row P k n ≡ some q → Granted q
   unfolding spanSound grantIn
   reserve-formed q w h e =
       let v : Served q = served q w e in
       let s : Site = v .at in
-      let c : ℕ = classOf n in
-      let k : Taken c n s q = v .taken in
+      let c : ℕ = servedBy in
+      let took : Taken row c k n s q = v .taken in
       let g : Ground row P c s = v .ground in
       let b : q .before ≡ s .before = ap (λ p. p .before) (v .place) in
       let a : q .after ≡ s .after = ap (λ p. p .after) (v .place) in
@@ -273,22 +317,22 @@ module _ (row : ℕ) (P : Pool) (n : ℕ) where
       omega (
         arith,
         length-append (q .lower) (q .state ∷ q .upper),
-        length-append (q .lower) (k .old ∷ q .upper),
-        ap length (k .slots),
+        length-append (q .lower) (took .old ∷ q .upper),
+        ap length (took .slots),
         refill-length
             (s .slots),
         g .slots,
       ) in
-      let t : T (every (slotSound c) (q .lower ++ (k .old ∷ q .upper))) = rw (← k .slots) (refill-sound c (s .slots) (g .sound)) in
+      let t : T (every (slotSound c) (q .lower ++ (took .old ∷ q .upper))) = rw (← took .slots) (refill-sound c (s .slots) (g .sound)) in
       let u : T (every (slotSound c) ss) =
-      every-append (slotSound c) (q .lower) (q .state ∷ q .upper) (every-left (slotSound c) (q .lower) (k .old ∷ q .upper) t)
-      (and-both (slotSound c (q .state)) (every (slotSound c) (q .upper)) (rw (k .state) (grant-sound n (k .old) h))
-      (and-right (slotSound c (k .old)) (every (slotSound c) (q .upper)) (every-right (slotSound c) (q .lower) (k .old ∷ q .upper) t))) in
-      let m : T (any isLive ss) = any-here isLive (q .lower) (q .state) (q .upper) (rw (k .state) (grant-live c n (k .old))) in
+      every-append (slotSound c) (q .lower) (q .state ∷ q .upper) (every-left (slotSound c) (q .lower) (took .old ∷ q .upper) t)
+      (and-both (slotSound c (q .state)) (every (slotSound c) (q .upper)) (rw (took .state) (grant-sound k n (beginning row q) (took .old) h))
+      (and-right (slotSound c (took .old)) (every (slotSound c) (q .upper)) (every-right (slotSound c) (q .lower) (took .old ∷ q .upper) t))) in
+      let m : T (any isLive ss) = any-here isLive (q .lower) (q .state) (q .upper) (rw (took .state) (grant-live c k n (beginning row q) (took .old))) in
       let z : T (spanSound (group c ss)) =
       and-both (ltb c 48 && eqb (length ss) (slotsOf c) && any isLive ss) (every (slotSound c) ss)
       (and-both (ltb c 48 && eqb (length ss) (slotsOf c)) (any isLive ss)
-      (and-both (ltb c 48) (eqb (length ss) (slotsOf c)) (lt→ltb c 48 (class-facts n h .inside))
+      (and-both (ltb c 48) (eqb (length ss) (slotsOf c)) (lt→ltb c 48 (class-facts (enlarged k n) (h .small) .inside))
       (true-T (eqb (length ss) (slotsOf c)) (eq-eqb (length ss) (slotsOf c) l))) m) u in
       let p : poolOf q ≡ s .before ++ (group c ss ∷ s .after) = cc in
       record {
@@ -296,7 +340,46 @@ module _ (row : ℕ) (P : Pool) (n : ℕ) where
             subst (λ Q. T (wellFormed Q)) (sym p)
             (every-append spanSound (s .before) (group c ss ∷ s .after) (g .before) (and-both (spanSound (group c ss)) (wellFormed (s .after)) z (g .after)));
         long = ap (rows row) p ∙ rows-append row (s .before) (group c ss ∷ s .after) ∙ sym (g .long);
+        bounds = λ u t. subst (λ Q. T (aligned row Q)) (sym p) (on-boundaries q v h u t);
       }
+    where
+      -- the site's group, with its slots before the grant
+      site-parts : (q : Place) (v : Served q) → T (aligned row P) → Parts row (v .at .before) servedBy (v .at .slots) (v .at .after)
+      site-parts q v t = ⊎-elim opened made (site-found row P servedBy (v .at) (v .found))
+        where
+          s : Site
+          s = v .at
+
+          opened : Open P servedBy s → Parts row (s .before) servedBy (s .slots) (s .after)
+          opened o = parts row (s .before) servedBy (s .slots) (s .after) (subst (λ Q. T (aligned row Q)) (o .split) t)
+
+          made : New row P servedBy s → Parts row (s .before) servedBy (s .slots) (s .after)
+          made m =
+              let (a, b) = made-parts row (s .before) servedBy (s .after) (subst (λ Q. T (aligned row Q)) (m .split) t) in
+              let k : ℕ = row * rows row (s .before) + 16 in
+              record {
+                before = a;
+                slots = subst (λ l. T (slotsAligned servedBy k l)) (sym (m .slots)) (fresh-slots-aligned servedBy k (slotsOf servedBy));
+                after = b;
+              }
+
+      on-boundaries : (q : Place) (v : Served q) → Askable k n → row % 16 ≡ 0 → T (aligned row P)
+          → T (aligned row (v .at .before ++ (group servedBy (q .lower ++ (q .state ∷ q .upper)) ∷ v .at .after)))
+      on-boundaries q v h u t =
+          let s : Site = v .at in
+          let c : ℕ = servedBy in
+          let z : Parts row (s .before) c (s .slots) (s .after) = site-parts q v t in
+          let b : q .before ≡ s .before = ap (λ p. p .before) (v .place) in
+          let j : q .cls ≡ c = ap (λ p. p .cls) (v .place) in
+          let e : base row q + 16 ≡ row * rows row (s .before) + 16 = ap (λ X. row * rows row X + 16) b in
+          let r : T (slotsAligned c (row * rows row (s .before) + 16) (q .lower ++ (v .taken .old ∷ q .upper))) =
+          subst (λ l. T (slotsAligned c (row * rows row (s .before) + 16) l)) (v .taken .slots)
+          (refilled row c (row * rows row (s .before) + 16) (s .slots) (z .slots)) in
+          let x : T (slotsAligned (q .cls) (base row q + 16) (q .lower ++ (q .state ∷ q .upper))) =
+          granted-aligned row q (v .taken .old) k n u (h .some-code) (v .taken .state ∙ ap (λ i. grantSlot i k n (beginning row q) (v .taken .old)) (sym j))
+          (rw (j, e) r) in
+          whole row (s .before) c (q .lower ++ (q .state ∷ q .upper)) (s .after)
+          (record { before = z .before; slots = rw (← e, ← j) x; after = z .after })
 
 -- ---- live blocks stay where they are
 
@@ -361,7 +444,7 @@ not-both (Idle b k d) r l = l
 not-both (Live a) r l = r
 
 -- in the group that serves, another slot becomes live
-module _ (row : ℕ) (c n : ℕ) (s : Site) (q : Place) (k : Taken c n s q) where
+module _ (row : ℕ) (c j n : ℕ) (s : Site) (q : Place) (k : Taken row c j n s q) where
   stays-beside : (us : List Slot) (x : Slot) (vs : List Slot) → s .slots ≡ us ++ (x ∷ vs) → T (isLive x)
       → (ls : List Slot) × (hs : List Slot) × (q .lower ++ (q .state ∷ q .upper) ≡ ls ++ (x ∷ hs)) × (length ls ≡ length us)
   stays-beside us x vs e t = from-refill (live-refilled us x vs t)
@@ -380,17 +463,17 @@ module _ (row : ℕ) (c n : ℕ) (s : Site) (q : Place) (k : Taken c n s q) wher
           )) w)
           (splits (q .lower) (k .old ∷ []) (q .upper) us′ x vs′ g)
 
-module _ (row : ℕ) (P : Pool) (n : ℕ) (q : Place) (w : T (wellFormed P)) (r : reserve row P n ≡ some q) where
+module _ (row : ℕ) (P : Pool) (j n : ℕ) (q : Place) (w : T (wellFormed P)) (r : reserve row P j n ≡ some q) where
   -- a live block of the pool is where it was in the pool that a grant makes
   pub reserve-keeps : (p : Place) → poolOf p ≡ P → T (isLive (p .state)) → (p′ : Place) × (poolOf p′ ≡ poolOf q) × Stays row p p′
   unfolding grantIn
   reserve-keeps p e t = ⊎-elim opened made (site-found row P c s (v .found))
     where
       c : ℕ
-      c = classOf n
+      c = classOf (enlarged j n)
 
-      v : Served row P n q
-      v = served row P n q w r
+      v : Served row P j n q
+      v = served row P j n q w r
 
       s : Site
       s = v .at
@@ -402,7 +485,7 @@ module _ (row : ℕ) (P : Pool) (n : ℕ) (q : Place) (w : T (wellFormed P)) (r 
       pool =
           let b : q .before ≡ s .before = ap (λ p. p .before) (v .place) in
           let a : q .after ≡ s .after = ap (λ p. p .after) (v .place) in
-          let j : q .cls ≡ c = ap (λ p. p .cls) (v .place) in
+          let i : q .cls ≡ c = ap (λ p. p .cls) (v .place) in
           cc
 
       onto : (p′ : Place) × (poolOf p′ ≡ s .before ++ (g ∷ s .after)) × Stays row p p′ → (p′ : Place) × (poolOf p′ ≡ poolOf q) × Stays row p p′
@@ -425,7 +508,7 @@ module _ (row : ℕ) (P : Pool) (n : ℕ) (q : Place) (w : T (wellFormed P)) (r 
           let i : c ≡ p .cls = cc in
           let l : s .slots ≡ p .lower ++ (p .state ∷ p .upper) = cc in
           let f : p .before ≡ s .before = b ∙ ap (λ z. s .before ++ z) (u .0) ∙ append-nil (s .before) in
-          beside f (sym i) (stays-beside row c n s q (v .taken) (p .lower) (p .state) (p .upper) l t)
+          beside f (sym i) (stays-beside row c j n s q (v .taken) (p .lower) (p .state) (p .upper) l t)
 
       opened : Open P c s → (p′ : Place) × (poolOf p′ ≡ poolOf q) × Stays row p p′
       opened o =
@@ -443,17 +526,17 @@ module _ (row : ℕ) (P : Pool) (n : ℕ) (q : Place) (w : T (wellFormed P)) (r 
           (λ x. onto (stays-behind row (s .before) M (g ∷ []) (s .after) l p x)) y)
           (splits (s .before) M (s .after) (p .before) (groupOf p) (p .after) (sym (m .split) ∙ sym e))
 
-module _ (row : ℕ) (pos : 0 < row) (P : Pool) (n : ℕ) (q : Place) (w : T (wellFormed P)) (r : reserve row P n ≡ some q) where
+module _ (row : ℕ) (pos : 0 < row) (P : Pool) (j n : ℕ) (q : Place) (w : T (wellFormed P)) (r : reserve row P j n ≡ some q) where
   -- the slot that a grant takes is no live block's
   pub reserve-other : (p : Place) → poolOf p ≡ P → T (isLive (p .state)) → Stays row p q → ⊥
   unfolding grantIn
   reserve-other p e t k = ⊎-elim opened made (site-found row P c s (v .found))
     where
       c : ℕ
-      c = classOf n
+      c = classOf (enlarged j n)
 
-      v : Served row P n q
-      v = served row P n q w r
+      v : Served row P j n q
+      v = served row P j n q w r
 
       s : Site
       s = v .at

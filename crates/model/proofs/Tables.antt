@@ -1,5 +1,5 @@
 -- Laws of the tables: their exact size, and that one state has one byte form, which says that state.
-use Rattle.mem.proofs.Prelude.{_∙_, _≡_, sym, ap, refl, ap₂, true, Bool, false, _&&_, List, [], _∷_, _++_, append-assoc, map, append-nil, _+_, ℕ, _<_}
+use Rattle.mem.proofs.Prelude.{_∙_, _≡_, sym, ap, refl, ap₂, true, Bool, false, List, [], _∷_, _++_, append-assoc, map, append-nil, _+_, ℕ, _<_}
 use Rattle.mem.proofs.Prelude.{_≤_, _*_, _-_, suc, _/_, zero, _^_, zero-add, arith, eq-eqb, T, eqb, leb, lit≤, ltb, eqb→eq, leb→le, ltb→lt, lt→ltb}
 use Rattle.mem.proofs.Prelude.{length, drop, length-append, length-map, drop-at}
 use native.Mathlib.Nat.{le-trans, lt-of-lt-of-le, pow-le-pow-right, suc-add}
@@ -10,12 +10,14 @@ use Rattle.mem.proofs.Tests.{and-left, and-right, and-both, true-T, every-appen
 use Rattle.mem.proofs.Masks.{mask-below, low-test, rest-bits}
 use Rattle.mem.proofs.Laws.{zeros-length, number-low, low-bytes, same-refl, same→eq}
 use Rattle.classes.specs.Classes.{slotBytes, slotsOf, rowsOf, tooLarge}
+use Rattle.classes.specs.Alignments.{enlarged}
+use Rattle.classes.proofs.Alignments.{enlarged-least}
 use Rattle.classes.proofs.Laws.{units-small, slots-small, rows-pos}
 use Rattle.model.specs.declared.Slot.{Slot}
 use Rattle.model.specs.declared.Slot.the-variants.{Fresh, Idle, Live}
 use Rattle.model.specs.declared.Holder.{Holder}
 use Rattle.model.specs.declared.Holder.the-variants.{Free, First, Later}
-use Rattle.model.specs.State.{Span, Pool, free, group, isReady, isWaiting, slotSound, spanSound, wellFormed, rows, rowsIn}
+use Rattle.model.specs.State.{Span, Pool, free, group, isReady, isWaiting, size, slotSound, spanSound, wellFormed, aligned, rows, rowsIn}
 use Rattle.model.specs.Tables.{slotRecord, holderBytes, rowRecord, laterRecords, roomBytes, viewSlot, viewSlots, viewGroup, rowRecordBytes}
 use Rattle.model.specs.Tables.{viewHolder, spanOf, encodeBy, soundBy, spanRecordsBy, viewBy, viewRowsBy}
 use Rattle.model.specs.Tables.{Layout, LayoutLaws, byMasks, spanRecords, encode, arenaRight}
@@ -88,17 +90,24 @@ pub disp-fits : (c d : ℕ) → 16 * d ≤ slotBytes c - 4 → d < 256 ^ 2
 unfolding slotBytes
 disp-fits c d h = omega (arith, units-small c)
 
+-- "a live n is below 131,052"
+pub size-small : (c : ℕ) (x : Slot) → T (slotSound c x) → size x < 131052
+unfolding slotSound tooLarge
+size-small c Fresh t = omega arith
+size-small c (Idle r k d) t = omega arith
+size-small c (Live a) t =
+    omega (arith, ltb→lt (enlarged (a .align) (a .size)) 131052 (search (and-left, and-right)), enlarged-least (a .align) (a .size))
+
 pub view-slot : (c : ℕ) (x : Slot) → T (slotSound c x) → viewSlot (isReady x) (isWaiting x) (slotRecord x) ≡ x
-unfolding viewSlot slotRecord slotSound zeros choose tooLarge
+unfolding viewSlot slotRecord slotSound zeros choose
 view-slot c Fresh t = refl
 view-slot c (Idle true k d) t = ap (Idle true k) (number-low 2 d (disp-fits c d (leb→le (16 * d) (slotBytes c - 4) (search (and-left, and-right)))))
 view-slot c (Idle false k d) t = ap (Idle false k) (number-low 2 d (disp-fits c d (leb→le (16 * d) (slotBytes c - 4) (search (and-left, and-right)))))
 view-slot c (Live a) t =
     let t₁ : T (leb (16 * a .disp + a .size) (slotBytes c - 4)) = search (and-left, and-right) in
-    let t₂ : T (ltb (a .size) 131052) = search (and-left, and-right) in
     let h : 16 * a .disp ≤ slotBytes c - 4 = omega (arith, leb→le (16 * a .disp + a .size) (slotBytes c - 4) t₁) in
-    ap₂ {C = Slot} (λ d n. Live (record { count = a .count; disp = d; size = n })) (number-low 2 (a .disp) (disp-fits c (a .disp) h))
-    (number-low 3 (a .size) (omega (arith, ltb→lt (a .size) 131052 t₂)))
+    ap₂ {C = Slot} (λ d n. Live (record { count = a .count; disp = d; size = n; align = a .align })) (number-low 2 (a .disp) (disp-fits c (a .disp) h))
+    (number-low 3 (a .size) (omega (arith, size-small c (Live a) t)))
 
 view-slots : (c : ℕ) (ss : List Slot) (rest : List ℕ) → T (every (slotSound c) ss)
     → viewSlots (length ss) (mask (map isReady ss)) (mask (map isWaiting ss)) (join slotRecord ss ++ rest) ≡ ss
@@ -249,15 +258,13 @@ module _ {L : Layout} (law : LayoutLaws L) (row : ℕ) where
         ap (λ k. viewRowsBy L row k 0 J) n ∙ ap (viewRowsBy L row (rows row P) 0) (sym (append-nil J)) ∙ view-records P [] t
 
     -- the byte form of a well-formed state is sound, under an arena of its length
-    pub encode-sound : (P : Pool) (n : ℕ) → T (wellFormed P) → T (arenaRight row n) → n ≡ row * rows row P → T (soundBy L row n (encodeBy L row P))
+    pub encode-sound : (P : Pool) (n : ℕ) → T (wellFormed P) → T (aligned row P) → T (arenaRight row n) → n ≡ row * rows row P
+        → T (soundBy L row n (encodeBy L row P))
     unfolding soundBy
-    encode-sound P n w h e =
-        rw (view-encode P w)
-        (and-both (arenaRight row n && eqb n (row * rows row P) && same (encodeBy L row P) (encodeBy L row P)) (wellFormed P)
-        (and-both (arenaRight row n && eqb n (row * rows row P)) (same (encodeBy L row P) (encodeBy L row P))
-        (and-both (arenaRight row n) (eqb n (row * rows row P)) h (true-T (eqb n (row * rows row P)) (eq-eqb n (row * rows row P) e)))
-        (same-refl (encodeBy L row P)))
-        w)
+    encode-sound P n w b h e =
+        let t₁ : T (eqb n (row * rows row P)) = true-T (eqb n (row * rows row P)) (eq-eqb n (row * rows row P) e) in
+        let t₂ : T (same (encodeBy L row P) (encodeBy L row P)) = same-refl (encodeBy L row P) in
+        rw (view-encode P w) (search and-both)
 
 module _ (L : Layout) (row : ℕ) where
   -- what sound tables are: the one form of what they say, for an arena of the recorded length, and well formed
@@ -266,6 +273,7 @@ module _ (L : Layout) (row : ℕ) where
     pub long : n ≡ row * rows row (viewBy L row t)
     pub form : t ≡ encodeBy L row (viewBy L row t)
     pub formed : T (wellFormed (viewBy L row t))
+    pub bounds : T (aligned row (viewBy L row t))
 
   pub sound-facts : (n : ℕ) (t : List ℕ) → T (soundBy L row n t) → Sound n t
   unfolding soundBy
@@ -274,6 +282,7 @@ module _ (L : Layout) (row : ℕ) where
     long = eqb→eq n (row * rows row (viewBy L row t)) (search (and-left, and-right));
     form = same→eq t (encodeBy L row (viewBy L row t)) (search (and-left, and-right));
     formed = search (and-left, and-right);
+    bounds = search (and-left, and-right);
   }
 
 -- the first engine's layout
@@ -314,8 +323,9 @@ slot-bytes c (Idle r k d) t =
     byte 1 _ (lit≤ tt) (byte k _ (ltb→lt k 256 (and-left (ltb k 256) (leb (16 * d) (slotBytes c - 4)) t))
     (bytes-append (low 2 d) (zeros 4) (low-small 2 d) (zeros-bytes 4)))
 slot-bytes c (Live a) t =
-    let h : T (ltb (a .count) 256) = search and-left in
-    byte 1 _ (lit≤ tt) (byte (a .count) _ (ltb→lt (a .count) 256 h)
+    let h : T (ltb (a .count) 256) = search (and-left, and-right) in
+    let k : T (leb (a .align) 9) = search (and-left, and-right) in
+    byte (a .align) _ (omega (arith, leb→le (a .align) 9 k)) (byte (a .count) _ (ltb→lt (a .count) 256 h)
     (bytes-append (low 2 (a .disp)) (low 3 (a .size) ++ (0 ∷ [])) (low-small 2 (a .disp))
     (bytes-append (low 3 (a .size)) (0 ∷ []) (low-small 3 (a .size)) (byte 0 [] (lit≤ tt) no-bytes))))
 

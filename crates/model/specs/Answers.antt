@@ -4,7 +4,7 @@ use mathlib.Core.List.{List, [], _∷_}
 use lib.ListN.{length}
 use Rattle.model.specs.declared.Refusal.{Refusal}
 use Rattle.model.specs.declared.Refusal.the-variants.{BadArena, Unsound, TooLarge, NoSuchBlock, AlreadyFree, HeaderDamaged, Overrun, NoRoom, TooLong}
-use Rattle.model.specs.declared.Refusal.the-variants.{BadProposal}
+use Rattle.model.specs.declared.Refusal.the-variants.{BadProposal, BadAlignment}
 use Rattle.model.specs.declared.Reply.{Reply}
 use Rattle.model.specs.declared.Report.{Report}
 use Rattle.model.specs.declared.Totals.{Totals}
@@ -28,6 +28,8 @@ numberOf NoRoom = 8
 -- 02 §3: "list too long", "bad proposal"
 numberOf TooLong = 9
 numberOf BadProposal = 17
+-- 02 §6
+numberOf BadAlignment = 13
 
 abbrev pub done : List ℕ → Answer
 done vs = record { number = 0; values = vs; lent = [] }

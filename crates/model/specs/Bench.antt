@@ -8,7 +8,7 @@ use lib.ListN.{length, replicate, set}
 use Rattle.mem.specs.Lists.{choose}
 use Rattle.mem.specs.Bytes.{zeros, bit, same, part, put}
 use Rattle.classes.specs.Classes.{rowBytes, slotsOf, rowsOf, classOf}
-use Rattle.model.specs.Plans.{Call, setsUp, grants, releases, resizes, measures, reports, grantsList}
+use Rattle.model.specs.Plans.{Call, setsUp, grants, grantsAligned, releases, resizes, measures, reports, grantsList}
 use Rattle.model.specs.Proposals.{accepts, planned}
 use Rattle.model.specs.Tables.{roomBytes}
 use Rattle.model.specs.declared.Totals.{Totals}
@@ -59,8 +59,9 @@ six b n h f r w = record { blocks = b; bytes = n; held = h; free = f; ready = r;
 abbrev pub ones : ℕ → List ℕ
 ones k = replicate k 1
 
-unfoldable pub sheet : List Entry
-sheet =
+-- the sheet of document 01, and what 02 §1 to §4 add
+unfoldable pub sheet01 : List Entry
+sheet01 =
     -- W1, W2
     fresh 512 (gives (grants 0) 16 ∷ shows 12 (bytes4 0 160 0 0) ∷ shows 24 (bytes4 12 0 0 0)
     ∷ gives (grants 12) 32 ∷ shows 28 (bytes4 0 1 1 0) ∷ [])
@@ -161,6 +162,51 @@ sheet =
     ∷ fresh 512 (gives (grants 0) 16 ∷ gives (grants 0) 32 ∷ gives (releases 16) 0 ∷ spoils 28 0 ∷ leaves (measures 32) 2 ∷ writes (six 2 0 1 0 29 0)
     ∷ gives (measures 32) 0 ∷ writes (six 0 0 0 0 0 0) ∷ leaves (measures 32) 2 ∷ gives setsUp 0 ∷ holds (six 0 0 0 1 0 0) ∷ gives (grants 0) 16 ∷ [])
     ∷ []
+
+-- what 02 §6 adds
+unfoldable pub sheetAligned : List Entry
+sheetAligned =
+    -- 02 §6: "the start is the lowest multiple of align at or after the slot's beginning", at each alignment
+    fresh 16384 (gives (grantsAligned 1 4096) 4096 ∷ gives (grantsAligned 1 2048) 6144 ∷ gives (grantsAligned 1 1024) 8192
+    ∷ gives (grantsAligned 1 512) 11776 ∷ holds (six 4 4 30 2 8 0) ∷ [])
+    ∷ fresh 16384 (gives (grantsAligned 1 256) 256 ∷ gives (grantsAligned 1 128) 4224 ∷ gives (grantsAligned 1 64) 8256
+    ∷ gives (grantsAligned 1 32) 10272 ∷ gives (measures 10272) 1 ∷ gives (releases 4224) 0 ∷ holds (six 3 3 14 18 73 0) ∷ [])
+    -- "Alignments 1, 2, 4, 8 and 16 are an ordinary grant. Any other that is not a power of two up to 4,096 is answer 13, tested between 2 and
+    -- 3; an enlarged size of 131,052 or more is 3."
+    ∷ fresh 512 (gives (grantsAligned 0 1) 16 ∷ shows 12 (bytes4 0 160 0 0) ∷ gives (grantsAligned 12 16) 32 ∷ shows 28 (bytes4 0 1 1 0)
+    ∷ gives (grantsAligned 1 2) 48 ∷ gives (grantsAligned 1 4) 64 ∷ gives (grantsAligned 1 8) 80 ∷ leaves (grantsAligned 1 0) 13
+    ∷ leaves (grantsAligned 1 3) 13 ∷ leaves (grantsAligned 1 48) 13 ∷ leaves (grantsAligned 1 8192) 13 ∷ leaves (grantsAligned 131052 4095) 13
+    ∷ leaves (grantsAligned 131052 16) 3 ∷ leaves (grantsAligned 131051 16) 8 ∷ leaves (grantsAligned 131036 32) 3 ∷ leaves (grantsAligned 131035 32) 8
+    ∷ leaves (grantsAligned 126972 4096) 3 ∷ leaves (grantsAligned 126971 4096) 8 ∷ spoils 32 0 ∷ leaves (grantsAligned 1 0) 2 ∷ [])
+    -- the first slot of class 2 begins at 16, the second at 64, where the displacement is 0. Release forgets the alignment, and 5 holds at the last
+    -- start
+    ∷ fresh 4096 (gives (grantsAligned 20 32) 32 ∷ shows 28 (bytes4 0 160 1 0) ∷ shows 56 (bytes4 8 0 0 0) ∷ gives (grantsAligned 20 32) 64
+    ∷ shows 60 (bytes4 0 161 3 0) ∷ shows 104 (bytes4 24 0 0 0) ∷ stores 84 1 ∷ refuses (releases 64) 7 ∷ stores 84 0 ∷ gives (releases 32) 0
+    ∷ refuses (releases 32) 5 ∷ refuses (measures 32) 5 ∷ refuses (releases 16) 4 ∷ spoils 32 2 ∷ leaves (measures 64) 2 ∷ spoils 32 1
+    ∷ gives (measures 64) 20 ∷ [])
+    -- "The count still steps but sets no displacement here.": a plain grant is displaced by two aligned ones before it
+    ∷ fresh 4096 (gives (grantsAligned 392 1024) 1024 ∷ gives (grantsAligned 392 1024) 2048 ∷ gives (releases 1024) 0
+    ∷ gives (grantsAligned 392 1024) 1024 ∷ gives (releases 1024) 0 ∷ gives (grants 1400) 48 ∷ [])
+    -- "Resize of an aligned block keeps the boundary; .. it is in place if n itself fits as in 01 and the block's class is that of the enlarged
+    -- size or the next one up": at 64 a size of 29 fits, but the enlarged one is a class higher, so it moves
+    ∷ fresh 8192 (gives (grantsAligned 20 32) 32 ∷ gives (grantsAligned 20 32) 64 ∷ stores 64 7 ∷ stores 83 9 ∷ gives (resizes 32 0) 32
+    ∷ gives (resizes 32 28) 32 ∷ gives (resizes 64 28) 64 ∷ shows 64 (7 ∷ []) ∷ shows 83 (9 ∷ 0 ∷ []) ∷ gives (resizes 64 29) 1568
+    ∷ shows 1568 (7 ∷ []) ∷ shows 1587 (9 ∷ 0 ∷ []) ∷ shows 64 (0 ∷ []) ∷ gives (resizes 1568 28) 1568 ∷ gives (resizes 1568 12) 3616
+    ∷ gives (measures 3616) 12 ∷ refuses (measures 1568) 4 ∷ [])
+    ∷ fresh 1536 (gives (grantsAligned 20 32) 32 ∷ leaves (resizes 32 29) 8 ∷ gives (measures 32) 20 ∷ [])
+    -- "answer 3 reads the enlarged new size where the offset starts such a live block", before damage; any other offset goes by n alone
+    ∷ fresh 4096 (gives (grantsAligned 20 32) 32 ∷ gives (grantsAligned 20 32) 64 ∷ gives (grants 20) 1552 ∷ leaves (resizes 64 131036) 3
+    ∷ leaves (resizes 64 131035) 8 ∷ stores 61 0 ∷ leaves (resizes 64 131036) 3 ∷ leaves (resizes 64 131035) 6 ∷ gives (releases 32) 0
+    ∷ leaves (resizes 32 131051) 5 ∷ leaves (resizes 48 131051) 4 ∷ leaves (resizes 1552 131051) 8 ∷ leaves (resizes 48 131052) 3 ∷ [])
+    -- "soundness .. demands the boundary": a later multiple is sound, and no other place is; an enlarged size of another class is not
+    ∷ fresh 4096 (gives (grantsAligned 250 32) 32 ∷ gives (resizes 32 190) 32 ∷ spoils 34 3 ∷ refuses (measures 64) 6 ∷ refuses (measures 32) 4
+    ∷ spoils 34 2 ∷ leaves (measures 48) 2 ∷ spoils 34 1 ∷ gives (measures 32) 190 ∷ spoils 32 3 ∷ leaves (measures 32) 2 ∷ spoils 32 10
+    ∷ leaves (measures 32) 2 ∷ spoils 32 0 ∷ leaves (measures 32) 2 ∷ spoils 32 2 ∷ gives (releases 32) 0 ∷ [])
+    ∷ []
+
+unfoldable pub sheet : List Entry
+unfolding sheet01 sheetAligned
+sheet = sheet01 ++ sheetAligned
 
 -- the lines that are so, over an arena, a table room and the record
 unfoldable pub passes : List ℕ → KeptBytes → List Line → Bool

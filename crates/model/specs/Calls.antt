@@ -13,11 +13,11 @@ use Rattle.model.specs.declared.Refusal.the-variants.{BadArena, Unsound}
 use Rattle.model.specs.declared.Damage.{Damage}
 use Rattle.model.specs.declared.Damage.the-variants.{Intact, Damaged}
 use Rattle.model.specs.declared.Totals.{Totals}
-use Rattle.model.specs.State.{Pool, Place, wellFormed, rows}
+use Rattle.model.specs.State.{Pool, Place, wellFormed, aligned, rows}
 use Rattle.model.specs.Blocks.{damage}
 use Rattle.model.specs.Answers.{Answer, done, refusal, reportRefusal, listed}
-use Rattle.model.specs.Plans.{Plan, Write, writes, copies, Call, setsUp, grants, releases, resizes, measures, reports, grantsList, plan, freshPool}
-use Rattle.model.specs.Plans.{totals}
+use Rattle.model.specs.Plans.{Plan, Write, writes, copies, Call, setsUp, grants, grantsAligned, releases, resizes, measures, reports, grantsList}
+use Rattle.model.specs.Plans.{plan, freshPool, totals}
 use Rattle.model.specs.Tables.{Layout, byMasks, encodeBy, viewBy, soundBy, arenaRight, roomBytes}
 
 -- A form of the tables: what stands in the room for a state, what a room says, whether a room is sound under an arena of n bytes,
@@ -74,6 +74,7 @@ applied F a p = record { answer = p .answer; arena = written a (p .changes); roo
 abbrev pub unsound : Call → Answer
 unsound setsUp = refusal BadArena
 unsound (grants n) = refusal Unsound
+unsound (grantsAligned n a) = refusal Unsound
 unsound (releases o) = refusal Unsound
 unsound (resizes o n) = refusal Unsound
 unsound (measures o) = refusal Unsound
@@ -114,6 +115,7 @@ module _ (row : ℕ) where
     unfoldable pub callBy : List ℕ → F .Room → Call → Outcome (F .Room)
     callBy a t setsUp = setUpBy a t
     callBy a t (grants n) = checkedBy a t (grants n)
+    callBy a t (grantsAligned n b) = checkedBy a t (grantsAligned n b)
     callBy a t (releases o) = checkedBy a t (releases o)
     callBy a t (resizes o n) = checkedBy a t (resizes o n)
     callBy a t (measures o) = checkedBy a t (measures o)
@@ -125,6 +127,7 @@ module _ (row : ℕ) where
     pub lawful : T (arenaRight row n)
     pub long : n ≡ row * rows row P
     pub formed : T (wellFormed P)
+    pub bounds : T (aligned row P)
 
   -- The laws of a form: a sound room is the one form of a state that stands, and says it; set up takes it back.
   pub record FormLaws (F : Form) : Type 0 where

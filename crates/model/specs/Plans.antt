@@ -4,17 +4,18 @@ use mathlib.Core.Path.{_≡_}
 use mathlib.Core.Bool.{Bool, true, false, _&&_, not}
 use mathlib.Core.Option.{Option, none, some}
 use mathlib.Core.List.{List, [], _∷_, _++_, map}
-use lib.Dec.{T, leb, eqb}
+use lib.Dec.{T, leb, ltb, eqb}
 use lib.ListN.{getD, take, drop, replicate}
 use Rattle.mem.specs.Lists.{choose, every, any, first, find, sum}
 use Rattle.mem.specs.Bytes.{zeros, part, bit}
-use Rattle.classes.specs.Classes.{slotBytes, classOf, slotsOf, rowsOf, tooLarge}
+use Rattle.classes.specs.Classes.{slotBytes, classOf, slotsOf, rowsOf, tooLarge, ownClass}
+use Rattle.classes.specs.Alignments.{ordinary, alignOf, codeOf, enlarged, roundUp}
 use Rattle.model.specs.declared.Slot.{Slot}
 use Rattle.model.specs.declared.Slot.the-variants.{Fresh, Idle, Live}
 use Rattle.model.specs.declared.Refusal.{Refusal}
-use Rattle.model.specs.declared.Refusal.the-variants.{TooLarge, NoSuchBlock, AlreadyFree, NoRoom, TooLong, BadProposal}
+use Rattle.model.specs.declared.Refusal.the-variants.{TooLarge, NoSuchBlock, AlreadyFree, NoRoom, TooLong, BadProposal, BadAlignment}
 use Rattle.model.specs.declared.Totals.{Totals}
-use Rattle.model.specs.State.{Span, Pool, Place, free, group, isLive, isReady, isWaiting, count, disp, size}
+use Rattle.model.specs.State.{Span, Pool, Place, free, group, isLive, isReady, isWaiting, count, disp, size, align}
 use Rattle.model.specs.State.{poolOf, become, slotNumber, places, rows, base, owned, start}
 use Rattle.model.specs.Blocks.{reserved, header, spare, frame}
 use Rattle.model.specs.Answers.{Answer, done, listDone, refusal, listed}
@@ -77,26 +78,20 @@ turnReady (Live a) = Live a
 unfoldable pub refill : List Slot → List Slot
 refill ss = let m = map turnReady ss in choose (any isReady ss) ss m
 
--- "Let t be the whole part of (s − 4 − n) / 16; d is the slot's count modulo (t + 1); then the count goes up by one, 255 becoming 0."
-unfoldable pub grantSlot : ℕ → ℕ → Slot → Slot
-grantSlot c n x = Live (record { count = (count x + 1) % 256; disp = count x % suc ((slotBytes c - 4 - n) / 16); size = n })
+-- "Let t be the whole part of (s − 4 − n) / 16; d is the slot's count modulo (t + 1)": the displacement in a slot of class c that begins at
+-- b. 02 §6: "the start is the lowest multiple of align at or after the slot's beginning"; "The count .. sets no displacement here."
+unfoldable pub displaced : (c code n b uses : ℕ) → ℕ
+displaced c k n b j = choose (leb k ordinary) (j % suc ((slotBytes c - 4 - n) / 16)) ((roundUp (alignOf k) b - b) / 16)
 
--- "Take its lowest ready slot."
-unfoldable pub grantIn : ℕ → ℕ → Site → Place
-grantIn c n s =
-    let ss = refill (s .slots) in
-    let i = first isReady ss in
-    record { before = s .before; cls = c; lower = take i ss; state = grantSlot c n (getD ss i Fresh); upper = drop (suc i) ss; after = s .after }
+-- "then the count goes up by one, 255 becoming 0."
+unfoldable pub grantSlot : (c code n b : ℕ) → Slot → Slot
+unfolding displaced
+grantSlot c k n b x = Live (record { count = (count x + 1) % 256; disp = displaced c k n b (count x); size = n; align = k })
 
 -- the first site, or else the second
 abbrev pub siteOr : Option Site → Option Site → Option Site
 siteOr none t = t
 siteOr (some s) t = some s
-
--- the place that a grant takes at a site, in the pool that it makes
-abbrev pub reserveIn : ℕ → ℕ → Option Site → Option Place
-reserveIn c n none = none
-reserveIn c n (some s) = some (grantIn c n s)
 
 -- the place of a grant, and those of the grants after it: none where one of them has none
 abbrev pub placed : Place → Option (List Place) → Option (List Place)
@@ -122,9 +117,15 @@ abbrev pub onBlock : Pool → (Place → Plan) → Option Place → Plan
 onBlock P f none = refused NoSuchBlock P
 onBlock P f (some p) = let l = f p in choose (isLive (p .state)) l (refused AlreadyFree P)
 
--- "In place if n is at most s − 4 − 16d and the block's class is at most one above n's class"
+-- "In place if n is at most s − 4 − 16d and the block's class is at most one above n's class". 02 §6: "if n itself fits as in 01 and the
+-- block's class is that of the enlarged size or the next one up"; of an ordinary block, whose n fits, that is the same
 unfoldable pub inPlace : Place → ℕ → Bool
-inPlace p n = leb n (slotBytes (p .cls) - 4 - 16 * disp (p .state)) && leb (p .cls) (suc (classOf n))
+inPlace p n = leb n (slotBytes (p .cls) - 4 - 16 * disp (p .state)) && ownClass (p .cls) (enlarged (align (p .state)) n)
+
+-- the size that answer 3 of a resize goes by. 02 §6: "answer 3 reads the enlarged new size where the offset starts such a live block"
+abbrev pub newSize : Option Place → ℕ → ℕ
+newSize none n = n
+newSize (some p) n = enlarged (align (p .state)) n
 
 -- sums over the slots and the free rows of a pool
 abbrev pub slotSum : (Slot → ℕ) → Span → ℕ
@@ -160,10 +161,23 @@ module _ (row : ℕ) where
   unfoldable pub site : Pool → ℕ → Option Site
   site P c = let new = runFrom [] c P in siteOr (openFrom [] c P) new
 
-  -- the place that a grant of n bytes takes
-  unfoldable pub reserve : Pool → ℕ → Option Place
+  -- "Take its lowest ready slot.": the place that a grant takes at a site, in the pool that it makes
+  unfoldable pub grantIn : (c code n : ℕ) → Site → Place
+  unfolding grantSlot
+  grantIn c k n s =
+      let ss = refill (s .slots) in
+      let i = first isReady ss in
+      let b = row * rows row (s .before) + 16 + i * slotBytes c in
+      record { before = s .before; cls = c; lower = take i ss; state = grantSlot c k n b (getD ss i Fresh); upper = drop (suc i) ss; after = s .after }
+
+  abbrev pub reserveIn : (c code n : ℕ) → Option Site → Option Place
+  reserveIn c k n none = none
+  reserveIn c k n (some s) = some (grantIn c k n s)
+
+  -- the place that a grant of n bytes takes. 02 §6: "the class and slot are those of n + align − 16"
+  unfoldable pub reserve : Pool → (code n : ℕ) → Option Place
   unfolding site grantIn
-  reserve P n = reserveIn (classOf n) n (site P (classOf n))
+  reserve P k n = reserveIn (classOf (enlarged k n)) k n (site P (classOf (enlarged k n)))
 
   -- "The slot's s owned bytes become zero, then header and guard are written; no other arena byte changes."
   unfoldable pub enframe : Place → Write
@@ -174,9 +188,15 @@ module _ (row : ℕ) where
   grantAt P none = refused NoRoom P
   grantAt P (some p) = record { checks = none; answer = done (start row p ∷ []); pool = poolOf p; changes = enframe p ∷ [] }
 
-  unfoldable pub grant : Pool → ℕ → Plan
+  -- "too large: n is 131,052 or more". 02 §6: "an enlarged size of 131,052 or more is 3"
+  unfoldable pub grantAs : Pool → (code n : ℕ) → Plan
   unfolding reserve enframe
-  grant P n = let g = grantAt P (reserve P n) in choose (leb tooLarge n) (refused TooLarge P) g
+  grantAs P k n = let g = grantAt P (reserve P k n) in choose (leb tooLarge (enlarged k n)) (refused TooLarge P) g
+
+  -- GRANT ALIGNED (02 §6): "answer 13, tested between 2 and 3"
+  unfoldable pub grantAligned : Pool → (n align : ℕ) → Plan
+  unfolding grantAs codeOf
+  grantAligned P n a = let g = grantAs P (codeOf a) n in choose (ltb 0 (codeOf a)) g (refused BadAlignment P)
 
   -- GRANT LIST (02 §3)
 
@@ -184,7 +204,7 @@ module _ (row : ℕ) where
   unfoldable pub reserveAll : Pool → List ℕ → Option (List Place)
   unfolding reserve
   reserveAll P [] = some []
-  reserveAll P (n ∷ ns) = placedBy (reserve P n) (λ q. reserveAll (poolOf q) ns)
+  reserveAll P (n ∷ ns) = placedBy (reserve P ordinary n) (λ q. reserveAll (poolOf q) ns)
 
   -- "answer 8 exactly if granting the accepted sizes in order would meet it"; "writes the starts to the front of a lent list, keeps its
   -- later places and gives the number of entries"
@@ -244,13 +264,14 @@ module _ (row : ℕ) where
       record {
         checks = some p;
         answer = done (start row p ∷ []);
-        pool = poolOf (become p (Live (record { count = count (p .state); disp = d; size = n })));
+        pool = poolOf (become p (Live (record { count = count (p .state); disp = d; size = n; align = align (p .state) })));
         changes =
             writes (start row p - 4) (header c (slotNumber p) d n)
             ∷ writes (start row p + kept) (zeros (n - kept) ++ spare (reserved c d n)) ∷ [];
       }
 
-  -- "Otherwise a grant of n is made while the old block is live, that many bytes are copied, then the old is released."
+  -- "Otherwise a grant of n is made while the old block is live, that many bytes are copied, then the old is released." 02 §6: "Resize of an
+  -- aligned block keeps the boundary": the grant has the block's alignment
   abbrev pub moveTo : Pool → Place → ℕ → Option Place → Plan
   moveTo P p n none = record { checks = some p; answer = refusal NoRoom; pool = P; changes = [] }
   moveTo P p n (some q) =
@@ -264,7 +285,7 @@ module _ (row : ℕ) where
 
   unfoldable pub resizeMove : Pool → Place → ℕ → Plan
   unfolding reserve release enframe
-  resizeMove P p n = moveTo P p n (reserve P n)
+  resizeMove P p n = moveTo P p n (reserve P (align (p .state)) n)
 
   unfoldable pub resizeAt : Pool → ℕ → Place → Plan
   unfolding resizeInPlace resizeMove
@@ -274,7 +295,7 @@ module _ (row : ℕ) where
   unfolding lookup resizeAt
   resize P o n =
       let r = onBlock P (resizeAt P n) (lookup P o) in
-      choose (leb tooLarge n) (refused TooLarge P) r
+      choose (leb tooLarge (newSize (lookup P o) n)) (refused TooLarge P) r
 
   -- MEASURE AND REPORT
 
@@ -313,6 +334,7 @@ module _ (row : ℕ) where
 pub data Call : Type 0 where
   setsUp : Call
   grants : (n : ℕ) → Call
+  grantsAligned : (n align : ℕ) → Call
   releases : (offset : ℕ) → Call
   resizes : (offset n : ℕ) → Call
   measures : (offset : ℕ) → Call
@@ -323,9 +345,10 @@ pub data Call : Type 0 where
 module _ (row : ℕ) where
   -- "Every call steps on that state and its arguments alone"
   unfoldable pub plan : Pool → Call → Plan
-  unfolding grant grantList release resize measure report
+  unfolding grantAs grantAligned grantList release resize measure report
   plan P setsUp = setUpAgain row P
-  plan P (grants n) = grant row P n
+  plan P (grants n) = grantAs row P ordinary n
+  plan P (grantsAligned n a) = grantAligned row P n a
   plan P (releases o) = release row P o
   plan P (resizes o n) = resize row P o n
   plan P (measures o) = measure row P o

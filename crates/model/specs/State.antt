@@ -1,11 +1,12 @@
 -- The pool's state: what the tables know, without bytes.
-use Prim.Native.Nat.{ℕ, suc, _+_, _*_, _-_}
-use mathlib.Core.Bool.{Bool, true, false, _&&_, _||_, not}
+use Prim.Native.Nat.{ℕ, _+_, _*_, _-_, _%_}
+use mathlib.Core.Bool.{Bool, true, false, _&&_, not}
 use mathlib.Core.List.{List, [], _∷_, _++_}
 use lib.Dec.{leb, ltb, eqb}
 use lib.ListN.{length}
 use Rattle.mem.specs.Lists.{choose, every, any, sum}
-use Rattle.classes.specs.Classes.{slotBytes, classOf, slotsOf, rowsOf, tooLarge}
+use Rattle.classes.specs.Classes.{slotBytes, slotsOf, rowsOf, tooLarge, ownClass}
+use Rattle.classes.specs.Alignments.{ordinary, alignOf, enlarged}
 use Rattle.model.specs.declared.Slot.{Slot}
 use Rattle.model.specs.declared.Slot.the-variants.{Fresh, Idle, Live}
 
@@ -56,14 +57,21 @@ size Fresh = 0
 size (Idle r k d) = 0
 size (Live a) = a .size
 
+-- 02 §6: "The tables keep the alignment" of a live block, by its code; a slot that is not live keeps none
+abbrev pub align : Slot → ℕ
+align Fresh = ordinary
+align (Idle r k d) = ordinary
+align (Live a) = a .align
+
 -- "a live slot was granted, has 16d + n at most s − 4, and its class is that of n or the next one up; a slot granted but not
--- live has 16d at most s − 4; a live n is below 131,052; a slot never granted is ready with count 0."
+-- live has 16d at most s − 4; a live n is below 131,052; a slot never granted is ready with count 0." 02 §6: "soundness reads the
+-- enlarged size where it speaks of a live block's class", and as there is no class past 131,051, that size too is below 131,052
 unfoldable pub slotSound : ℕ → Slot → Bool
 slotSound c Fresh = true
 slotSound c (Idle r k d) = ltb k 256 && leb (16 * d) (slotBytes c - 4)
 slotSound c (Live a) =
-    ltb (a .count) 256 && leb (16 * a .disp + a .size) (slotBytes c - 4) && ltb (a .size) tooLarge
-    && (eqb c (classOf (a .size)) || eqb c (suc (classOf (a .size))))
+    ltb (a .count) 256 && leb (16 * a .disp + a .size) (slotBytes c - 4) && (leb 1 (a .align) && leb (a .align) 9)
+    && ltb (enlarged (a .align) (a .size)) tooLarge && ownClass c (enlarged (a .align) (a .size))
 
 -- "each group has a live slot"
 unfoldable pub spanSound : Span → Bool
@@ -72,6 +80,17 @@ spanSound (group c ss) = ltb c 48 && eqb (length ss) (slotsOf c) && any isLive s
 
 abbrev pub wellFormed : Pool → Bool
 wellFormed P = every spanSound P
+
+-- 02 §6: soundness "demands the boundary": a live block starts on a multiple of its alignment, "counted from the arena's first byte". A
+-- slot that begins at b, and slots of class c of which the first does
+abbrev pub slotAligned : ℕ → Slot → Bool
+slotAligned b Fresh = true
+slotAligned b (Idle r k d) = true
+slotAligned b (Live a) = eqb ((b + 16 * a .disp) % alignOf (a .align)) 0
+
+abbrev pub slotsAligned : (c b : ℕ) → List Slot → Bool
+slotsAligned c b [] = true
+slotsAligned c b (x ∷ xs) = slotAligned b x && slotsAligned c (b + slotBytes c) xs
 
 -- A granted slot in its pool: what lies before its group, the group's class, the slots before it, its state, the slots after it,
 -- and what lies after the group.
@@ -119,6 +138,15 @@ module _ (row : ℕ) where
 
   abbrev pub rows : Pool → ℕ
   rows P = sum rowsIn P
+
+  -- the boundary in a pool whose first row has the arena's byte b first, and in a whole one
+  abbrev pub alignedFrom : ℕ → Pool → Bool
+  alignedFrom b [] = true
+  alignedFrom b (free ∷ P) = alignedFrom (b + row) P
+  alignedFrom b (group c ss ∷ P) = slotsAligned c (b + 16) ss && alignedFrom (b + row * rowsOf row c) P
+
+  unfoldable pub aligned : Pool → Bool
+  aligned P = alignedFrom 0 P
 
   -- the group's first byte
   abbrev pub base : Place → ℕ

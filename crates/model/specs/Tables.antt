@@ -12,7 +12,7 @@ use Rattle.model.specs.declared.Slot.{Slot}
 use Rattle.model.specs.declared.Slot.the-variants.{Fresh, Idle, Live}
 use Rattle.model.specs.declared.Holder.{Holder}
 use Rattle.model.specs.declared.Holder.the-variants.{Free, First, Later}
-use Rattle.model.specs.State.{Span, Pool, free, group, isReady, isWaiting, spanSound, wellFormed, rows}
+use Rattle.model.specs.State.{Span, Pool, free, group, isReady, isWaiting, spanSound, wellFormed, aligned, rows}
 
 -- THE LAYOUT OF THE ROOM: a head, then a record for each row. In the record of a group's first row the two masks stand at `readyAt` and
 -- `waitingAt`, and from `slotsAt` on a record for each slot, at most 31.
@@ -34,7 +34,7 @@ slotsAt = 16
 abbrev pub slotRecordBytes : ℕ
 slotRecordBytes = 8
 
--- in a slot's record, behind the byte that says whether it was ever granted: use count, displacement, requested size
+-- in a slot's record, behind the byte that is 0 if it was never granted: use count, displacement, requested size
 abbrev pub countAt : ℕ
 countAt = 1
 
@@ -55,11 +55,12 @@ rowAt i = headBytes + rowRecordBytes * i
 unfoldable pub roomBytes : ℕ → ℕ
 roomBytes n = rowAt n
 
--- a slot's record: 1 if it was granted, use count, displacement in two bytes, the requested size in three if it is live, 0
+-- a slot's record: the alignment's code if it is live, 1 if it was granted and is not, use count, displacement in two bytes, the
+-- requested size in three if it is live, 0
 unfoldable pub slotRecord : Slot → List ℕ
 slotRecord Fresh = zeros slotRecordBytes
 slotRecord (Idle r k d) = 1 ∷ k ∷ (low 2 d ++ zeros 4)
-slotRecord (Live a) = 1 ∷ a .count ∷ (low 2 (a .disp) ++ (low 3 (a .size) ++ (0 ∷ [])))
+slotRecord (Live a) = a .align ∷ a .count ∷ (low 2 (a .disp) ++ (low 3 (a .size) ++ (0 ∷ [])))
 
 -- who holds a row, 2 bytes: 0 free, 1 first with its class, 2 later with its distance
 abbrev pub holderBytes : Holder → List ℕ
@@ -82,7 +83,8 @@ laterRecords (suc m) k = rowRecord (Later k) [] ++ laterRecords m (suc k)
 unfoldable pub viewSlot : Bool → Bool → List ℕ → Slot
 viewSlot true w r = choose (eqb (getD r 0 0) 0) Fresh (Idle true (getD r countAt 0) (number (part dispAt 2 r)))
 viewSlot false true r = Idle false (getD r countAt 0) (number (part dispAt 2 r))
-viewSlot false false r = Live (record { count = getD r countAt 0; disp = number (part dispAt 2 r); size = number (part sizeAt 3 r) })
+viewSlot false false r =
+    Live (record { count = getD r countAt 0; disp = number (part dispAt 2 r); size = number (part sizeAt 3 r); align = getD r 0 0 })
 
 -- n slots, from the two masks and the records
 unfoldable pub viewSlots : ℕ → ℕ → ℕ → List ℕ → List Slot
@@ -111,9 +113,9 @@ spanOf gap held (First c) = held c
 spanOf gap held (Later k) = gap
 
 module _ (row : ℕ) where
-  -- "An arena is 512 to 262,144 bytes, a multiple of 512, so at most 512 rows."
+  -- "An arena is 512 to 262,144 bytes, a multiple of 512, so at most 512 rows." A row is whole units.
   unfoldable pub arenaRight : ℕ → Bool
-  arenaRight n = leb row n && leb n (512 * row) && eqb (n % row) 0
+  arenaRight n = eqb (row % 16) 0 && leb row n && leb n (512 * row) && eqb (n % row) 0
 
 -- How a group's first row keeps its slots: the row's record, and the slots that such a record says. Free and later rows are the same in
 -- every layout.
@@ -156,7 +158,7 @@ module _ (L : Layout) (row : ℕ) where
   -- "The tables are sound if: the arena length is the recorded one; .." and the bytes are the one form of what they say: the room
   -- t under an arena of n bytes
   unfoldable pub soundBy : ℕ → List ℕ → Bool
-  soundBy n t = let P = viewBy t in arenaRight row n && eqb n (row * rows row P) && same t (encodeBy P) && wellFormed P
+  soundBy n t = let P = viewBy t in arenaRight row n && eqb n (row * rows row P) && same t (encodeBy P) && wellFormed P && aligned row P
 
 -- THE FIRST ENGINE'S TABLES
 

@@ -1,10 +1,12 @@
 // The types that the definitions in specs/ and the calls share, and where things stand in the table room.
 
-// What the tables know of a live block: its slot's use count modulo 256, the displacement of its start in units, the requested size.
+// What the tables know of a live block: its slot's use count modulo 256, the displacement of its start in units, the requested size, and
+// the code of its alignment (1 for 16 bytes, 2 to 9 for 32 to 4,096).
 pub struct Alloc {
     pub count: u8,
     pub disp: usize,
     pub size: usize,
+    pub align: u8,
 }
 
 // A slot of a group: never granted in this group, so ready with use count 0; granted before and not live, ready or else waiting,
@@ -34,6 +36,7 @@ pub enum Refusal {
     NoRoom,
     TooLong,
     BadProposal,
+    BadAlignment,
 }
 
 // Whether the header and the guard of a block are those due, or why a call on it is refused.
@@ -74,7 +77,7 @@ pub enum Report {
 }
 
 // The layout of the table room (docs/TABLES.md): the head, then a record for each row. A group's first row keeps its masks and its
-// slots' records; a slot's record has its use count, displacement and requested size.
+// slots' records; a slot's record has, behind a byte that is 0 if it was never granted, its use count, displacement and requested size.
 pub const HEAD: usize = 16;
 
 pub const ROW_RECORD: usize = 264;

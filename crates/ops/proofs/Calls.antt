@@ -1,33 +1,37 @@
 -- The calls by what the code finds: a grant by what is reserved, and the calls on a block by what is located.
 use Rattle.mem.proofs.Prelude.{_∙_, _≡_, sym, ap, refl, ap₂, subst, true, Bool, false, some, none, Option, List, [], _∷_, _++_, _+_, ℕ, _<_, _≤_, arith}
-use Rattle.mem.proofs.Prelude.{le-leb, lt-leb, T, leb, length}
+use Rattle.mem.proofs.Prelude.{le-leb, lt-leb, lt-ltb, T, leb, ltb, length}
 use Rattle.mem.specs.Lists.{any}
 use Rattle.mem.specs.Bytes.{put}
 use Rattle.mem.proofs.Tests.{choose-case, choose-true, choose-false, true-T}
 use Rattle.classes.specs.Classes.{Lawful, tooLarge}
+use Rattle.classes.specs.Alignments.{ordinary, codeOf, enlarged, Askable}
 use Rattle.model.specs.declared.Refusal.{Refusal}
-use Rattle.model.specs.declared.Refusal.the-variants.{TooLarge, NoSuchBlock, AlreadyFree, NoRoom}
+use Rattle.model.specs.declared.Refusal.the-variants.{TooLarge, NoSuchBlock, AlreadyFree, NoRoom, BadAlignment}
 use Rattle.model.specs.declared.Damage.{Damage}
 use Rattle.model.specs.declared.Damage.the-variants.{Intact, Damaged}
+use Rattle.model.specs.declared.Reply.{Reply}
 use Rattle.model.specs.declared.Totals.{Totals}
-use Rattle.model.specs.State.{Pool, Place, isLive, disp, size, slotNumber, poolOf, owned, start}
+use Rattle.model.specs.State.{Pool, Place, isLive, align, poolOf}
 use Rattle.model.specs.Blocks.{damage, frame}
 use Rattle.model.specs.Answers.{done, refusal, listed}
-use Rattle.model.specs.Plans.{Plan, grants, releases, resizes, measures, reports, refused, plan, grant, grantAt, reserve, enframe, lookup, onBlock}
+use Rattle.model.specs.Plans.{Plan, Call, grants, grantsAligned, releases, resizes, measures, reports, refused, plan, grantAs, grantAligned, grantAt}
+use Rattle.model.specs.Plans.{reserve, enframe, lookup, onBlock, newSize}
 use Rattle.model.specs.Plans.{release, releaseAt, resize, resizeAt, resizeInPlace, resizeMove, moveTo, inPlace, measure, measureAt, report, totals}
 use Rattle.model.specs.Tables.{byMasks, view}
-use Rattle.model.specs.Calls.{KeptBytes, keptIn, Result, engine, soundKept, call, carried, applied, damaged, keeps}
+use Rattle.model.specs.Calls.{KeptBytes, engine, soundKept, call, carried, applied, damaged, keeps}
 use Rattle.model.proofs.Lookup.{lookup-found}
 use Rattle.model.proofs.Kept.{kept-sound, kept-totals}
-use Rattle.model.proofs.Calls.{call-sound, same-room, carried-whole, carried-damaged, on-live}
+use Rattle.model.proofs.Calls.{Asks, call-sound, same-room, carried-whole, carried-damaged, on-live}
 use Rattle.rows.specs.declared.Block.{Block}
 use Rattle.rows.specs.Rows.{Lent, blockOf, ownedAt, startAt, Holds}
-use Rattle.rows.proofs.Rooms.{by-masks}
+use Rattle.rows.proofs.Rooms.{by-masks, facts}
+use Rattle.search.specs.Found.{looked}
 use Rattle.ops.specs.declared.Located.{Located}
 use Rattle.ops.specs.declared.Located.the-variants.{At, Refused}
 use Rattle.ops.specs.declared.Reserved.the-variants as reserved
-use Rattle.ops.specs.Blocks.{Standing, byDamage, located, reservedAs, roomAfter}
-use Rattle.ops.proofs.Places.{place-holds}
+use Rattle.ops.specs.Blocks.{Standing, codeFound, byDamage, located, reservedAs, roomAfter, CarriedOut}
+use Rattle.ops.proofs.Places.{place-holds, new-size}
 use Rattle.ops.proofs.Moves.{reserved-place, reserved-none, reserve-leaves}
 
 -- what is lent passed the check
@@ -43,50 +47,81 @@ module _ {row : ℕ} {t : KeptBytes} (a : List ℕ) (r : Checked row a t) where
   pub kept : (x : Refusal) → carried row a t (refused x (view row (t .tables))) ≡ keeps (refusal x) a t
   kept x = carried-whole row a t (refused x (view row (t .tables))) refl ∙ ap (keeps (refusal x) a) (same-room row a t (r .kept))
 
+  -- and leaves what is lent
+  pub refused-out : (x : Refusal) → CarriedOut row a (refused x (view row (t .tables))) (Reply.Refused x) a (t .tables) (t .totals)
+  refused-out x = record { answer = refl; arena = refl; room = facts (r .room) .form; counts = kept-totals row (length a) t (r .kept) }
+
   -- ---- grant
 
-  pub grant-too-large : (n : ℕ) → tooLarge ≤ n → call row a t (grants n) ≡ keeps (refusal TooLarge) a t
-  unfolding plan grant
-  grant-too-large n h =
-      call-sound row a t (r .kept) (grants n) tt ∙ ap (carried row a t) (choose-true (leb tooLarge n) _ _ (le-leb tooLarge n h)) ∙ kept TooLarge
+  module _ (k n : ℕ) where
+    -- the plan of a grant, with an alignment
+    abbrev asked : Plan
+    asked = grantAs row (view row (t .tables)) k n
 
-  module _ (n : ℕ) (small : n < tooLarge) where
-    granting : call row a t (grants n) ≡ carried row a t (grantAt row (view row (t .tables)) (reserve row (view row (t .tables)) n))
-    unfolding plan grant
-    granting = call-sound row a t (r .kept) (grants n) tt ∙ ap (carried row a t) (choose-false (leb tooLarge n) _ _ (lt-leb tooLarge n small))
+    abbrev found : Option Place
+    found = reserve row (view row (t .tables)) k n
 
-    pub granted-none : reservedAs row (reserve row (view row (t .tables)) n) ≡ reserved.NoRoom
-        → (call row a t (grants n) ≡ keeps (refusal NoRoom) a t) × (roomAfter row (t .tables) (reserve row (view row (t .tables)) n) ≡ t .tables)
-    granted-none e =
-        let q : reserve row (view row (t .tables)) n ≡ none = reserved-none row (reserve row (view row (t .tables)) n) e in
-        (granting ∙ ap (λ o. carried row a t (grantAt row (view row (t .tables)) o)) q ∙ kept NoRoom, ap (roomAfter row (t .tables)) q)
+    pub grant-too-large : tooLarge ≤ enlarged k n → CarriedOut row a asked (Reply.Refused TooLarge) a (t .tables) (t .totals)
+    unfolding grantAs
+    grant-too-large h = rw (choose-true (leb tooLarge (enlarged k n)) _ _ (le-leb tooLarge (enlarged k n) h)) (refused-out TooLarge)
 
-    -- what a grant of a reserved block leaves, and where the block stands
-    pub record GrantedAt (b : Block) (z : Totals) : Type 0 where
-      pub result : call row a t (grants n) ≡ record {
-        answer = done (startAt row b ∷ []);
-        arena = put (ownedAt row b) (frame (b .class) (b .slot) (b .alloc .disp) (b .alloc .size)) a;
-        room = keptIn (roomAfter row (t .tables) (reserve row (view row (t .tables)) n)) z;
-      }
-      pub stands : Standing row (length a) b
+    module _ (small : Askable k n) where
+      granting : asked ≡ grantAt row (view row (t .tables)) found
+      unfolding grantAs
+      granting = choose-false (leb tooLarge (enlarged k n)) _ _ (lt-leb tooLarge (enlarged k n) (small .small))
 
-    pub granted-at : (b : Block) (z : Totals) → reservedAs row (reserve row (view row (t .tables)) n) ≡ reserved.Taken b z → GrantedAt b z
-    unfolding enframe
-    granted-at b z e =
-        let (q, f, h, k) = reserved-place row (reserve row (view row (t .tables)) n) b z e in
-        subst (GrantedAt b) k (subst (λ b. GrantedAt b (totals row (poolOf q))) h (record {
-          result = granting ∙ ap (λ o. carried row a t (grantAt row (view row (t .tables)) o)) f ∙ carried-whole row a t
-              (grantAt row (view row (t .tables)) (some q)) refl
-              ∙ ap (λ u. laid q u) (sym (ap (roomAfter row (t .tables)) f));
-          stands = reserve-leaves (r .room) n small q f .stands;
-        }))
-      where
-        laid : Place → List ℕ → Result
-        laid q u = record {
-          answer = done (start row q ∷ []);
-          arena = put (owned row q) (frame (q .cls) (slotNumber q) (disp (q .state)) (size (q .state))) a;
-          room = keptIn u (totals row (poolOf q));
-        }
+      pub granted-none : reservedAs row found ≡ reserved.NoRoom
+          → CarriedOut row a asked (Reply.Refused NoRoom) a (roomAfter row (t .tables) found) (t .totals)
+      granted-none e =
+          let q : found ≡ none = reserved-none row found e in
+          rw (granting, ap (grantAt row (view row (t .tables))) q, ap (roomAfter row (t .tables)) q) (refused-out NoRoom)
+
+      -- what a grant of a reserved block leaves, and where the block stands
+      pub record GrantedAt (b : Block) (z : Totals) : Type 0 where
+        pub result : CarriedOut row a asked (Reply.Done (startAt row b))
+            (put (ownedAt row b) (frame (b .class) (b .slot) (b .alloc .disp) (b .alloc .size)) a) (roomAfter row (t .tables) found) z
+        pub stands : Standing row (length a) b
+
+      pub granted-at : (b : Block) (z : Totals) → reservedAs row found ≡ reserved.Taken b z → GrantedAt b z
+      unfolding enframe
+      granted-at b z e =
+          let (q, f, h, k) = reserved-place row found b z e in
+          subst (GrantedAt b) k (subst (λ b. GrantedAt b (totals row (poolOf q))) h (record {
+            result = rw (granting, ap (grantAt row (view row (t .tables))) f, ap (roomAfter row (t .tables)) f)
+                (record { answer = refl; arena = refl; room = refl; counts = refl });
+            stands = reserve-leaves (r .room) _ n small q f .stands;
+          }))
+
+  -- a plan that names no block is what the call does
+  pub record Does (c : Call) (p : Plan) : Type 0 where
+    pub plans : plan row (view row (t .tables)) c ≡ p
+    pub unnamed : p .checks ≡ none
+    pub asks : Asks c
+
+  module _ (c : Call) (p : Plan) (d : Does c p) where
+    pub called : call row a t c ≡ applied (engine row) a p
+    called = call-sound row a t (r .kept) c (d .asks) ∙ ap (carried row a t) (d .plans) ∙ carried-whole row a t p (ap (damaged row a) (d .unnamed))
+
+  grant-unnamed : (k n : ℕ) → asked k n .checks ≡ none
+  unfolding grantAs
+  grant-unnamed k n = choose-case (λ (p : Plan). p .checks ≡ none) (leb tooLarge (enlarged k n)) _ _ (λ _. refl) (λ _. at (found k n))
+    where
+      at : (o : Option Place) → grantAt row (view row (t .tables)) o .checks ≡ none
+      at none = refl
+      at (some q) = refl
+
+  pub grant-does : (n : ℕ) → Does (grants n) (asked ordinary n)
+  unfolding plan
+  grant-does n = record { plans = refl; unnamed = grant-unnamed ordinary n; asks = tt }
+
+  -- an aligned grant: of no alignment, and of one
+  pub aligned-none : (n b : ℕ) → codeOf b ≡ 0 → Does (grantsAligned n b) (refused BadAlignment (view row (t .tables)))
+  unfolding plan grantAligned
+  aligned-none n b e = record { plans = choose-false (ltb 0 (codeOf b)) _ _ (ap (ltb 0) e); unnamed = refl; asks = tt }
+
+  pub aligned-does : (n b : ℕ) → 0 < codeOf b → Does (grantsAligned n b) (asked (codeOf b) n)
+  unfolding plan grantAligned
+  aligned-does n b h = record { plans = choose-true (ltb 0 (codeOf b)) _ _ (lt-ltb 0 (codeOf b) h); unnamed = grant-unnamed (codeOf b) n; asks = tt }
 
   -- ---- a call on a block
 
@@ -116,6 +151,7 @@ module _ {row : ℕ} {t : KeptBytes} (a : List ℕ) (r : Checked row a t) where
     -- the block's place, and that the call carries out the plan for it
     pub record Called (b : Block) : Type 0 where
       pub place : Place
+      pub looked-up : lookup row (view row (t .tables)) o ≡ some place
       pub holds : Holds byMasks row (t .tables) b place
       pub result : carried row a t (onBlock (view row (t .tables)) k (lookup row (view row (t .tables)) o)) ≡ applied (engine row) a (k place)
 
@@ -127,6 +163,7 @@ module _ {row : ℕ} {t : KeptBytes} (a : List ℕ) (r : Checked row a t) where
             let h : blockOf row p ≡ b = cc in
             subst Called h (record {
               place = p;
+              looked-up = f;
               holds = place-holds (r .room) p
                   (lookup-found row (r .room .pos) (view row (t .tables)) o p f .0) l;
               result = d;
@@ -153,15 +190,23 @@ module _ {row : ℕ} {t : KeptBytes} (a : List ℕ) (r : Checked row a t) where
   unfolding plan measure
   measuring o = call-sound row a t (r .kept) (measures o) tt
 
-  pub resize-too-large : (o n : ℕ) → tooLarge ≤ n → call row a t (resizes o n) ≡ keeps (refusal TooLarge) a t
-  unfolding plan resize
-  resize-too-large o n h =
-      call-sound row a t (r .kept) (resizes o n) tt ∙ ap (carried row a t) (choose-true (leb tooLarge n) _ _ (le-leb tooLarge n h)) ∙ kept TooLarge
+  -- a resize whose size is too large, by what is looked up, and another
+  module _ (o n : ℕ) (e : leb tooLarge (enlarged (codeFound (looked row (lookup row (view row (t .tables)) o))) n) ≡ true) where
+    pub resize-too-large : call row a t (resizes o n) ≡ keeps (refusal TooLarge) a t
+    unfolding plan resize
+    resize-too-large =
+        call-sound row a t (r .kept) (resizes o n) tt
+        ∙ ap (carried row a t) (choose-true (leb tooLarge (newSize (lookup row (view row (t .tables)) o) n)) _ _
+        (ap (leb tooLarge) (sym (new-size row (lookup row (view row (t .tables)) o) n)) ∙ e))
+        ∙ kept TooLarge
 
-  pub resizing : (o n : ℕ) → n < tooLarge → call row a t (resizes o n)
+  pub resizing : (o n : ℕ) → leb tooLarge (enlarged (codeFound (looked row (lookup row (view row (t .tables)) o))) n) ≡ false → call row a t (resizes o n)
       ≡ carried row a t (onBlock (view row (t .tables)) (resizeAt row (view row (t .tables)) n) (lookup row (view row (t .tables)) o))
   unfolding plan resize
-  resizing o n h = call-sound row a t (r .kept) (resizes o n) tt ∙ ap (carried row a t) (choose-false (leb tooLarge n) _ _ (lt-leb tooLarge n h))
+  resizing o n e =
+      call-sound row a t (r .kept) (resizes o n) tt
+      ∙ ap (carried row a t) (choose-false (leb tooLarge (newSize (lookup row (view row (t .tables)) o) n)) _ _
+      (ap (leb tooLarge) (sym (new-size row (lookup row (view row (t .tables)) o) n)) ∙ e))
 
   -- ---- report
 
@@ -183,7 +228,7 @@ release-done row p = choose-case (λ (r : Plan). r .answer ≡ done (0 ∷ [])) 
 
 pub resize-names : (row : ℕ) (P : Pool) (n : ℕ) (p : Place) → resizeAt row P n p .checks ≡ some p
 unfolding resizeAt resizeInPlace resizeMove
-resize-names row P n p = choose-case (λ (r : Plan). r .checks ≡ some p) (inPlace p n) _ _ (λ e. refl) (λ e. moved (reserve row P n))
+resize-names row P n p = choose-case (λ (r : Plan). r .checks ≡ some p) (inPlace p n) _ _ (λ e. refl) (λ e. moved (reserve row P (align (p .state)) n))
   where
     moved : (o : Option Place) → moveTo row P p n o .checks ≡ some p
     moved none = refl

@@ -1,18 +1,20 @@
 -- A block that moves: in the tables that the grant leaves it still lives, and the new block is apart from it.
-use Rattle.mem.proofs.Prelude.{_∙_, _≡_, sym, ap, refl, ap₂, true, ⊎-elim, inl, inr, _⊎_, some, none, Option, List, [], _∷_, _+_, ℕ, _<_, _≤_, _*_, min, arith}
+use Rattle.mem.proofs.Prelude.{_∙_, _≡_, sym, ap, refl, ap₂, true, ⊎-elim, inl, inr, _⊎_, some, none, Option, List, [], _∷_, _+_, ℕ, _≤_, _*_, min, arith}
 use Rattle.mem.specs.Bytes.{put, part}
 use Rattle.mem.proofs.Tests.{T-true}
-use Rattle.classes.specs.Classes.{slotBytes, tooLarge}
+use Rattle.classes.specs.Classes.{slotBytes}
+use Rattle.classes.specs.Alignments.{Askable}
 use Rattle.model.specs.declared.Refusal.the-variants as refusals
 use Rattle.model.specs.declared.Reply.{Reply}
 use Rattle.model.specs.declared.Totals.{Totals}
-use Rattle.model.specs.State.{Place, disp, size, poolOf, slotNumber, rows, owned, start}
+use Rattle.model.specs.State.{Place, disp, size, align, poolOf, slotNumber, rows, owned, start}
 use Rattle.model.specs.Blocks.{frame}
 use Rattle.model.specs.Answers.{done}
 use Rattle.model.specs.Plans.{Plan, reserve, release, releaseAt, resizeMove, moveTo, enframe, totals}
 use Rattle.model.specs.Tables.{byMasks, view, encode, sound}
 use Rattle.model.specs.Calls.{written}
 use Rattle.model.proofs.Tables.{masks-laws, view-encode, encode-sound}
+use Rattle.model.proofs.Fresh.{whole-units}
 use Rattle.model.proofs.Lookup.{Fits, fits, disp-inside}
 use Rattle.model.proofs.Reserve.{reserve-size, Granted, reserve-formed, Stays}
 use Rattle.model.proofs.Moves.{Old, old, old-released, old-apart}
@@ -47,9 +49,10 @@ module _ (row : ℕ) where
   reserved-none none e = refl
   reserved-none (some q) e = let z : _≡_ {A = ℕ} 0 1 = cc in absurd (omega arith)
 
-module _ {row len : ℕ} {t : List ℕ} (r : Lent byMasks row len t) (n : ℕ) (small : n < tooLarge) (q : Place) (found : reserve row (view row t) n ≡ some q) where
-  grant-formed : Granted row (view row t) n q
-  grant-formed = reserve-formed row (view row t) n q (facts r .formed) small found
+module _ {row len : ℕ} {t : List ℕ} (r : Lent byMasks row len t) (v n : ℕ) (small : Askable v n) (q : Place)
+    (found : reserve row (view row t) v n ≡ some q) where
+  grant-formed : Granted row (view row t) v n q
+  grant-formed = reserve-formed row (view row t) v n q (facts r .formed) small found
 
   -- what a grant leaves: sound tables, and a block that stands in the arena
   pub record Left : Type 0 where
@@ -61,7 +64,8 @@ module _ {row len : ℕ} {t : List ℕ} (r : Lent byMasks row len t) (n : ℕ) (
   reserve-leaves =
       let l : len ≡ row * rows row (poolOf q) = facts r .long ∙ ap (λ k. row * k) (sym (grant-formed .long)) in
       let s : sound row len (encode row (poolOf q)) ≡ true =
-      T-true (sound row len (encode row (poolOf q))) (encode-sound masks-laws row (r .pos) (poolOf q) len (grant-formed .formed) (facts r .lawful) l) in
+      T-true (sound row len (encode row (poolOf q))) (encode-sound masks-laws row (r .pos) (poolOf q) len (grant-formed .formed)
+      (grant-formed .bounds (whole-units row len (facts r .lawful)) (facts r .bounds)) (facts r .lawful) l) in
       record {
         room = record { laws = masks-laws; pos = r .pos; sound = s };
         stands = place-stands row (r .pos) len q (grant-formed .formed) (omega (arith, few-rows r, grant-formed .long)) l;
@@ -73,8 +77,8 @@ module _ {row len : ℕ} {t : List ℕ} (r : Lent byMasks row len t) (n : ℕ) (
     pub there : poolOf p ≡ view row t
     there = sym (held-pool r h)
 
-    pub beside : Old row (r .pos) (view row t) (facts r .formed) n small q found p there (h .live)
-    beside = old row (r .pos) (view row t) (facts r .formed) n small q found p there (h .live)
+    pub beside : Old row (r .pos) (view row t) (facts r .formed) v n small q found p there (h .live)
+    beside = old row (r .pos) (view row t) (facts r .formed) v n small q found p there (h .live)
 
     pub beside-holds : Holds byMasks row (encode row (poolOf q)) b (beside .place)
     beside-holds = record {
@@ -97,20 +101,20 @@ module _ {row len : ℕ} {t : List ℕ} (r : Lent byMasks row len t) (n : ℕ) (
         let e₁ : startAt row b ≡ start row p = ap (startAt row) (h .block) in
         let e₂ : b .alloc .size ≡ size (p .state) = ap (λ c. c .alloc .size) (h .block) in
         ⊎-elim (λ x. inl (omega (arith, x, ip, iq, e₁, e₂))) (λ x. inr (omega (arith, x, ip, iq, e₁, e₂)))
-        (old-apart row (r .pos) (view row t) (facts r .formed) n small q found p there (h .live))
+        (old-apart row (r .pos) (view row t) (facts r .formed) v n small q found p there (h .live))
 
     pub taken-size : size (q .state) ≡ n
-    taken-size = reserve-size row (view row t) n q (facts r .formed) found
+    taken-size = reserve-size row (view row t) v n q (facts r .formed) found
 
     -- the old block is released by its start
     released-old : release row (poolOf q) (start row p) ≡ releaseAt row (beside .place)
     unfolding beside
-    released-old = old-released row (r .pos) (view row t) (facts r .formed) n small q found p there (h .live)
+    released-old = old-released row (r .pos) (view row t) (facts r .formed) v n small q found p there (h .live)
 
     -- the plan of the move
-    move-plan : resizeMove row (poolOf p) p n ≡ moveTo row (poolOf p) p n (some q)
+    move-plan : v ≡ align (p .state) → resizeMove row (poolOf p) p n ≡ moveTo row (poolOf p) p n (some q)
     unfolding resizeMove
-    move-plan = ap (moveTo row (poolOf p) p n) (ap (λ P. reserve row P n) (sym (held-pool r h)) ∙ found)
+    move-plan e = ap (moveTo row (poolOf p) p n) (ap₂ (λ P k. reserve row P k n) (sym (held-pool r h)) (sym e) ∙ found)
 
     -- over what the calls give: the arena with the new block, with its copy, and after the release
     pub moved : (c : Block) (a a₁ a₂ a₃ u : List ℕ) (s : ℕ) (z : Totals) → blockOf row q ≡ c
@@ -118,13 +122,13 @@ module _ {row len : ℕ} {t : List ℕ} (r : Lent byMasks row len t) (n : ℕ) (
         → a₂ ≡ put (startAt row c) (part (startAt row b) (min (b .alloc .size) n) a₁) a₁
         → a₃ ≡ written a₂ (releaseAt row (beside .place) .changes) → u ≡ encode row (releaseAt row (beside .place) .pool)
         → z ≡ totals row (releaseAt row (beside .place) .pool) → s ≡ startAt row c
-        → CarriedOut row a (resizeMove row (poolOf p) p n) (Reply.Done s) a₃ u z
+        → v ≡ align (p .state) → CarriedOut row a (resizeMove row (poolOf p) p n) (Reply.Done s) a₃ u z
     unfolding enframe
-    moved c a a₁ a₂ a₃ u s z ec e₁ e₂ e₃ eu ez es =
+    moved c a a₁ a₂ a₃ u s z ec e₁ e₂ e₃ eu ez es ev =
         let sb : startAt row b ≡ start row p = ap (startAt row) (h .block) in
         let zb : b .alloc .size ≡ size (p .state) = ap (λ b. b .alloc .size) (h .block) in
         let f : a₂ ≡ put (start row q) (part (start row p) (min (size (p .state)) n) laid) laid = e₂ ∙ rw (sb, zb, e₁, ← ec) in
-        rw move-plan
+        rw (move-plan ev)
         (record {
           answer = ap (λ v. done (v ∷ [])) (es ∙ ap (startAt row) (sym ec));
           arena = e₃ ∙ ap₂ (λ x (y : Plan). written x (y .changes)) f (sym released-old);
@@ -136,10 +140,10 @@ module _ {row len : ℕ} {t : List ℕ} (r : Lent byMasks row len t) (n : ℕ) (
         laid = put (owned row q) (frame (q .cls) (slotNumber q) (disp (q .state)) (size (q .state))) a
 
 -- no room: nothing changes
-pub moved-nowhere : {row len : ℕ} {t : List ℕ} (r : Lent byMasks row len t) (n : ℕ) {b : Block} {p : Place} (h : Holds byMasks row t b p) (a : List ℕ)
-    (s : Totals) → s ≡ totals row (view row t)
-    → reserve row (view row t) n ≡ none → CarriedOut row a (resizeMove row (poolOf p) p n) (Reply.Refused refusals.NoRoom) a t s
+pub moved-nowhere : {row len : ℕ} {t : List ℕ} (r : Lent byMasks row len t) (v n : ℕ) {b : Block} {p : Place} (h : Holds byMasks row t b p) (a : List ℕ)
+    (s : Totals) → s ≡ totals row (view row t) → v ≡ align (p .state)
+    → reserve row (view row t) v n ≡ none → CarriedOut row a (resizeMove row (poolOf p) p n) (Reply.Refused refusals.NoRoom) a t s
 unfolding resizeMove
-moved-nowhere {row} {len} {t} r n {b} {p} h a s f e =
-    rw (ap (moveTo row (poolOf p) p n) (ap (λ P. reserve row P n) (sym (held-pool r h)) ∙ e))
+moved-nowhere {row} {len} {t} r v n {b} {p} h a s f ev e =
+    rw (ap (moveTo row (poolOf p) p n) (ap₂ (λ P k. reserve row P k n) (sym (held-pool r h)) (sym ev) ∙ e))
     (record { answer = refl; arena = refl; room = h .bytes; counts = f ∙ ap (totals row) (held-pool r h) })

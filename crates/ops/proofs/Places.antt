@@ -1,31 +1,31 @@
--- Places of a pool as the calls handle them: a live place's block lies in the arena, and what is located by what is looked up.
+-- Places of a pool as the calls handle them: a live place's block lies in the arena, and what is looked up, as it is judged, is located.
 use Rattle.mem.proofs.Prelude.{_∙_, _≡_, sym, ap, refl, subst, true, Bool, false, some, none, Option, List, _∷_, _++_, _+_, ℕ, _<_, _≤_, _*_, mul-add}
-use Rattle.mem.proofs.Prelude.{arith, T}
-use native.Mathlib.Nat.{mul-le-mul-left, mul-le-mul-right, suc-mul}
+use Rattle.mem.proofs.Prelude.{arith, T, lit≤}
+use native.Mathlib.Nat.{mul-le-mul-left, suc-mul}
 use Rattle.mem.specs.Lists.{choose}
-use Rattle.mem.specs.Bytes.{part}
 use Rattle.mem.proofs.Tests.{true-T}
 use Rattle.classes.specs.Classes.{slotBytes, rowsOf}
+use Rattle.classes.specs.Alignments.{enlarged}
 use Rattle.classes.proofs.Laws.{slots-small}
-use Rattle.model.specs.declared.Refusal.the-variants.{NoSuchBlock, AlreadyFree}
-use Rattle.model.specs.declared.Damage.{Damage}
-use Rattle.model.specs.State.{Place, group, isLive, wellFormed, poolOf, slotNumber, rows}
-use Rattle.model.specs.Blocks.{damage, damageIn}
+use Rattle.model.specs.declared.Refusal.the-variants.{AlreadyFree}
+use Rattle.model.specs.declared.Slot.{Slot}
+use Rattle.model.specs.declared.Slot.the-variants.{Fresh, Idle, Live}
+use Rattle.model.specs.State.{Place, group, isLive, count, disp, size, align, wellFormed, poolOf, slotNumber, rows}
+use Rattle.model.specs.Blocks.{damage}
+use Rattle.model.specs.Plans.{lookup, newSize}
 use Rattle.model.specs.Tables.{byMasks, view, encode}
 use Rattle.model.proofs.Tables.{masks-laws, view-encode}
 use Rattle.model.proofs.Rooms.{rows-append}
-use Rattle.model.proofs.Lookup.{Fits, fits, disp-inside, slot-inside}
+use Rattle.model.proofs.Lookup.{Fits, fits, disp-inside, slot-inside, lookup-found}
+use Rattle.model.proofs.Formed.{code-kept}
 use Rattle.rows.specs.declared.Block.{Block}
-use Rattle.rows.specs.Rows.{Lent, blockOf, ownedAt, Holds}
+use Rattle.rows.specs.Rows.{Lent, blockOf, Holds}
 use Rattle.rows.proofs.Rooms.{facts, few-rows}
-use Rattle.search.specs.declared.Looked.the-variants.{Present, Freed, Absent}
+use Rattle.search.specs.declared.Looked.{Looked}
+use Rattle.search.specs.declared.Looked.the-variants.{Present, Freed}
 use Rattle.search.specs.Found.{looked}
 use Rattle.ops.specs.declared.Located.the-variants.{Refused}
-use Rattle.ops.specs.Blocks.{Standing, byDamage, located}
-
--- a slot's number times its bytes
-pub small-product : (a b : ℕ) → a < 31 → b < 131072 → a * b < 4063232
-small-product a b h l = omega (arith, mul-le-mul-right {m = a} {n = 31} b (omega arith))
+use Rattle.ops.specs.Blocks.{Standing, Lies, codeFound, byDamage, judged, located}
 
 -- a slot of a pool lies in an arena that the pool fills
 pub place-stands : (row : ℕ) → 0 < row → (n : ℕ) (p : Place) → T (wellFormed (poolOf p)) → rows row (poolOf p) ≤ 512 → n ≡ row * rows row (poolOf p)
@@ -68,42 +68,57 @@ module _ {row n : ℕ} {t : List ℕ} (r : Lent byMasks row n t) where
         subst (Standing row n) (sym (h .block))
         (place-stands row (h .pos) n p (h .formed) (h .few) (facts r .long ∙ ap (λ P. row * rows row P) held-pool))
 
--- ---- what is located, by what is looked up
+-- ---- what is found at an offset
 
--- the damage of a block
-abbrev pub damageOf : ℕ → List ℕ → Block → Damage
-damageOf row a b = damageIn (b .class) (b .slot) (b .alloc .disp) (b .alloc .size) (part (ownedAt row b) (slotBytes (b .class)) a)
+module _ {row n : ℕ} {t : List ℕ} (r : Lent byMasks row n t) (o : ℕ) where
+  -- a live block that is looked up lies in the arena, and its alignment is one that the tables keep
+  pub record Known (l : Looked) : Type 0 where
+    pub lies : Lies row n l
+    pub some-code : 1 ≤ codeFound l
+    pub last-code : codeFound l ≤ 9
 
-module _ (row : ℕ) (a : List ℕ) where
-  pub located-absent : (o : Option Place) → looked row o ≡ Absent → Refused NoSuchBlock ≡ located row a o
+  known : (q : Option Place) → lookup row (view row t) o ≡ q → Known (looked row q)
   unfolding choose
-  located-absent none e = refl
-  located-absent (some p) e = go (isLive (p .state)) e
+  known none e = record { lies = tt; some-code = lit≤ tt; last-code = lit≤ tt }
+  known (some p) e = go (isLive (p .state)) refl
     where
-      go : (v : Bool) → choose v (Present (blockOf row p)) Freed ≡ Absent
-          → Refused NoSuchBlock ≡ choose v (byDamage row (blockOf row p) (damage row a p)) (Refused AlreadyFree)
-      go true e = let z : _≡_ {A = ℕ} 0 1 = cc in absurd (omega arith)
-      go false e = let z : _≡_ {A = ℕ} 0 1 = cc in absurd (omega arith)
+      go : (v : Bool) → isLive (p .state) ≡ v → Known (choose v (Present (blockOf row p)) Freed)
+      go false f = record { lies = tt; some-code = lit≤ tt; last-code = lit≤ tt }
+      go true f =
+          let l : T (isLive (p .state)) = true-T (isLive (p .state)) f in
+          let w : poolOf p ≡ view row t = lookup-found row (r .pos) (view row t) o p e .0 in
+          let k = code-kept (p .cls) (p .state) l (fits p (subst (λ P. T (wellFormed P)) (sym w) (facts r .formed)) .state) in
+          record { lies = held-stands r (place-holds r p w l); some-code = k .0; last-code = k .1 }
 
-  pub located-freed : (o : Option Place) → looked row o ≡ Freed → Refused AlreadyFree ≡ located row a o
-  unfolding choose
-  located-freed none e = let z : _≡_ {A = ℕ} 0 1 = cc in absurd (omega arith)
-  located-freed (some p) e = go (isLive (p .state)) e
-    where
-      go : (v : Bool) → choose v (Present (blockOf row p)) Freed ≡ Freed
-          → Refused AlreadyFree ≡ choose v (byDamage row (blockOf row p) (damage row a p)) (Refused AlreadyFree)
-      go true e = let z : _≡_ {A = ℕ} 0 1 = cc in absurd (omega arith)
-      go false e = refl
+  pub found-known : Known (looked row (lookup row (view row t) o))
+  found-known = known (lookup row (view row t) o) refl
 
-  -- a live place, and that it is what is located
-  pub present-place : (o : Option Place) (b : Block) → looked row o ≡ Present b
-      → (p : Place) × (o ≡ some p) × T (isLive (p .state)) × (b ≡ blockOf row p) × (byDamage row b (damageOf row a b) ≡ located row a o)
+  pub found-lies : Lies row n (looked row (lookup row (view row t) o))
+  found-lies = found-known .lies
+
+module _ (row : ℕ) where
+  pub judged-looked : (a : List ℕ) (q : Option Place) → judged row a (looked row q) ≡ located row a q
   unfolding choose
-  present-place none b e = let z : _≡_ {A = ℕ} 0 1 = cc in absurd (omega arith)
-  present-place (some p) b e = go (isLive (p .state)) refl e
+  judged-looked a none = refl
+  judged-looked a (some p) = go (isLive (p .state))
     where
-      go : (v : Bool) → isLive (p .state) ≡ v → choose v (Present (blockOf row p)) Freed ≡ Present b
-          → (q : Place) × (some p ≡ some q) × T (isLive (q .state)) × (b ≡ blockOf row q)
-          × (byDamage row b (damageOf row a b) ≡ choose v (byDamage row (blockOf row p) (damage row a p)) (Refused AlreadyFree))
-      go true v e = let q : b ≡ blockOf row p = cc in (p, refl, true-T (isLive (p .state)) v, q, ap (λ c. byDamage row c (damageOf row a c)) q)
-      go false v e = let z : _≡_ {A = ℕ} 0 1 = cc in absurd (omega arith)
+      go : (v : Bool) → judged row a (choose v (Present (blockOf row p)) Freed)
+          ≡ choose v (byDamage row (blockOf row p) (damage row a p)) (Refused AlreadyFree)
+      go true = refl
+      go false = refl
+
+  -- the size that answer 3 of a resize goes by, by what is looked up
+  pub new-size : (q : Option Place) (n : ℕ) → enlarged (codeFound (looked row q)) n ≡ newSize q n
+  unfolding choose
+  new-size none n = refl
+  new-size (some p) n = go (p .state)
+    where
+      go : (x : Slot) → enlarged (codeFound (choose (isLive x) (Present (record {
+        first = rows row (p .before);
+        class = p .cls;
+        slot = slotNumber p;
+        alloc = record { count = count x; disp = disp x; size = size x; align = align x };
+      })) Freed)) n ≡ enlarged (align x) n
+      go Fresh = refl
+      go (Idle r k d) = refl
+      go (Live a) = refl

@@ -1,9 +1,10 @@
 -- What the plans of a release and of a resize in place write, as the code writes it.
-use Rattle.mem.proofs.Prelude.{_∙_, _≡_, ap, refl, ap₂, true, List, _++_, _+_, ℕ, _≤_, _*_, _-_, suc, min, arith, T, leb, leb→le}
+use Rattle.mem.proofs.Prelude.{_∙_, _≡_, ap, refl, ap₂, true, List, _++_, _+_, ℕ, _≤_, _*_, _-_, min, arith, T, leb, leb→le}
 use Rattle.mem.specs.Lists.{choose}
 use Rattle.mem.specs.Bytes.{zeros, put}
 use Rattle.mem.proofs.Tests.{and-left, true-T}
-use Rattle.classes.specs.Classes.{slotBytes, classOf, rowsOf}
+use Rattle.classes.specs.Classes.{slotBytes, rowsOf, ownClass}
+use Rattle.classes.specs.Alignments.{enlarged}
 use Rattle.model.specs.State.{Place, disp, size, slotNumber, poolOf, become, start}
 use Rattle.model.specs.Blocks.{reserved, header, spare}
 use Rattle.model.specs.Plans.{releaseAt, resizeInPlace}
@@ -22,7 +23,7 @@ pub stays-fits : (b : Block) (n : ℕ) → staysIn b n ≡ true → 16 * b .allo
 stays-fits b n e h =
     let t : T (staysIn b n) = true-T (staysIn b n) e in
     let k : ℕ = slotBytes (b .class) - 4 - 16 * b .alloc .disp in
-    omega (arith, leb→le n k (and-left (leb n k) (leb (b .class) (suc (classOf n))) t))
+    omega (arith, leb→le n k (and-left (leb n k) (ownClass (b .class) (enlarged (b .alloc .align) n)) t))
 
 module _ {row : ℕ} {t : List ℕ} {b : Block} {p : Place} (h : Holds byMasks row t b p) (a : List ℕ) where
   -- a release: the slot's bytes, or all rows of the group

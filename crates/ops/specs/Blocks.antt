@@ -1,25 +1,29 @@
 -- A block as the calls handle it: where it lies, and what they find, reserve and change of it.
-use Prim.Native.Nat.{ℕ, suc, _+_, _*_, _-_, _≤_, _<_}
+use Prim.Native.Nat.{ℕ, _+_, _*_, _-_, _≤_, _<_}
 use mathlib.Core.Path.{_≡_}
 use mathlib.Core.Bool.{Bool, _&&_}
 use mathlib.Core.Option.{Option, none, some}
 use mathlib.Core.List.{List, _∷_, _++_}
 use lib.Dec.{leb}
 use Rattle.mem.specs.Lists.{choose}
-use Rattle.classes.specs.Classes.{slotBytes, classOf, rowsOf}
+use Rattle.mem.specs.Bytes.{part}
+use Rattle.classes.specs.Classes.{slotBytes, rowsOf, ownClass}
+use Rattle.classes.specs.Alignments.{ordinary, enlarged}
 use Rattle.model.specs.declared.Refusal.the-variants.{NoSuchBlock, AlreadyFree}
 use Rattle.model.specs.declared.Damage.{Damage}
 use Rattle.model.specs.declared.Damage.the-variants.{Intact, Damaged}
 use Rattle.model.specs.declared.Reply.{Reply}
 use Rattle.model.specs.declared.Totals.{Totals}
 use Rattle.model.specs.State.{Place, group, isLive, poolOf, rows}
-use Rattle.model.specs.Blocks.{damage}
+use Rattle.model.specs.Blocks.{damageIn, damage}
 use Rattle.model.specs.Answers.{replyAnswer}
 use Rattle.model.specs.Plans.{Plan, Site, totals}
 use Rattle.model.specs.Tables.{encode}
 use Rattle.model.specs.Calls.{written}
 use Rattle.rows.specs.declared.Block.{Block}
-use Rattle.rows.specs.Rows.{blockOf}
+use Rattle.rows.specs.Rows.{blockOf, ownedAt}
+use Rattle.search.specs.declared.Looked.{Looked}
+use Rattle.search.specs.declared.Looked.the-variants.{Present, Freed, Absent}
 use Rattle.ops.specs.declared.Located.{Located}
 use Rattle.ops.specs.declared.Located.the-variants.{At, Refused}
 use Rattle.ops.specs.declared.Opened.{Opened}
@@ -36,15 +40,34 @@ pub record Standing (row len : ℕ) (b : Block) : Type 0 where
   pub group : row * (b .first + rowsOf row (b .class)) ≤ len
   pub few : b .first + rowsOf row (b .class) ≤ 512
 
+-- a block that was found lies in an arena of len bytes
+abbrev pub Lies : (row len : ℕ) → Looked → Type 0
+Lies row len Absent = Unit {0}
+Lies row len Freed = Unit {0}
+Lies row len (Present b) = Standing row len b
+
+-- the alignment of what was found: that of a live block; of anything else, an ordinary block's
+abbrev pub codeFound : Looked → ℕ
+codeFound Absent = ordinary
+codeFound Freed = ordinary
+codeFound (Present b) = b .alloc .align
+
 -- whether a block of n bytes can stay in the block's slot
 abbrev pub staysIn : Block → ℕ → Bool
-staysIn b n = leb n (slotBytes (b .class) - 4 - 16 * b .alloc .disp) && leb (b .class) (suc (classOf n))
+staysIn b n = leb n (slotBytes (b .class) - 4 - 16 * b .alloc .disp) && ownClass (b .class) (enlarged (b .alloc .align) n)
 
 module _ (row : ℕ) where
   -- what is found at an offset: a live block with header and guard as due, or why not
   abbrev pub byDamage : Block → Damage → Located
   byDamage b Intact = At b
   byDamage b (Damaged r) = Refused r
+
+  -- what was found at an offset, a live block by its damage
+  abbrev pub judged : List ℕ → Looked → Located
+  judged a Absent = Refused NoSuchBlock
+  judged a Freed = Refused AlreadyFree
+  judged a (Present b) =
+      byDamage b (damageIn (b .class) (b .slot) (b .alloc .disp) (b .alloc .size) (part (ownedAt row b) (slotBytes (b .class)) a))
 
   abbrev pub located : List ℕ → Option Place → Located
   located a none = Refused NoSuchBlock

@@ -5,7 +5,8 @@ ghost use mathlib.Core.Bool.{true};
 ghost use Prim.Native.Nat.{_+_, _*_, _≤_, _<_, min};
 ghost use lib.ListN.{length};
 ghost use Rattle.mem.specs.Bytes.{put, part};
-ghost use Rattle.classes.specs.Classes.{Lawful, slotBytes, classOf, tooLarge};
+ghost use Rattle.classes.specs.Classes.{Lawful, slotBytes, classOf};
+ghost use Rattle.classes.specs.Alignments.{enlarged, Askable};
 ghost use Rattle.model.specs.State.{Place, poolOf};
 ghost use Rattle.model.specs.Blocks.{damageIn, frame};
 ghost use Rattle.model.specs.Plans.{site, reserve, lookup, releaseAt, resizeInPlace, resizeMove, resizeAt, totals};
@@ -13,7 +14,7 @@ ghost use Rattle.model.specs.Tables.{byMasks, sound, view, encode};
 ghost use Rattle.model.specs.Calls.{written};
 ghost use Rattle.rows.specs.Rows.{ownedAt, startAt, Holds};
 ghost use Rattle.search.specs.Found.{Passed};
-ghost use Rattle.ops.specs.Blocks.{Standing, located, opened, siteRoom, reservedAs, roomAfter, staysIn, CarriedOut};
+ghost use Rattle.ops.specs.Blocks.{Standing, Lies, codeFound, judged, located, opened, siteRoom, reservedAs, roomAfter, staysIn, CarriedOut};
 use changes::Left;
 use model::Answered;
 use model::Damage;
@@ -128,39 +129,66 @@ fn site_for(row: usize, len: usize, room: &mut [u8], t: Totals, c: usize, from: 
     Opened::In(i, totals::made(t, classes::rows(row, c), classes::slots(c)))
 }
 
-// Reserves a slot for n bytes, whose class is c. No group of the class before row `from` serves.
+// Reserves a slot for n bytes with an alignment, c being the class of the enlarged size. No group of the class before row `from` serves.
 pub fn reserve_in(
     row: usize,
     len: usize,
     room: &mut [u8],
     t: Totals,
     c: usize,
+    code: u8,
     n: usize,
     from: usize,
 ) -> Reserved
     requires { ⌜ sound row len (now room) ≡ true ⌝ }
-    requires { ⌜ (n < tooLarge) × (c ≡ classOf n) × (c < 48) × Passed row (now room) c from × (t ≡ totals row (view row (now room))) ⌝ }
+    requires { ⌜ Askable code n ⌝ }
+    requires { ⌜ (c ≡ classOf (enlarged code n)) × (c < 48) × Passed row (now room) c from × (t ≡ totals row (view row (now room))) ⌝ }
     requires { ⌜ Lawful row ⌝ }
-    ensures { λ r. ⌜ r ≡ reservedAs row (reserve row (view row (now (room .entry))) n) ⌝ }
-    ensures { λ r. ⌜ now (room .exit) ≡ roomAfter row (now (room .entry)) (reserve row (view row (now (room .entry))) n) ⌝ }
+    ensures { λ r. ⌜ r ≡ reservedAs row (reserve row (view row (now (room .entry))) code n) ⌝ }
+    ensures { λ r. ⌜ now (room .exit) ≡ roomAfter row (now (room .entry)) (reserve row (view row (now (room .entry))) code n) ⌝ }
 {
     let Opened::In(i, s) = site_for(row, len, room, t, c, from) else {
         return Reserved::NoRoom;
     };
-    let taken = changes::take_slot(room, i, c, n);
+    let taken = changes::take_slot(row, room, i, c, code, n);
     let block = taken.block;
     Reserved::Taken(block, totals::taken(s, n, taken.refilled))
 }
 
-// Reserves a slot for n bytes.
-pub fn reserve_slot(row: usize, len: usize, room: &mut [u8], t: Totals, n: usize) -> Reserved
+// Reserves a slot for n bytes with an alignment.
+pub fn reserve_slot(
+    row: usize,
+    len: usize,
+    room: &mut [u8],
+    t: Totals,
+    code: u8,
+    n: usize,
+) -> Reserved
     requires { ⌜ sound row len (now room) ≡ true ⌝ }
-    requires { ⌜ (n < tooLarge) × (t ≡ totals row (view row (now room))) ⌝ }
+    requires { ⌜ Askable code n ⌝ }
+    requires { ⌜ t ≡ totals row (view row (now room)) ⌝ }
     requires { ⌜ Lawful row ⌝ }
-    ensures { λ r. ⌜ r ≡ reservedAs row (reserve row (view row (now (room .entry))) n) ⌝ }
-    ensures { λ r. ⌜ now (room .exit) ≡ roomAfter row (now (room .entry)) (reserve row (view row (now (room .entry))) n) ⌝ }
+    ensures { λ r. ⌜ r ≡ reservedAs row (reserve row (view row (now (room .entry))) code n) ⌝ }
+    ensures { λ r. ⌜ now (room .exit) ≡ roomAfter row (now (room .entry)) (reserve row (view row (now (room .entry))) code n) ⌝ }
 {
-    reserve_in(row, len, room, t, classes::class_of(n), n, 0)
+    let c = classes::class_of(classes::enlarged(code, n));
+    reserve_in(row, len, room, t, c, code, n, 0)
+}
+
+// What was found at an offset, as the calls see it: a block that is live and undamaged, or why not.
+pub fn judge(row: usize, arena: &[u8], found: Looked) -> Located
+    requires { ⌜ Lies row (length (now arena)) found ⌝ }
+    requires { ⌜ Lawful row ⌝ }
+    ensures { λ r. ⌜ r ≡ judged row (now (arena .entry)) found ⌝ }
+{
+    match found {
+        Looked::Absent => Located::Refused(Refusal::NoSuchBlock),
+        Looked::Freed => Located::Refused(Refusal::AlreadyFree),
+        Looked::Present(b) => match inspect(row, arena, b) {
+            Damage::Intact => Located::At(b),
+            Damage::Damaged(r) => Located::Refused(r),
+        },
+    }
 }
 
 // The block at an offset, if it is live and undamaged.
@@ -169,13 +197,21 @@ pub fn locate(row: usize, arena: &[u8], room: &[u8], offset: usize) -> Located
     requires { ⌜ Lawful row ⌝ }
     ensures { λ r. ⌜ r ≡ located row (now (arena .entry)) (lookup row (view row (now (room .entry))) offset) ⌝ }
 {
-    match search::find_block(row, arena.len(), room, offset) {
-        Looked::Absent => Located::Refused(Refusal::NoSuchBlock),
-        Looked::Freed => Located::Refused(Refusal::AlreadyFree),
-        Looked::Present(b) => match inspect(row, arena, b) {
-            Damage::Intact => Located::At(b),
-            Damage::Damaged(r) => Located::Refused(r),
-        },
+    judge(
+        row,
+        arena,
+        search::find_block(row, arena.len(), room, offset),
+    )
+}
+
+// The alignment of what was found at an offset: that of a live block; of anything else, an ordinary block's.
+pub fn code_found(found: Looked) -> u8
+    ensures { λ r. ⌜ r ≡ codeFound found ⌝ }
+{
+    match found {
+        Looked::Absent => classes::ORDINARY,
+        Looked::Freed => classes::ORDINARY,
+        Looked::Present(b) => b.alloc.align,
     }
 }
 
@@ -222,7 +258,7 @@ fn resize_in_place(
 ) -> Totals
     requires { ⌜ (sound row (length (now arena)) (now room) ≡ true) × (t ≡ totals row (view row (now room))) ⌝ }
     requires { ⌜ ((p : Place) × Holds byMasks row (now room) b p) ⌝ }
-    requires { ⌜ (staysIn b n ≡ true) × (n < tooLarge) ⌝ }
+    requires { ⌜ (staysIn b n ≡ true) × Askable (b .alloc .align) n ⌝ }
     requires { ⌜ Lawful row ⌝ }
     ensures { λ r. ⌜ ((p : Place) → Holds byMasks row (now (room .entry)) b p
         → (now (arena .exit) ≡ written (now (arena .entry)) (resizeInPlace row p n .changes))
@@ -253,12 +289,12 @@ fn resize_by_move(
 ) -> Answered
     requires { ⌜ (sound row (length (now arena)) (now room) ≡ true) × (t ≡ totals row (view row (now room))) ⌝ }
     requires { ⌜ ((p : Place) × Holds byMasks row (now room) b p) ⌝ }
-    requires { ⌜ n < tooLarge ⌝ }
+    requires { ⌜ Askable (b .alloc .align) n ⌝ }
     requires { ⌜ Lawful row ⌝ }
     ensures { λ r. ⌜ ((p : Place) → Holds byMasks row (now (room .entry)) b p
         → CarriedOut row (now (arena .entry)) (resizeMove row (poolOf p) p n) (r .reply) (now (arena .exit)) (now (room .exit)) (r .totals)) ⌝ }
 {
-    let Reserved::Taken(q, s) = reserve_slot(row, arena.len(), room, t, n) else {
+    let Reserved::Taken(q, s) = reserve_slot(row, arena.len(), room, t, b.alloc.align, n) else {
         return Answered {
             reply: Reply::Refused(Refusal::NoRoom),
             totals: t,
@@ -273,16 +309,20 @@ fn resize_by_move(
     }
 }
 
-// Whether a block of n bytes can stay in its slot: it fits, and its class is at most one above that of n.
+// Whether a block of n bytes can stay in its slot: it fits, and its class is that of the enlarged size or the next one up.
 fn stays_in(b: Block, n: usize) -> bool
     requires { ⌜ (b .class < 48) × (16 * b .alloc .disp + 4 ≤ slotBytes (b .class)) ⌝ }
-    requires { ⌜ n < tooLarge ⌝ }
+    requires { ⌜ Askable (b .alloc .align) n ⌝ }
     ensures { λ r. ⌜ r ≡ staysIn b n ⌝ }
 {
     if 16 * classes::units(b.class) - 4 - 16 * b.alloc.disp < n {
         return false;
     }
-    b.class <= classes::class_of(n) + 1
+    let c = classes::class_of(classes::enlarged(b.alloc.align, n));
+    if b.class == c {
+        return true;
+    }
+    b.class == c + 1
 }
 
 // Changes the size of a live block, in place or by a move.
@@ -296,7 +336,7 @@ pub fn change_size(
 ) -> Answered
     requires { ⌜ (sound row (length (now arena)) (now room) ≡ true) × (t ≡ totals row (view row (now room))) ⌝ }
     requires { ⌜ ((p : Place) × Holds byMasks row (now room) b p) ⌝ }
-    requires { ⌜ n < tooLarge ⌝ }
+    requires { ⌜ Askable (b .alloc .align) n ⌝ }
     requires { ⌜ Lawful row ⌝ }
     ensures { λ r. ⌜ ((p : Place) → Holds byMasks row (now (room .entry)) b p
         → CarriedOut row (now (arena .entry)) (resizeAt row (poolOf p) n p) (r .reply) (now (arena .exit)) (now (room .exit)) (r .totals)) ⌝ }

@@ -1,9 +1,10 @@
 -- Set up: when it is refused, and the tables that it writes. What a call leaves, part by part.
-use Rattle.mem.proofs.Prelude.{_∙_, _≡_, sym, ap, refl, ap₂, true, Bool, false, _&&_, List, [], _∷_, _++_, _+_, ℕ, _≤_, _*_, _/_, arith, T, eqb}
-use Rattle.mem.proofs.Prelude.{eqb→eq, length}
+use Rattle.mem.proofs.Prelude.{_∙_, _≡_, sym, ap, refl, ap₂, subst, true, Bool, false, _&&_, List, [], _∷_, _++_, _+_, ℕ, _≤_, _*_, _/_, arith, T, eqb}
+use Rattle.mem.proofs.Prelude.{eqb→eq, length, lit≤}
 use Rattle.mem.specs.Bytes.{zeros, low, put}
 use Rattle.mem.proofs.Tests.{and-left, and-right, and-both, choose-true, choose-false, T-true, true-T, eq→eqb}
 use Rattle.mem.proofs.Laws.{zeros-length, zeros-add, put-at}
+use Rattle.classes.specs.Classes.{rowBytes, Lawful}
 use Rattle.model.specs.declared.Refusal.{Refusal}
 use Rattle.model.specs.declared.Refusal.the-variants.{BadArena}
 use Rattle.model.specs.declared.Reply.{Reply}
@@ -11,11 +12,17 @@ use Rattle.model.specs.declared.Totals.{Totals}
 use Rattle.model.specs.declared.Answered.{Answered}
 use Rattle.model.specs.State.{rows}
 use Rattle.model.specs.Answers.{Answer, done, refusal, replyAnswer}
-use Rattle.model.specs.Plans.{setsUp, freshPool}
+use Rattle.model.specs.Plans.{Plan, setsUp, freshPool}
 use Rattle.model.specs.Tables.{byMasks, rowAt, encode, encodeBy, arenaRight, roomBytes, roomFor, rowRecordBytes}
-use Rattle.model.specs.Calls.{KeptBytes, Result, engine, call, setUp, setUpRight, keeps, callBy, setUpBy, setUpRightBy}
+use Rattle.model.specs.Calls.{KeptBytes, Result, engine, applied, call, setUp, setUpRight, keeps, callBy, setUpBy, setUpRightBy}
 use Rattle.model.proofs.Fresh.{fresh-rows, whole-rows}
 use Rattle.rows.proofs.Spans.{free-records}
+use Rattle.ops.specs.Blocks.{CarriedOut}
+
+-- the card's row
+pub card-row : Lawful rowBytes
+unfolding rowBytes
+card-row = (lit≤ tt, lit≤ tt, refl)
 
 -- equal results leave the same
 pub parts : {r s : Result} → r ≡ s
@@ -29,6 +36,19 @@ parts e = (
 pub refused-as : {w : Answered} {x : Refusal} {t z : Totals} {A : Answer} {X Y : Type 0} → w ≡ record { reply = Reply.Refused x; totals = t }
     → (refusal x ≡ A) × (X × (Y × (t ≡ z))) → (replyAnswer (w .reply) ≡ A) × (X × (Y × (w .totals ≡ z)))
 refused-as e p = (ap (λ (w : Answered). replyAnswer (w .reply)) e ∙ p .0, (p .1 .0, (p .1 .1 .0, ap (λ (w : Answered). w .totals) e ∙ p .1 .1 .1)))
+
+-- a refusal that is told, and what it leaves
+pub refused-out : {row : ℕ} {a : List ℕ} {p : Plan} {w : Answered} {y : Refusal} {x u : List ℕ} {t : Totals}
+    → w ≡ record { reply = Reply.Refused y; totals = t } → CarriedOut row a p (Reply.Refused y) x u t → CarriedOut row a p (w .reply) x u (w .totals)
+refused-out {row} {a} {p} {w} {y} {x} {u} {t} e d =
+    subst (λ (v : Answered). CarriedOut row a p (v .reply) x u (v .totals)) (sym e) d
+
+-- what a call does that carries a plan out and names no block
+pub carried-as : {row : ℕ} {a : List ℕ} {p : Plan} {w : Answered} {x u : List ℕ} {r : Result} → CarriedOut row a p (w .reply) x u (w .totals)
+    → r ≡ applied (engine row) a p
+    → (replyAnswer (w .reply) ≡ r .answer) × ((x ≡ r .arena) × ((u ≡ r .room .tables) × (w .totals ≡ r .room .totals)))
+carried-as d e =
+    let p = parts (sym e) in (d .answer ∙ p .0, (d .arena ∙ p .1 .0, (d .room ∙ p .1 .1 .0, d .counts ∙ p .1 .1 .1)))
 
 module _ (row : ℕ) (a : List ℕ) (t : KeptBytes) where
   -- a room of the right size for a lawful arena

@@ -12,9 +12,10 @@ ghost use Rattle.classes.specs.Classes.{rowBytes};
 ghost use Rattle.model.specs.declared.Reply.{Reply};
 ghost use Rattle.model.specs.Answers.{replyAnswer, reportAnswer};
 ghost use Rattle.model.specs.Proposals.{accepts, planned};
-ghost use Rattle.model.specs.Plans.{setsUp, grants, releases, resizes, measures, reports, grantsList};
-ghost use Rattle.model.specs.Tables.{roomFor};
-ghost use Rattle.model.specs.Calls.{keptIn, call};
+ghost use Rattle.model.specs.Plans.{setsUp, grants, grantsAligned, releases, resizes, measures, reports, grantsList, grantAs};
+ghost use Rattle.model.specs.Tables.{roomFor, view};
+ghost use Rattle.model.specs.Calls.{keptIn, soundKept, call};
+ghost use Rattle.ops.specs.Blocks.{CarriedOut};
 use model::Answered;
 use model::Refusal;
 use model::Reply;
@@ -89,21 +90,18 @@ pub fn set_up(arena: &mut [u8], room: &mut [u8], t: Totals) -> Answered
     }
 }
 
-// Grant: a slot is reserved in the tables, and its block laid out in the arena.
-pub fn grant(arena: &mut [u8], room: &mut [u8], t: Totals, n: usize) -> Answered
-    ensures { λ r. ⌜ replyAnswer (r .reply) ≡ call rowBytes (now (arena .entry)) (keptIn (now (room .entry)) t) (grants n) .answer ⌝ }
-    ensures { λ r. ⌜ now (arena .exit) ≡ call rowBytes (now (arena .entry)) (keptIn (now (room .entry)) t) (grants n) .arena ⌝ }
-    ensures { λ r. ⌜ now (room .exit) ≡ call rowBytes (now (arena .entry)) (keptIn (now (room .entry)) t) (grants n) .room .tables ⌝ }
-    ensures { λ r. ⌜ r .totals ≡ call rowBytes (now (arena .entry)) (keptIn (now (room .entry)) t) (grants n) .room .totals ⌝ }
+// A grant on sound tables: a slot is reserved in the tables, and its block laid out in the arena.
+fn grant_as(arena: &mut [u8], room: &mut [u8], t: Totals, code: u8, n: usize) -> Answered
+    requires { ⌜ soundKept rowBytes (length (now arena)) (keptIn (now room) t) ≡ true ⌝ }
+    requires { ⌜ (1 ≤ code) × (code ≤ 9) ⌝ }
+    ensures { λ r. ⌜ CarriedOut rowBytes (now (arena .entry)) (grantAs rowBytes (view rowBytes (now (room .entry))) code n)
+        (r .reply) (now (arena .exit)) (now (room .exit)) (r .totals) ⌝ }
 {
-    let len = arena.len();
-    if !soundness::sound(classes::ROW, len, room, t) {
-        return refused(Refusal::Unsound, t);
-    }
-    if classes::TOO_LARGE <= n {
+    if classes::too_large(code, n) {
         return refused(Refusal::TooLarge, t);
     }
-    let Reserved::Taken(b, taken) = ops::reserve_slot(classes::ROW, len, room, t, n) else {
+    let len = arena.len();
+    let Reserved::Taken(b, taken) = ops::reserve_slot(classes::ROW, len, room, t, code, n) else {
         return refused(Refusal::NoRoom, t);
     };
     let start = ops::lay_out(classes::ROW, arena, b);
@@ -111,6 +109,42 @@ pub fn grant(arena: &mut [u8], room: &mut [u8], t: Totals, n: usize) -> Answered
         reply: Reply::Done(start),
         totals: taken,
     }
+}
+
+// Grant: an ordinary block.
+pub fn grant(arena: &mut [u8], room: &mut [u8], t: Totals, n: usize) -> Answered
+    ensures { λ r. ⌜ replyAnswer (r .reply) ≡ call rowBytes (now (arena .entry)) (keptIn (now (room .entry)) t) (grants n) .answer ⌝ }
+    ensures { λ r. ⌜ now (arena .exit) ≡ call rowBytes (now (arena .entry)) (keptIn (now (room .entry)) t) (grants n) .arena ⌝ }
+    ensures { λ r. ⌜ now (room .exit) ≡ call rowBytes (now (arena .entry)) (keptIn (now (room .entry)) t) (grants n) .room .tables ⌝ }
+    ensures { λ r. ⌜ r .totals ≡ call rowBytes (now (arena .entry)) (keptIn (now (room .entry)) t) (grants n) .room .totals ⌝ }
+{
+    if !soundness::sound(classes::ROW, arena.len(), room, t) {
+        return refused(Refusal::Unsound, t);
+    }
+    grant_as(arena, room, t, classes::ORDINARY, n)
+}
+
+// Grant aligned: a block whose start is on a boundary of 32 to 4,096 bytes; with an alignment up to 16, an ordinary one.
+pub fn grant_aligned(
+    arena: &mut [u8],
+    room: &mut [u8],
+    t: Totals,
+    n: usize,
+    align: usize,
+) -> Answered
+    ensures { λ r. ⌜ replyAnswer (r .reply) ≡ call rowBytes (now (arena .entry)) (keptIn (now (room .entry)) t) (grantsAligned n align) .answer ⌝ }
+    ensures { λ r. ⌜ now (arena .exit) ≡ call rowBytes (now (arena .entry)) (keptIn (now (room .entry)) t) (grantsAligned n align) .arena ⌝ }
+    ensures { λ r. ⌜ now (room .exit) ≡ call rowBytes (now (arena .entry)) (keptIn (now (room .entry)) t) (grantsAligned n align) .room .tables ⌝ }
+    ensures { λ r. ⌜ r .totals ≡ call rowBytes (now (arena .entry)) (keptIn (now (room .entry)) t) (grantsAligned n align) .room .totals ⌝ }
+{
+    if !soundness::sound(classes::ROW, arena.len(), room, t) {
+        return refused(Refusal::Unsound, t);
+    }
+    let code = classes::code_of(align);
+    if code == 0 {
+        return refused(Refusal::BadAlignment, t);
+    }
+    grant_as(arena, room, t, code, n)
 }
 
 // Release: the slot waits and its bytes become zero, or the group goes with its last live slot.
@@ -142,13 +176,16 @@ pub fn resize(arena: &mut [u8], room: &mut [u8], t: Totals, offset: usize, n: us
     ensures { λ r. ⌜ now (room .exit) ≡ call rowBytes (now (arena .entry)) (keptIn (now (room .entry)) t) (resizes offset n) .room .tables ⌝ }
     ensures { λ r. ⌜ r .totals ≡ call rowBytes (now (arena .entry)) (keptIn (now (room .entry)) t) (resizes offset n) .room .totals ⌝ }
 {
-    if !soundness::sound(classes::ROW, arena.len(), room, t) {
+    let len = arena.len();
+    if !soundness::sound(classes::ROW, len, room, t) {
         return refused(Refusal::Unsound, t);
     }
-    if classes::TOO_LARGE <= n {
+    // The size goes by the alignment of a live block, before its damage is looked at.
+    let found = search::find_block(classes::ROW, len, room, offset);
+    if classes::too_large(ops::code_found(found), n) {
         return refused(Refusal::TooLarge, t);
     }
-    match ops::locate(classes::ROW, arena, room, offset) {
+    match ops::judge(classes::ROW, arena, found) {
         Located::At(b) => ops::change_size(classes::ROW, arena, room, t, b, n),
         Located::Refused(r) => refused(r, t),
     }

@@ -54,6 +54,7 @@ pub fn slot_at(room: &[u8], i: usize, m: Masks, j: u32) -> Slot
         count: room[at + model::COUNT],
         disp: mem::get2(room, at + model::DISP),
         size: mem::get3(room, at + model::SIZE),
+        align: room[at],
     })
 }
 
@@ -78,7 +79,7 @@ fn slot_record(x: Slot) -> [u8; 8]
             0,
         ],
         Slot::Live(a) => [
-            1,
+            a.align,
             a.count,
             (a.disp % 256) as u8,
             (a.disp / 256 % 256) as u8,

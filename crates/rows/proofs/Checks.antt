@@ -4,7 +4,7 @@ use Rattle.mem.proofs.Prelude.{_+_, ℕ, _<_, _≤_, _*_, _-_, suc, _/_, _^_, _
 use Rattle.mem.proofs.Prelude.{leb, lit≤, ltb, eqb→eq, leb→le, le→leb, length, drop, getD, length-append, length-drop, take-append-drop, drop-drop}
 use Rattle.mem.proofs.Prelude.{getD-drop, drop-at}
 use mathlib.Core.Path.{subst⁻¹}
-use native.Mathlib.Nat.{div-add-mod, div-eq-of-eq-mul-right}
+use native.Mathlib.Nat.{div-add-mod, div-eq-of-eq-mul-right, mul-one}
 use denote.Enum.Declared.{tagOf}
 use types.Run.{OneOf}
 use Rattle.mem.specs.Lists.{choose, join, starts}
@@ -17,7 +17,7 @@ use Rattle.classes.proofs.Laws.{rows-pos}
 use Rattle.model.specs.declared.Slot.{Slot}
 use Rattle.model.specs.declared.Holder.{Holder}
 use Rattle.model.specs.declared.Holder.the-variants.{Free, First, Later}
-use Rattle.model.specs.State.{Span, Pool, free, group, spanSound, wellFormed, rows, rowsIn}
+use Rattle.model.specs.State.{Span, Pool, free, group, spanSound, wellFormed, slotsAligned, alignedFrom, aligned, rows, rowsIn}
 use Rattle.model.proofs.Holder.{the-type}
 use Rattle.model.specs.Tables.{Layout, LayoutLaws, rowAt, holderBytes, rowRecord, laterRecords, roomBytes, arenaRight, viewHolder, rowRecordBytes}
 use Rattle.model.specs.Tables.{spanRecordsBy, encodeBy, viewRowsBy, viewBy, soundBy}
@@ -100,16 +100,16 @@ laters-turn s i m k h =
 -- ---- one span
 
 -- there is no such class
-pub no-class : (L : Layout) (c : ℕ) (t : List ℕ) → 48 ≤ c → groupChecked L c t ≡ false
+pub no-class : (L : Layout) (at c : ℕ) (t : List ℕ) → 48 ≤ c → groupChecked L at c t ≡ false
 unfolding groupChecked spanSound
-no-class L c t h = rw (le-ltb c 48 h) (and-false (starts t (L .firstRow c (L .slotsIn c t))))
+no-class L at c t h = rw (le-ltb c 48 h) (ap (λ b. b && slotsAligned c (at + 16) (L .slotsIn c t)) (and-false (starts t (L .firstRow c (L .slotsIn c t)))))
 
 -- the group whose first row is row i, over what the calls give
-pub held-law : (L : Layout) (row n i c k : ℕ) (s : List ℕ) → viewHolder (drop (rowAt i) s) ≡ First c → k ≡ rowsOf row c
-    → spanChecked L row n (drop (rowAt i) s)
-    ≡ choose (leb k n && groupChecked L c (drop (rowAt i) s) && starts (drop (rowAt (i + 1)) s) (laterRecords (k - 1) 1)) (Rows k) Unsound
+pub held-law : (L : Layout) (row at n i c k : ℕ) (s : List ℕ) → viewHolder (drop (rowAt i) s) ≡ First c → k ≡ rowsOf row c
+    → spanChecked L row at n (drop (rowAt i) s)
+    ≡ choose (leb k n && groupChecked L at c (drop (rowAt i) s) && starts (drop (rowAt (i + 1)) s) (laterRecords (k - 1) 1)) (Rows k) Unsound
 unfolding spanChecked heldChecked
-held-law L row n i c k s h e =
+held-law L row at n i c k s h e =
     let f : rowAt i + rowRecordBytes ≡ rowAt (i + 1) = omega arith in
     rw (h, e, drop-drop rowRecordBytes (rowAt i) s, f)
 
@@ -119,23 +119,25 @@ same-front (a ∷ x) r y = rw (eq-eqb a a refl) (same-front x r y)
 
 module _ {L : Layout} (law : LayoutLaws L) (row : ℕ) (pos : 0 < row) where
   -- a span of k rows that stands first, where n rows are left
-  pub record Begins (n k : ℕ) (t : List ℕ) : Type 0 where
+  pub record Begins (at n k : ℕ) (t : List ℕ) : Type 0 where
     pub span : Span
     pub right : T (spanSound span)
+    pub bounds : (P : Pool) → alignedFrom row at (span ∷ P) ≡ alignedFrom row (at + row * k) P
     pub long : rowsIn row span ≡ k
     pub left : k ≤ n
     pub form : t ≡ spanRecordsBy L row span ++ drop (rowRecordBytes * k) t
 
-  pub span-begins : (n k : ℕ) (t : List ℕ) → 0 < n → spanChecked L row n t ≡ Rows k → Begins n k t
+  pub span-begins : (at n k : ℕ) (t : List ℕ) → 0 < n → spanChecked L row at n t ≡ Rows k → Begins at n k t
   unfolding spanChecked heldChecked groupChecked choose spanRecordsBy spanSound
-  span-begins n k t p = go (viewHolder t)
+  span-begins at n k t p = go (viewHolder t)
     where
-      free-begins : (a : Bool) → starts t (zeros rowRecordBytes) ≡ a → choose a (Rows 1) Unsound ≡ Rows k → Begins n k t
+      free-begins : (a : Bool) → starts t (zeros rowRecordBytes) ≡ a → choose a (Rows 1) Unsound ≡ Rows k → Begins at n k t
       free-begins true e q =
           let l : 1 ≡ k = cc in
           record {
             span = free;
             right = tt;
+            bounds = λ P. ap (λ b. alignedFrom row b P) (ap (λ r. at + r) (sym (mul-one row) ∙ ap (λ j. row * j) l));
             long = l;
             left = omega arith;
             form = rw (← l, free-form) (starts-split t (zeros rowRecordBytes) rowRecordBytes (zeros-length rowRecordBytes)
@@ -143,12 +145,13 @@ module _ {L : Layout} (law : LayoutLaws L) (row : ℕ) (pos : 0 < row) where
           }
       free-begins false e q = let z : _≡_ {A = ℕ} 0 1 = cc in absurd (omega arith)
 
-      held-begins : (c : ℕ) (b : Bool) → heldChecked L row n c t ≡ b → choose b (Rows (rowsOf row c)) Unsound ≡ Rows k → Begins n k t
+      held-begins : (c : ℕ) (b : Bool) → heldChecked L row at n c t ≡ b → choose b (Rows (rowsOf row c)) Unsound ≡ Rows k → Begins at n k t
       held-begins c true f q =
           let ss : List Slot = L .slotsIn c t in
           let l : rowsOf row c ≡ k = cc in
-          let u : T (heldChecked L row n c t) = true-T (heldChecked L row n c t) f in
+          let u : T (heldChecked L row at n c t) = true-T (heldChecked L row at n c t) f in
           let h : T (spanSound (group c ss)) = search (and-left, and-right) in
+          let o : T (slotsAligned c (at + 16) ss) = search (and-left, and-right) in
           let M = laterRecords (rowsOf row c - 1) 1 in
           let j : rowRecordBytes + rowRecordBytes * (rowsOf row c - 1) ≡ rowRecordBytes * k = omega (arith, rows-pos row c pos) in
           let f₁ : t ≡ L .firstRow c ss ++ drop rowRecordBytes t =
@@ -158,6 +161,7 @@ module _ {L : Layout} (law : LayoutLaws L) (row : ℕ) (pos : 0 < row) where
           record {
             span = group c ss;
             right = h;
+            bounds = λ P. rw (T-true (slotsAligned c (at + 16) ss) o) (ap (λ j. alignedFrom row (at + row * j) P) l);
             long = l;
             left = omega (arith, leb→le (rowsOf row c) n (search (and-left, and-right)));
             form =
@@ -166,15 +170,15 @@ module _ {L : Layout} (law : LayoutLaws L) (row : ℕ) (pos : 0 < row) where
           }
       held-begins c false f q = let z : _≡_ {A = ℕ} 0 1 = cc in absurd (omega arith)
 
-      go : (h : Holder) → tile L row n t h ≡ Rows k → Begins n k t
+      go : (h : Holder) → tile L row at n t h ≡ Rows k → Begins at n k t
       go Free q = free-begins (starts t (zeros rowRecordBytes)) refl q
-      go (First c) q = held-begins c (heldChecked L row n c t) refl q
+      go (First c) q = held-begins c (heldChecked L row at n c t) refl q
       go (Later d) q = let z : _≡_ {A = ℕ} 0 1 = cc in absurd (omega arith)
 
-  held-passes : (c : ℕ) (ss : List Slot) (n : ℕ) (rest : List ℕ) → T (spanSound (group c ss)) → rowsOf row c ≤ n
-      → T (heldChecked L row n c (L .firstRow c ss ++ (laterRecords (rowsOf row c - 1) 1 ++ rest)))
+  held-passes : (at c : ℕ) (ss : List Slot) (n : ℕ) (rest : List ℕ) → T (spanSound (group c ss)) → T (slotsAligned c (at + 16) ss) → rowsOf row c ≤ n
+      → T (heldChecked L row at n c (L .firstRow c ss ++ (laterRecords (rowsOf row c - 1) 1 ++ rest)))
   unfolding heldChecked groupChecked
-  held-passes c ss n rest h l =
+  held-passes at c ss n rest h o l =
       let M = laterRecords (rowsOf row c - 1) 1 in
       let F = L .firstRow c ss in
       let t = F ++ (M ++ rest) in
@@ -182,61 +186,72 @@ module _ {L : Layout} (law : LayoutLaws L) (row : ℕ) (pos : 0 < row) where
       (search (and-both, le→leb, starts-own))
 
   -- the records of a sound span pass, whatever stands behind them
-  span-passes : (s : Span) (n : ℕ) (rest : List ℕ) → T (spanSound s) → rowsIn row s ≤ n
-      → spanChecked L row n (spanRecordsBy L row s ++ rest) ≡ Rows (rowsIn row s)
+  span-passes : (at : ℕ) (s : Span) (n : ℕ) (rest : List ℕ) → T (spanSound s) → T (alignedFrom row at (s ∷ [])) → rowsIn row s ≤ n
+      → spanChecked L row at n (spanRecordsBy L row s ++ rest) ≡ Rows (rowsIn row s)
   unfolding spanChecked spanRecordsBy choose
-  span-passes free n rest h l =
+  span-passes at free n rest h o l =
       let t = rowRecord Free [] ++ rest in
       rw (holder-free rest, T-true (starts t (zeros rowRecordBytes)) (subst (λ (x : List ℕ). T (starts t x)) free-form (starts-own (rowRecord Free []) rest)))
-  span-passes (group c ss) n rest h l =
+  span-passes at (group c ss) n rest h o l =
       let X = laterRecords (rowsOf row c - 1) 1 ++ rest in
       rw (
         append-assoc (L .firstRow c ss) (laterRecords (rowsOf row c - 1) 1) rest,
         law .holder c ss X,
-        T-true (heldChecked L row n c (L .firstRow c ss ++ X)) (held-passes c ss n rest h l),
+        T-true (heldChecked L row at n c (L .firstRow c ss ++ X))
+            (held-passes at c ss n rest h (and-left (slotsAligned c (at + 16) ss) true o) l),
       )
 
   -- ---- all rows
 
-  rows-split : (s : Span) (m : ℕ) (rest : List ℕ) → T (spanSound s)
-      → rowsChecked L row (rowsIn row s + m) (spanRecordsBy L row s ++ rest) ≡ rowsChecked L row m rest
+  rows-split : (at k : ℕ) (s : Span) (m : ℕ) (rest : List ℕ) → T (spanSound s)
+      → ((P : Pool) → alignedFrom row at (s ∷ P) ≡ alignedFrom row (at + row * k) P)
+      → rowsChecked L row at (rowsIn row s + m) (spanRecordsBy L row s ++ rest) ≡ rowsChecked L row (at + row * k) m rest
   unfolding rowsChecked
-  rows-split s m rest h =
+  rows-split at k s m rest h b =
       rw (
         view-span law row pos s m rest h,
         same-front (spanRecordsBy L row s) rest (join (spanRecordsBy L row) (viewRowsBy L row m 0 rest)),
-        T-true
-            (spanSound s) h,
+        T-true (spanSound s) h,
+        b (viewRowsBy L row m 0 rest),
       )
 
-  pub rows-pass : (n k : ℕ) (t : List ℕ) → 0 < n → spanChecked L row n t ≡ Rows k
-      → (1 ≤ k) × (k ≤ n) × (rowsChecked L row n t ≡ rowsChecked L row (n - k) (drop (rowRecordBytes * k) t))
-  rows-pass n k t p e =
-      let b = span-begins n k t p e in
+  pub rows-pass : (at n k : ℕ) (t : List ℕ) → 0 < n → spanChecked L row at n t ≡ Rows k
+      → (1 ≤ k) × (k ≤ n) × (rowsChecked L row at n t ≡ rowsChecked L row (at + row * k) (n - k) (drop (rowRecordBytes * k) t))
+  rows-pass at n k t p e =
+      let b = span-begins at n k t p e in
       let m : n ≡ rowsIn row (b .span) + (n - k) = omega (arith, b .long, b .left) in (
         omega (arith, b .long, span-pos (b .span)),
         b .left,
-        ap₂ (rowsChecked L row) m (b .form)
-            ∙ rows-split (b .span) (n - k) (drop (rowRecordBytes * k) t) (b .right),
+        ap₂ (rowsChecked L row at) m (b .form)
+            ∙ rows-split at k (b .span) (n - k) (drop (rowRecordBytes * k) t) (b .right) (b .bounds),
       )
     where
       span-pos : (s : Span) → 1 ≤ rowsIn row s
       span-pos free = lit≤ tt
       span-pos (group c ss) = rows-pos row c pos
 
-  pub rows-fail : (n : ℕ) (t : List ℕ) → 0 < n → length t ≡ rowRecordBytes * n → spanChecked L row n t ≡ Unsound → rowsChecked L row n t ≡ false
+  -- a pool's first span is on its boundaries if the pool is
+  first-aligned : (at : ℕ) (s : Span) (P : Pool) → T (alignedFrom row at (s ∷ P)) → T (alignedFrom row at (s ∷ []))
+  first-aligned at free P t = tt
+  first-aligned at (group c ss) P t =
+      and-both (slotsAligned c (at + 16) ss) true (and-left (slotsAligned c (at + 16) ss) (alignedFrom row (at + row * rowsOf row c) P) t) tt
+
+  pub rows-fail : (at n : ℕ) (t : List ℕ) → 0 < n → length t ≡ rowRecordBytes * n → spanChecked L row at n t ≡ Unsound
+      → rowsChecked L row at n t ≡ false
   unfolding rowsChecked
-  rows-fail n t p l e = same-test (rowsChecked L row n t) false
-      (λ u. go (viewRowsBy L row n 0 t) (same→eq t (join (spanRecordsBy L row) (viewRowsBy L row n 0 t)) (search and-left)) (search (and-left, and-right)))
+  rows-fail at n t p l e = same-test (rowsChecked L row at n t) false
+      (λ u. go (viewRowsBy L row n 0 t) (same→eq t (join (spanRecordsBy L row) (viewRowsBy L row n 0 t)) (search (and-left, and-right)))
+      (search (and-left, and-right)) (search (and-left, and-right)))
       (λ u. absurd u)
     where
-      go : (P : Pool) → t ≡ join (spanRecordsBy L row) P → T (wellFormed P) → ⊥
-      go [] f h = omega (arith, ap length f)
-      go (s ∷ P) f h =
+      go : (P : Pool) → t ≡ join (spanRecordsBy L row) P → T (wellFormed P) → T (alignedFrom row at P) → ⊥
+      go [] f h o = omega (arith, ap length f)
+      go (s ∷ P) f h o =
           let hs : T (spanSound s) = and-left (spanSound s) (wellFormed P) h in
           let few : rowsIn row s ≤ n =
           omega (arith, ap length f, length-append (spanRecordsBy L row s) (join (spanRecordsBy L row) P), span-length law row pos s hs) in
-          let q : spanChecked L row n t ≡ Rows (rowsIn row s) = ap (spanChecked L row n) f ∙ span-passes s n (join (spanRecordsBy L row) P) hs few in
+          let q : spanChecked L row at n t ≡ Rows (rowsIn row s) =
+          ap (spanChecked L row at n) f ∙ span-passes at s n (join (spanRecordsBy L row) P) hs (first-aligned at s P o) few in
           let z : _≡_ {A = ℕ} 0 1 = cc in
           omega arith
 
@@ -248,7 +263,7 @@ module _ {L : Layout} (law : LayoutLaws L) (row : ℕ) (pos : 0 < row) where
     arena-facts = (leb→le n (512 * row) (search (and-left, and-right)), eqb→eq (n % row) 0 (search (and-left, and-right)))
 
     sound-passes : T (soundBy L row n t) → T (roomChecked L row n t)
-    unfolding roomChecked rowsChecked viewBy encodeBy roomBytes
+    unfolding roomChecked rowsChecked viewBy encodeBy roomBytes aligned
     sound-passes u =
         let f = sound-facts L row n t u in
         let P = viewBy L row t in
@@ -261,14 +276,15 @@ module _ {L : Layout} (law : LayoutLaws L) (row : ℕ) (pos : 0 < row) where
         let m : number (part 0 4 t) ≡ n = ap (λ (x : List ℕ). number (part 0 4 x)) (f .form) ∙ number-low 4 (row * rows row P) fits ∙ sym (f .long) in
         let d : drop 4 t ≡ zeros 12 ++ J = ap (drop 4) (f .form) in
         let j : drop 16 t ≡ J = sym (drop-drop 12 4 t) ∙ ap (drop 12) d ∙ drop-at (zeros 12) J 12 (zeros-length 12) in
-        let w : T (rowsChecked L row (rows row P) (drop 16 t)) =
-        rw v (and-both (same (drop 16 t) J) (wellFormed P) (eq→same (drop 16 t) J j) (f .formed)) in
+        let w : T (rowsChecked L row 0 (rows row P) (drop 16 t)) =
+        rw v (and-both (same (drop 16 t) J && wellFormed P) (alignedFrom row 0 P)
+        (and-both (same (drop 16 t) J) (wellFormed P) (eq→same (drop 16 t) J j) (f .formed)) (f .bounds)) in
         let z : T (same (part 4 12 t) (zeros 12)) = rw (starts-zeros 4 12 t, d) (starts-own (zeros 12) J) in
         rw q
         (search (and-both, eq→eqb))
 
     passes-sound : ((i : ℕ) → getD t i 0 < 256) → T (roomChecked L row n t) → T (soundBy L row n t)
-    unfolding roomChecked rowsChecked encodeBy
+    unfolding roomChecked rowsChecked encodeBy aligned
     passes-sound B u =
         let P = viewRowsBy L row (n / row) 0 (drop 16 t) in
         let J = join (spanRecordsBy L row) P in
@@ -277,6 +293,7 @@ module _ {L : Layout} (law : LayoutLaws L) (row : ℕ) (pos : 0 < row) where
         let z : T (same (part 4 12 t) (zeros 12)) = search (and-left, and-right) in
         let j : drop 16 t ≡ J = same→eq (drop 16 t) J (search (and-left, and-right)) in
         let wf : T (wellFormed P) = search (and-left, and-right) in
+        let on : T (alignedFrom row 0 P) = search (and-left, and-right) in
         let k : n / row ≡ rows row P = omega (arith, ap length j, spans-length law row pos P wf, length-drop 16 t) in
         let long : n ≡ row * rows row P = omega (arith, div-add-mod n row, arena-facts, ap (λ (x : ℕ). row * x) k) in
         let h : part 0 4 t ≡ low 4 (row * rows row P) =
@@ -285,7 +302,7 @@ module _ {L : Layout} (law : LayoutLaws L) (row : ℕ) (pos : 0 < row) where
         starts-split (drop 4 t) (zeros 12) 12 (zeros-length 12) (rw starts-zeros at z)
         ∙ ap (λ (x : List ℕ). zeros 12 ++ x) (drop-drop 12 4 t ∙ j) in
         let form : t ≡ encodeBy L row P = sym (take-append-drop 4 t) ∙ ap₂ {C = List ℕ} _++_ h d in
-        subst⁻¹ (λ (x : List ℕ). T (soundBy L row n x)) form (encode-sound law row pos P n wf lawful long)
+        subst⁻¹ (λ (x : List ℕ). T (soundBy L row n x)) form (encode-sound law row pos P n wf on lawful long)
 
     pub sound-law : ((i : ℕ) → getD t i 0 < 256) → soundBy L row n t ≡ roomChecked L row n t
     sound-law B = same-test (soundBy L row n t) (roomChecked L row n t) sound-passes (passes-sound B)

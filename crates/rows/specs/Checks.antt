@@ -1,5 +1,5 @@
 -- What is tested of a room row by row, in any layout, each piece over the room's bytes from its place on.
-use Prim.Native.Nat.{ℕ, _-_, _/_}
+use Prim.Native.Nat.{ℕ, _+_, _-_, _/_}
 use mathlib.Core.Bool.{Bool, _&&_}
 use mathlib.Core.List.{List}
 use lib.Dec.{leb, eqb}
@@ -9,35 +9,36 @@ use Rattle.mem.specs.Bytes.{zeros, number, same, part}
 use Rattle.classes.specs.Classes.{rowsOf}
 use Rattle.model.specs.declared.Holder.{Holder}
 use Rattle.model.specs.declared.Holder.the-variants.{Free, First, Later}
-use Rattle.model.specs.State.{group, spanSound, wellFormed}
+use Rattle.model.specs.State.{group, spanSound, wellFormed, slotsAligned, alignedFrom}
 use Rattle.model.specs.Tables.{Layout, headBytes, rowRecordBytes, rowAt, laterRecords, spanRecordsBy, viewHolder, viewRowsBy}
 use Rattle.rows.specs.declared.Tile.{Tile}
 use Rattle.rows.specs.declared.Tile.the-variants.{Rows, Unsound}
 
+-- Each piece over the arena's byte that its first row has first.
 module _ (L : Layout) where
   -- the first row of a group of class c
-  unfoldable pub groupChecked : ℕ → List ℕ → Bool
-  groupChecked c t = let ss = L .slotsIn c t in starts t (L .firstRow c ss) && spanSound (group c ss)
+  unfoldable pub groupChecked : (at c : ℕ) → List ℕ → Bool
+  groupChecked at c t = let ss = L .slotsIn c t in starts t (L .firstRow c ss) && spanSound (group c ss) && slotsAligned c (at + 16) ss
 
   module _ (row : ℕ) where
     -- the rows of a group of class c, where n rows are left
-    unfoldable pub heldChecked : ℕ → ℕ → List ℕ → Bool
-    heldChecked n c t = leb (rowsOf row c) n && groupChecked c t && starts (drop rowRecordBytes t) (laterRecords (rowsOf row c - 1) 1)
+    unfoldable pub heldChecked : (at n c : ℕ) → List ℕ → Bool
+    heldChecked at n c t = leb (rowsOf row c) n && groupChecked at c t && starts (drop rowRecordBytes t) (laterRecords (rowsOf row c - 1) 1)
 
     -- the span that begins here, where n rows are left: a free row, or a group
-    abbrev pub tile : ℕ → List ℕ → Holder → Tile
-    tile n t Free = choose (starts t (zeros rowRecordBytes)) (Rows 1) Unsound
-    tile n t (First c) = choose (heldChecked n c t) (Rows (rowsOf row c)) Unsound
-    tile n t (Later k) = Unsound
+    abbrev pub tile : (at n : ℕ) → List ℕ → Holder → Tile
+    tile at n t Free = choose (starts t (zeros rowRecordBytes)) (Rows 1) Unsound
+    tile at n t (First c) = choose (heldChecked at n c t) (Rows (rowsOf row c)) Unsound
+    tile at n t (Later k) = Unsound
 
-    unfoldable pub spanChecked : ℕ → List ℕ → Tile
-    spanChecked n t = tile n t (viewHolder t)
+    unfoldable pub spanChecked : (at n : ℕ) → List ℕ → Tile
+    spanChecked at n t = tile at n t (viewHolder t)
 
     -- all rows that are left, n of them
-    unfoldable pub rowsChecked : ℕ → List ℕ → Bool
-    rowsChecked n t = let P = viewRowsBy L row n 0 t in same t (join (spanRecordsBy L row) P) && wellFormed P
+    unfoldable pub rowsChecked : (at n : ℕ) → List ℕ → Bool
+    rowsChecked at n t = let P = viewRowsBy L row n 0 t in same t (join (spanRecordsBy L row) P) && wellFormed P && alignedFrom row at P
 
     -- a room under an arena of n bytes, a length within the rule
     unfoldable pub roomChecked : ℕ → List ℕ → Bool
     roomChecked n t =
-        eqb (length t) (rowAt (n / row)) && eqb (number (part 0 4 t)) n && same (part 4 12 t) (zeros 12) && rowsChecked (n / row) (drop headBytes t)
+        eqb (length t) (rowAt (n / row)) && eqb (number (part 0 4 t)) n && same (part 4 12 t) (zeros 12) && rowsChecked 0 (n / row) (drop headBytes t)

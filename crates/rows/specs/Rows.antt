@@ -10,7 +10,7 @@ use Rattle.mem.specs.Lists.{choose, every, any}
 use Rattle.classes.specs.Classes.{slotBytes, slotsOf, rowsOf}
 use Rattle.model.specs.declared.Holder.{Holder}
 use Rattle.model.specs.declared.Holder.the-variants.{Free, First, Later}
-use Rattle.model.specs.State.{Place, group, isLive, count, disp, size, slotSound, wellFormed, poolOf, slotNumber, rows}
+use Rattle.model.specs.State.{Place, group, isLive, count, disp, size, align, slotSound, wellFormed, poolOf, slotNumber, rows}
 use Rattle.model.specs.Plans.{Site}
 use Rattle.model.specs.Tables.{Layout, LayoutLaws, rowAt, arenaRight, encodeBy, soundBy}
 use Rattle.rows.specs.declared.Found.{Found}
@@ -70,7 +70,7 @@ module _ (row : ℕ) where
     first = rows row (p .before);
     class = p .cls;
     slot = slotNumber p;
-    alloc = record { count = count (p .state); disp = disp (p .state); size = size (p .state) };
+    alloc = record { count = count (p .state); disp = disp (p .state); size = size (p .state); align = align (p .state) };
   }
 
   abbrev pub ownedAt : Block → ℕ

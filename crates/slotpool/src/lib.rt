@@ -9,7 +9,7 @@ ghost use Rattle.mem.specs.Bytes.{bit, put};
 ghost use Rattle.classes.specs.Classes.{rowBytes};
 ghost use Rattle.model.specs.Answers.{listed};
 ghost use Rattle.model.specs.Proposals.{accepts, planned};
-ghost use Rattle.model.specs.Plans.{setsUp, grants, releases, resizes, measures, reports, grantsList};
+ghost use Rattle.model.specs.Plans.{setsUp, grants, grantsAligned, releases, resizes, measures, reports, grantsList};
 ghost use Rattle.model.specs.Tables.{roomFor};
 ghost use Rattle.model.specs.Calls.{keptIn, call};
 use model::Totals;
@@ -87,6 +87,55 @@ pub extern "C" fn slotpool_grant(
     ensures { λ r. ⌜ now (totals .exit) ≡ call rowBytes (now (arena .entry)) (keptIn (now (room .entry)) (now (totals .entry))) (grants n) .room .totals ⌝ }
 {
     let told = grant_by(arena, room, *totals, n, value);
+    totals::record(totals, told.totals);
+    told.number
+}
+
+fn grant_aligned_by(
+    arena: &mut [u8],
+    room: &mut [u8],
+    t: Totals,
+    n: usize,
+    align: usize,
+    value: &mut usize,
+) -> Told
+    ensures { λ r. ⌜ r .number ≡ call rowBytes (now (arena .entry)) (keptIn (now (room .entry)) t) (grantsAligned n align) .answer .number ⌝ }
+    ensures { λ r. ⌜ now (value .exit) ≡ getD (call rowBytes (now (arena .entry)) (keptIn (now (room .entry)) t)
+        (grantsAligned n align) .answer .values) 0 0 ⌝ }
+    ensures { λ r. ⌜ now (arena .exit) ≡ call rowBytes (now (arena .entry)) (keptIn (now (room .entry)) t) (grantsAligned n align) .arena ⌝ }
+    ensures { λ r. ⌜ now (room .exit) ≡ call rowBytes (now (arena .entry)) (keptIn (now (room .entry)) t) (grantsAligned n align) .room .tables ⌝ }
+    ensures { λ r. ⌜ r .totals ≡ call rowBytes (now (arena .entry)) (keptIn (now (room .entry)) t) (grantsAligned n align) .room .totals ⌝ }
+{
+    let r = pool::grant_aligned(arena, room, t, n, align);
+    let reply = r.reply;
+    let totals = r.totals;
+    *value = answers::value_of(reply);
+    Told {
+        number: answers::number_of(reply),
+        totals: totals,
+    }
+}
+
+#[no_mangle]
+pub extern "C" fn slotpool_grant_aligned(
+    arena: &mut [u8],
+    room: &mut [u8],
+    totals: &mut Totals,
+    n: usize,
+    align: usize,
+    value: &mut usize,
+) -> u32
+    ensures { λ r. ⌜ r ≡ call rowBytes (now (arena .entry)) (keptIn (now (room .entry)) (now (totals .entry))) (grantsAligned n align) .answer .number ⌝ }
+    ensures { λ r. ⌜ now (value .exit) ≡ getD (call rowBytes (now (arena .entry)) (keptIn (now (room .entry)) (now (totals .entry)))
+        (grantsAligned n align) .answer .values) 0 0 ⌝ }
+    ensures { λ r. ⌜ now (arena .exit) ≡ call rowBytes (now (arena .entry)) (keptIn (now (room .entry)) (now (totals .entry)))
+        (grantsAligned n align) .arena ⌝ }
+    ensures { λ r. ⌜ now (room .exit) ≡ call rowBytes (now (arena .entry)) (keptIn (now (room .entry)) (now (totals .entry)))
+        (grantsAligned n align) .room .tables ⌝ }
+    ensures { λ r. ⌜ now (totals .exit) ≡ call rowBytes (now (arena .entry)) (keptIn (now (room .entry)) (now (totals .entry)))
+        (grantsAligned n align) .room .totals ⌝ }
+{
+    let told = grant_aligned_by(arena, room, *totals, n, align, value);
     totals::record(totals, told.totals);
     told.number
 }

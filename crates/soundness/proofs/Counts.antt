@@ -1,8 +1,9 @@
 -- Laws of what is counted: a group's masks and records say the totals of its slots, and the rows' totals are those of their spans.
 use Rattle.mem.proofs.Prelude.{_∙_, _≡_, sym, ap, ap₂, refl, subst, true, false, Bool, _&&_, and-assoc, List, [], _∷_, _++_, append-assoc, map}
-use Rattle.mem.proofs.Prelude.{ℕ, _+_, _*_, _-_, _/_, _<_, _≤_, add-zero, zero-add, add-assoc, sub-zero, arith, T, leb, eqb→eq, length, drop}
+use Rattle.mem.proofs.Prelude.{ℕ, _+_, _*_, _-_, _/_, _<_, _≤_, add-zero, zero-add, add-assoc, mul-add, sub-zero, arith, T, leb, eqb→eq, length, drop}
 use Rattle.mem.proofs.Prelude.{length-drop, drop-at, drop-drop, ones}
 use mathlib.Core.Bool.{and-comm}
+use native.Mathlib.Nat.{mul-zero}
 use lib.ListN.{drop-of-length-le}
 use Rattle.mem.specs.Lists.{choose, every, sum, join, starts}
 use Rattle.mem.specs.Bytes.{zeros, number, mask, part, bit}
@@ -20,8 +21,8 @@ use Rattle.model.specs.Plans.{totals}
 use Rattle.model.specs.Tables.{rowAt, byMasks, slotRecord, laterRecords, sizesIn, viewGroup, viewHolder, viewRowsBy, rowRecordBytes}
 use Rattle.model.specs.Tables.{rowRecord, spanRecords, spanRecordsBy, viewBy, sound}
 use Rattle.model.specs.Calls.{KeptBytes, sameTotals, soundKept}
-use Rattle.model.proofs.Tables.{masks-laws, slot-length, slots-length, group-few, holder-free, view-span}
-use Rattle.model.proofs.Counts.{held-free, size-small, mask-ones, three-sets}
+use Rattle.model.proofs.Tables.{masks-laws, slot-length, slots-length, group-few, holder-free, view-span, size-small}
+use Rattle.model.proofs.Counts.{held-free, mask-ones, three-sets}
 use Rattle.rows.specs.declared.Tile.{Tile}
 use Rattle.rows.specs.Checks.{groupChecked, spanChecked, rowsChecked}
 use Rattle.rows.proofs.Checks.{held-law, span-begins, rows-pass, rows-fail}
@@ -47,7 +48,7 @@ sizes-read c (x ∷ ss) rest t =
     (sizes-read c ss rest (and-right (slotSound c x) (every (slotSound c) ss) t)))
 
 -- the masks and the records of slots that are sound
-module _ (c : ℕ) (t : List ℕ) (h : T (membersChecked c t)) where
+module _ (c b : ℕ) (t : List ℕ) (h : T (membersChecked c b t)) where
   ready-ones : ones (number (part 8 4 t)) ≡ sum (λ x. bit (isReady x)) (viewGroup c t)
   unfolding membersChecked
   ready-ones =
@@ -77,12 +78,12 @@ module _ (c : ℕ) (t : List ℕ) (h : T (membersChecked c t)) where
       rw (e, sizes-sum, ready-ones, waiting-ones)
 
 -- over what the calls give
-module _ (s : List ℕ) (at c n r w : ℕ) (h : membersChecked c (drop at s) ≡ true) (en : n ≡ slotsOf c)
+module _ (s : List ℕ) (at c b n r w : ℕ) (h : membersChecked c b (drop at s) ≡ true) (en : n ≡ slotsOf c)
     (er : r ≡ number (part (at + 8) 4 s)) (ew : w ≡ number (part (at + 12) 4 s)) where
-  pub members-totals : (b k : ℕ) → b ≡ sizesIn n (drop (at + 16) s) → masksTotals k n r w b ≡ groupTotals k (viewGroup c (drop at s))
-  members-totals b k eb =
-      rw (eb, en, er, ew, ← (drop-drop 8 at s), ← (drop-drop 12 at s), ← (drop-drop 16 at s))
-      (masks-totals c (drop at s) (true-T (membersChecked c (drop at s)) h) k)
+  pub members-totals : (m k : ℕ) → m ≡ sizesIn n (drop (at + 16) s) → masksTotals k n r w m ≡ groupTotals k (viewGroup c (drop at s))
+  members-totals m k em =
+      rw (em, en, er, ew, ← (drop-drop 8 at s), ← (drop-drop 12 at s), ← (drop-drop 16 at s))
+      (masks-totals c b (drop at s) (true-T (membersChecked c b (drop at s)) h) k)
 
 -- ---- one span
 
@@ -96,30 +97,30 @@ unfolding totals
 group-totals row c ss = simp add-zero
 
 -- by who holds the first row
-pub free-counted : (row n : ℕ) (t : List ℕ) → viewHolder t ≡ Free
-    → spanCounted row n t ≡ countedIf (starts t (zeros rowRecordBytes)) (record { blocks = 0; bytes = 0; held = 0; free = 1; ready = 0; waiting = 0 })
+pub free-counted : (row at n : ℕ) (t : List ℕ) → viewHolder t ≡ Free
+    → spanCounted row at n t ≡ countedIf (starts t (zeros rowRecordBytes)) (record { blocks = 0; bytes = 0; held = 0; free = 1; ready = 0; waiting = 0 })
 unfolding spanCounted spanChecked totals
-free-counted row n t h = rw h (tile-if (starts t (zeros rowRecordBytes)) 1 (totals row (free ∷ [])))
+free-counted row at n t h = rw h (tile-if (starts t (zeros rowRecordBytes)) 1 (totals row (free ∷ [])))
 
-pub later-counted : (row n k : ℕ) (t : List ℕ) → viewHolder t ≡ Later k → spanCounted row n t ≡ Counted.Unsound
+pub later-counted : (row at n k : ℕ) (t : List ℕ) → viewHolder t ≡ Later k → spanCounted row at n t ≡ Counted.Unsound
 unfolding spanCounted spanChecked
-later-counted row n k t h = rw h
+later-counted row at n k t h = rw h
 
 later-first : (n g l : Bool) → (n && g && l) ≡ (n && l && g)
 later-first n g l = simp (and-assoc, and-comm)
 
 -- the group whose first row is row i, over what the calls give
-pub held-counted : (row n i c k : ℕ) (s : List ℕ) → viewHolder (drop (rowAt i) s) ≡ First c → k ≡ rowsOf row c
-    → spanCounted row n (drop (rowAt i) s)
-    ≡ countedIf (leb k n && starts (drop (rowAt (i + 1)) s) (laterRecords (k - 1) 1) && groupChecked byMasks c (drop (rowAt i) s))
+pub held-counted : (row at n i c k : ℕ) (s : List ℕ) → viewHolder (drop (rowAt i) s) ≡ First c → k ≡ rowsOf row c
+    → spanCounted row at n (drop (rowAt i) s)
+    ≡ countedIf (leb k n && starts (drop (rowAt (i + 1)) s) (laterRecords (k - 1) 1) && groupChecked byMasks at c (drop (rowAt i) s))
     (groupTotals k (viewGroup c (drop (rowAt i) s)))
 unfolding spanCounted
-held-counted row n i c k s h e =
+held-counted row at n i c k s h e =
     let t = drop (rowAt i) s in
-    let g = groupChecked byMasks c t in
+    let g = groupChecked byMasks at c t in
     let l = starts (drop (rowAt (i + 1)) s) (laterRecords (k - 1) 1) in
     let x : totals row (spanHeld t (viewHolder t) ∷ []) ≡ groupTotals k (viewGroup c t) = rw (h, e) (group-totals row c (viewGroup c t)) in
-    ap₂ tileCounted (held-law byMasks row n i c k s h e) x
+    ap₂ tileCounted (held-law byMasks row at n i c k s h e) x
     ∙ tile-if (leb k n && g && l) k (groupTotals k (viewGroup c t))
     ∙ ap (λ b. countedIf b (groupTotals k (viewGroup c t))) (later-first (leb k n) g l)
 
@@ -170,23 +171,24 @@ span-light row pos (group c ss) h =
     let a = three-sets ss in
     let l = group-few c ss h in
     let r = rows-pos row c pos in
-    let b = sum-below size 131051 (slotSound c) (size-small c) ss (search and-right) in
+    let b = sum-below size 131051 (slotSound c) (λ x u. omega (arith, size-small c x u)) ss (search and-right) in
     (omega arith, omega arith, omega arith, omega arith)
 
 module _ (row : ℕ) where
-  -- u is counted of the span that begins here, where n rows are left; the rows behind it are to be counted
-  pub record Begun (n : ℕ) (t : List ℕ) (u : Totals) : Type 0 where
+  -- u is counted of the span that begins here, where n rows are left and the first has the arena's byte at first; the rows behind it are
+  -- to be counted
+  pub record Begun (at n : ℕ) (t : List ℕ) (u : Totals) : Type 0 where
     pub some : 1 ≤ allRows u
     pub few : allRows u ≤ n
     pub light : PerRow u
-    pub left : rowsCounted row n t ≡ more u (rowsCounted row (n - allRows u) (drop (rowRecordBytes * allRows u) t))
+    pub left : rowsCounted row at n t ≡ more u (rowsCounted row (at + row * allRows u) (n - allRows u) (drop (rowRecordBytes * allRows u) t))
 
-  module _ (pos : 0 < row) (n : ℕ) (t : List ℕ) (p : 0 < n) where
-    span-begun : (k : ℕ) (e : spanChecked byMasks row n t ≡ Tile.Rows k) → Begun n t (totals row (span-begins masks-laws row pos n k t p e .span ∷ []))
+  module _ (pos : 0 < row) (at n : ℕ) (t : List ℕ) (p : 0 < n) where
+    span-begun : (k : ℕ) (e : spanChecked byMasks row at n t ≡ Tile.Rows k) → Begun at n t (totals row (span-begins masks-laws row pos at n k t p e .span ∷ []))
     unfolding rowsCounted
     span-begun k e =
-        let b = span-begins masks-laws row pos n k t p e in
-        let r = rows-pass masks-laws row pos n k t p e in
+        let b = span-begins masks-laws row pos at n k t p e in
+        let r = rows-pass masks-laws row pos at n k t p e in
         let x = b .span in
         let s = totals row (x ∷ []) in
         let K : allRows s ≡ k = span-rows row x ∙ b .long in
@@ -199,46 +201,47 @@ module _ (row : ℕ) where
           some = rw K (r .0);
           few = rw K (r .1);
           light = span-light row pos x (b .right);
-          left = rw K (ap₂ countedIf (r .2) (ap (totals row) v ∙ totals-cons row x P) ∙ sym (more-if s (rowsChecked byMasks row (n - k) R) (totals row P)));
+          left = rw K (ap₂ countedIf (r .2) (ap (totals row) v ∙ totals-cons row x P)
+              ∙ sym (more-if s (rowsChecked byMasks row (at + row * k) (n - k) R) (totals row P)));
         }
 
-    pub span-counts : (u : Totals) → spanCounted row n t ≡ Counted.Sound u → Begun n t u
+    pub span-counts : (u : Totals) → spanCounted row at n t ≡ Counted.Sound u → Begun at n t u
     unfolding spanCounted
-    span-counts u = go (spanChecked byMasks row n t) refl
+    span-counts u = go (spanChecked byMasks row at n t) refl
       where
-        go : (x : Tile) → spanChecked byMasks row n t ≡ x → tileCounted x (totals row (spanHeld t (viewHolder t) ∷ [])) ≡ Counted.Sound u → Begun n t u
+        go : (x : Tile) → spanChecked byMasks row at n t ≡ x → tileCounted x (totals row (spanHeld t (viewHolder t) ∷ [])) ≡ Counted.Sound u → Begun at n t u
         go (Tile.Rows k) e q =
-            let b = span-begins masks-laws row pos n k t p e in
+            let b = span-begins masks-laws row pos at n k t p e in
             let f : spanHeld t (viewHolder t) ≡ b .span =
             subst (λ l. spanHeld l (viewHolder l) ≡ b .span) (sym (b .form)) (span-read row (b .span) (drop (rowRecordBytes * k) t) (b .right)) in
             let g : totals row (spanHeld t (viewHolder t) ∷ []) ≡ u = cc in
-            subst (Begun n t) (ap (λ x. totals row (x ∷ [])) (sym f) ∙ g) (span-begun k e)
+            subst (Begun at n t) (ap (λ x. totals row (x ∷ [])) (sym f) ∙ g) (span-begun k e)
         go Tile.Unsound e q = let z : _≡_ {A = ℕ} 0 1 = cc in absurd (omega arith)
 
-    span-refused : length t ≡ rowRecordBytes * n → spanCounted row n t ≡ Counted.Unsound → rowsCounted row n t ≡ Counted.Unsound
+    span-refused : length t ≡ rowRecordBytes * n → spanCounted row at n t ≡ Counted.Unsound → rowsCounted row at n t ≡ Counted.Unsound
     unfolding spanCounted rowsCounted
-    span-refused l = go (spanChecked byMasks row n t) refl
+    span-refused l = go (spanChecked byMasks row at n t) refl
       where
-        go : (x : Tile) → spanChecked byMasks row n t ≡ x → tileCounted x (totals row (spanHeld t (viewHolder t) ∷ [])) ≡ Counted.Unsound
-            → countedIf (rowsChecked byMasks row n t) (totals row (viewRowsBy byMasks row n 0 t)) ≡ Counted.Unsound
+        go : (x : Tile) → spanChecked byMasks row at n t ≡ x → tileCounted x (totals row (spanHeld t (viewHolder t) ∷ [])) ≡ Counted.Unsound
+            → countedIf (rowsChecked byMasks row at n t) (totals row (viewRowsBy byMasks row n 0 t)) ≡ Counted.Unsound
         go (Tile.Rows k) e q = let z : _≡_ {A = ℕ} 0 1 = cc in absurd (omega arith)
-        go Tile.Unsound e q = choose-false (rowsChecked byMasks row n t) _ Counted.Unsound (rows-fail masks-laws row pos n t p l e)
+        go Tile.Unsound e q = choose-false (rowsChecked byMasks row at n t) _ Counted.Unsound (rows-fail masks-laws row pos at n t p l e)
 
   -- s is counted of the first of a room's n rows; the others are to be counted
   pub record Passed (n : ℕ) (room : List ℕ) (s : Totals) : Type 0 where
     pub few : allRows s ≤ n
     pub light : PerRow s
-    pub left : rowsCounted row n (drop 16 room) ≡ more s (rowsCounted row (n - allRows s) (drop (rowAt (allRows s)) room))
+    pub left : rowsCounted row 0 n (drop 16 room) ≡ more s (rowsCounted row (row * allRows s) (n - allRows s) (drop (rowAt (allRows s)) room))
 
   pub none-passed : (n : ℕ) (room : List ℕ) → Passed n room none
   none-passed n room = record {
     few = omega arith;
     light = (omega arith, omega arith, omega arith, omega arith);
-    left = rw sub-zero (sym (none-more (rowsCounted row n (drop 16 room))));
+    left = rw (mul-zero row, sub-zero) (sym (none-more (rowsCounted row 0 n (drop 16 room))));
   }
 
   module _ (n : ℕ) (room : List ℕ) (s : Totals) (p : Passed n room s) where
-    pub more-passed : (u : Totals) → Begun (n - allRows s) (drop (rowAt (allRows s)) room) u → Passed n room (plus s u)
+    pub more-passed : (u : Totals) → Begun (row * allRows s) (n - allRows s) (drop (rowAt (allRows s)) room) u → Passed n room (plus s u)
     more-passed u f = record {
       few = omega (arith, p .few, f .few);
       light = let a = p .light in let b = f .light in (omega arith, omega arith, omega arith, omega arith);
@@ -247,11 +250,13 @@ module _ (row : ℕ) where
           let k = allRows u in
           let j : n - i - k ≡ n - allRows (plus s u) = omega arith in
           let q : rowAt i + rowRecordBytes * k ≡ rowAt (allRows (plus s u)) = omega arith in
-          p .left ∙ ap (more s) (f .left) ∙ more-more s u (rowsCounted row (n - i - k) (drop (rowRecordBytes * k) (drop (rowAt i) room)))
-          ∙ rw (drop-drop (rowRecordBytes * k) (rowAt i) room, j, q);
+          let o : allRows (plus s u) ≡ i + k = omega arith in
+          let b : row * i + row * k ≡ row * allRows (plus s u) = sym (ap (λ m. row * m) o ∙ mul-add row i k) in
+          p .left ∙ ap (more s) (f .left) ∙ more-more s u (rowsCounted row (row * i + row * k) (n - i - k) (drop (rowRecordBytes * k) (drop (rowAt i) room)))
+          ∙ rw (drop-drop (rowRecordBytes * k) (rowAt i) room, j, q, b);
     }
 
-    pub all-passed : n ≤ allRows s → length room ≡ rowAt n → rowsCounted row n (drop 16 room) ≡ Counted.Sound s
+    pub all-passed : n ≤ allRows s → length room ≡ rowAt n → rowsCounted row 0 n (drop 16 room) ≡ Counted.Sound s
     unfolding rowsCounted rowsChecked viewRowsBy totals choose
     all-passed h l =
         let i = allRows s in
@@ -260,10 +265,10 @@ module _ (row : ℕ) where
         p .left ∙ rw (z, d) (ap Counted.Sound (simp add-zero))
 
     pub not-passed : 0 < row → allRows s < n → length room ≡ rowAt n → (let t = drop (rowAt (allRows s)) room in
-        spanCounted row (n - allRows s) t ≡ Counted.Unsound → rowsCounted row n (drop 16 room) ≡ Counted.Unsound)
+        spanCounted row (row * allRows s) (n - allRows s) t ≡ Counted.Unsound → rowsCounted row 0 n (drop 16 room) ≡ Counted.Unsound)
     not-passed pos h l e =
         let i = allRows s in
-        p .left ∙ ap (more s) (span-refused pos (n - i) (drop (rowAt i) room) (omega arith) (omega (arith, length-drop (rowAt i) room)) e)
+        p .left ∙ ap (more s) (span-refused pos (row * i) (n - i) (drop (rowAt i) room) (omega arith) (omega (arith, length-drop (rowAt i) room)) e)
 
 -- ---- the room and the record
 
@@ -278,17 +283,17 @@ not-counted true s e = let z : _≡_ {A = ℕ} 0 1 = cc in absurd (omega arith)
 not-counted false s e = refl
 
 -- past the tests of the room's head
-module _ (row n len : ℕ) (t : KeptBytes) (e : sound row len (t .tables) ≡ rowsChecked byMasks row n (drop 16 (t .tables))) where
-  pub kept-refused : rowsCounted row n (drop 16 (t .tables)) ≡ Counted.Unsound → false ≡ soundKept row len t
+module _ (row n len : ℕ) (t : KeptBytes) (e : sound row len (t .tables) ≡ rowsChecked byMasks row 0 n (drop 16 (t .tables))) where
+  pub kept-refused : rowsCounted row 0 n (drop 16 (t .tables)) ≡ Counted.Unsound → false ≡ soundKept row len t
   unfolding rowsCounted
   kept-refused q =
-      let R = drop 16 (t .tables) in rw (e, not-counted (rowsChecked byMasks row n R) (totals row (viewRowsBy byMasks row n 0 R)) q)
+      let R = drop 16 (t .tables) in rw (e, not-counted (rowsChecked byMasks row 0 n R) (totals row (viewRowsBy byMasks row n 0 R)) q)
 
-  pub kept-counted : (s : Totals) → length (t .tables) ≡ rowAt n → rowsCounted row n (drop 16 (t .tables)) ≡ Counted.Sound s
+  pub kept-counted : (s : Totals) → length (t .tables) ≡ rowAt n → rowsCounted row 0 n (drop 16 (t .tables)) ≡ Counted.Sound s
       → sameTotals (t .totals) s ≡ soundKept row len t
   unfolding rowsCounted viewBy
   kept-counted s l q =
       let R = drop 16 (t .tables) in
-      let r = counted-if (rowsChecked byMasks row n R) (totals row (viewRowsBy byMasks row n 0 R)) s q in
+      let r = counted-if (rowsChecked byMasks row 0 n R) (totals row (viewRowsBy byMasks row n 0 R)) s q in
       let k : (length (t .tables) - 16) / rowRecordBytes ≡ n = omega arith in
       rw (e, r .0, k, r .1)

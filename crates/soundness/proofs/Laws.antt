@@ -1,26 +1,29 @@
 -- Laws of the checks of a group: each is the tests that the code makes.
-use Rattle.mem.proofs.Prelude.{_∙_, _≡_, sym, ap, refl, ap₂, true, Bool, false, _&&_, not, _||_, and-assoc, and-false, and-true, List, [], _∷_, _++_}
-use Rattle.mem.proofs.Prelude.{map, _+_, ℕ, _<_, _≤_, _*_, _-_, suc, _/_, zero, _%_, add-zero, arith, eq-eqb, ne-eqb, leb-true}
+use Rattle.mem.proofs.Prelude.{_∙_, _≡_, sym, ap, refl, ap₂, subst, true, Bool, false, _&&_, not, _||_, and-assoc, and-false, and-true, List, [], _∷_, _++_}
+use Rattle.mem.proofs.Prelude.{map, _+_, ℕ, _<_, _≤_, _*_, _-_, suc, _/_, zero, _%_, add-zero, add-one, arith, eq-eqb, ne-eqb, leb-true, leb-false}
+use Rattle.mem.proofs.Prelude.{true≢false, le-leb, leb→le, ltb→lt}
 use Rattle.mem.proofs.Prelude.{eqb-false, eqb-true, lt-ltb, T, eqb, leb, lit≤, ltb, eqb→eq, length, drop, getD, take, drop-drop, drop-cons, getD-drop, ones}
 use mathlib.Core.Bool.{and-comm, Bool·not-not}
 use lib.Seq.{getD-take}
+use native.Mathlib.Nat.{suc-mul}
 use Rattle.mem.specs.Lists.{choose, every, any, sum, join, starts}
 use Rattle.mem.specs.Bytes.{zeros, low, number, same, mask, bit, part}
-use Rattle.mem.proofs.Tests.{and-left, and-right, same-test, eq→eqb, choose-case}
+use Rattle.mem.proofs.Tests.{and-left, and-right, and-both, same-test, eq→eqb, choose-case}
 use Rattle.mem.proofs.Laws.{getD-part, part-part, zeros-length}
 use Rattle.mem.proofs.Starts.{eqb-sym, starts-then, starts-from, starts-zeros, starts-two, starts-low, starts-read}
-use Rattle.classes.specs.Classes.{slotBytes, slotsOf, classOf, tooLarge, below2}
-use Rattle.classes.proofs.Laws.{near-test, bytes-least, slots-small}
+use Rattle.classes.specs.Classes.{slotBytes, slotsOf, classOf, tooLarge, ownClass, below2}
+use Rattle.classes.specs.Alignments.{alignOf, enlarged}
+use Rattle.classes.proofs.Laws.{near-test, class-facts, class-past, bytes-units, bytes-least, slots-small}
 use Rattle.model.specs.declared.Slot.{Slot}
 use Rattle.model.specs.declared.Slot.the-variants.{Fresh, Idle, Live}
 use Rattle.model.specs.declared.Holder.the-variants.{First}
-use Rattle.model.specs.State.{isReady, isWaiting, isLive, count, slotSound, spanSound}
+use Rattle.model.specs.State.{isReady, isWaiting, isLive, count, slotSound, slotAligned, slotsAligned, spanSound}
 use Rattle.model.specs.Tables.{byMasks, slotRecord, rowRecord, viewSlot, viewSlots, viewGroup, viewHolder, rowRecordBytes}
 use Rattle.model.proofs.Tables.{mask-fits, slot-length, slots-length}
 use Rattle.model.proofs.Counts.{ones-live, none-live}
 use Rattle.rows.specs.Checks.{groupChecked}
 use Rattle.rows.proofs.Checks.{holder-first-bytes}
-use Rattle.soundness.specs.Checks.{slotFits, slotChecked, slotsChecked, membersChecked}
+use Rattle.soundness.specs.Checks.{slotFits, slotChecked, slotsChecked, slotsExactly, membersChecked}
 
 -- ---- tests
 
@@ -62,6 +65,17 @@ module _ (s : List ℕ) (B : (i : ℕ) → getD s i 0 < 256) (at : ℕ) (fit : a
       ∙ ap₂ (λ (a b : Bool). eqb (getD s at 0) k && (a && b)) (self (getD s (at + 1) 0))
       (starts-read s B (at + 2) 2 x (omega arith) ∙ ap (λ (p : ℕ). starts (drop p s) x) e))
 
+  -- the record of a live slot says itself, but for the byte after the size
+  pub live-form : starts (drop at s) (slotRecord (viewSlot false false (part at 8 s))) ≡ eqb (getD s (at + 7) 0) 0
+  unfolding viewSlot slotRecord
+  live-form =
+      let n = number (part (at + 4) 3 s) in
+      let e : at + 4 + 3 ≡ at + 7 = omega arith in
+      rw (size-at)
+      (granted-starts (getD (part at 8 s) 0 0) (low 3 n ++ (0 ∷ []))
+      ∙ rw (tag-at, self (getD s at 0), starts-read s B (at + 4) 3 (0 ∷ []) (omega arith), e, drop-cons s (at + 7) 0 (omega arith))
+      (and-true (eqb (getD s (at + 7) 0) 0)))
+
   module _ (most least : ℕ) where
     pub fresh-law : getD s at 0 ≡ 0 → slotChecked most least true false (drop at s) ≡ same (part at 8 s) (zeros 8)
     unfolding slotChecked viewSlot slotRecord slotFits choose
@@ -79,19 +93,11 @@ module _ (s : List ℕ) (B : (i : ℕ) → getD s i 0 < 256) (at : ℕ) (fit : a
         (granted-starts 1 (zeros 4) ∙ ap (λ (b : Bool). eqb (getD s at 0) 1 && b) (sym (starts-zeros (at + 4) 4 s))) disp-at
 
     pub live-law : slotChecked most least false false (drop at s)
-        ≡ (eqb (getD s at 0) 1 && eqb (getD s (at + 7) 0) 0
-        && (leb (16 * number (part (at + 2) 2 s) + number (part (at + 4) 3 s)) most
+        ≡ (eqb (getD s (at + 7) 0) 0
+        && (eqb (getD s at 0) 1 && leb (16 * number (part (at + 2) 2 s) + number (part (at + 4) 3 s)) most
         && ltb least (number (part (at + 4) 3 s) + 4) && ltb (number (part (at + 4) 3 s)) tooLarge))
-    unfolding slotChecked viewSlot slotRecord slotFits
-    live-law =
-        let n = number (part (at + 4) 3 s) in
-        let e : at + 4 + 3 ≡ at + 7 = omega arith in
-        let f : starts (drop (at + 4) s) (low 3 n ++ (0 ∷ [])) ≡ eqb (getD s (at + 7) 0) 0 =
-        starts-read s B (at + 4) 3 (0 ∷ []) (omega arith)
-        ∙ rw (e, drop-cons s (at + 7) 0 (omega arith)) (and-true (eqb (getD s (at + 7) 0) 0)) in
-        rw (size-at)
-        (ap₂ (λ (a : Bool) (d : List ℕ). a && (leb (16 * number d + n) most && ltb least (n + 4) && ltb n tooLarge))
-        (granted-starts 1 (low 3 n ++ (0 ∷ [])) ∙ ap (λ (b : Bool). eqb (getD s at 0) 1 && b) f) disp-at)
+    unfolding slotChecked viewSlot slotFits
+    live-law = ap (λ b. b && slotFits most least (viewSlot false false (part at 8 s))) live-form ∙ rw (tag-at, disp-at, size-at)
 
 -- ---- the slots of a group
 
@@ -125,14 +131,32 @@ lowest-apart true true m w e = let o = eqb-true (w % 2) 1 e in ne-eqb (0 + 2 * m
 lowest-apart true false m w e = lowest-right false m w e
 lowest-apart false b m w e = lowest-right b m w e
 
-slots-order : (r a w e es f fs : Bool) → (r && (a && w) && (e && es) && (f && fs)) ≡ (a && e && f && (r && w && es && fs))
-slots-order r a w e es f fs = simp (and-assoc, and-left-comm)
+-- the masks and the records of n slots are the one form of what they say
+abbrev formed : (n r w : ℕ) → List ℕ → Bool
+formed n r w t =
+    let ss = viewSlots n r w t in
+    eqb (mask (map isReady ss)) r && eqb (mask (map isWaiting ss)) w && starts t (join slotRecord ss)
 
-module _ (most least n r w : ℕ) (t : List ℕ) where
-  slots-step : slotsChecked most least (suc n) r w t
-      ≡ (slotChecked most least (eqb (r % 2) 1) (eqb (w % 2) 1) t && slotsChecked most least n (r / 2) (w / 2) (drop 8 t))
-  unfolding slotsChecked slotChecked viewSlots
-  slots-step =
+form-order : (r a w e es : Bool) → (r && (a && w) && (e && es)) ≡ (a && e && (r && w && es))
+form-order r a w e es = simp (and-assoc, and-left-comm)
+
+fits-order : (a e m f fs : Bool) → (a && e && m && (f && fs)) ≡ (a && e && f && (m && fs))
+fits-order a e m f fs = simp (and-assoc, and-left-comm)
+
+exact-order : (a e m f fs g gs : Bool) → (a && e && m && (f && fs) && (g && gs)) ≡ (a && e && (f && g) && (m && fs && gs))
+exact-order a e m f fs g gs = simp (and-assoc, and-left-comm)
+
+-- a slot's record in a group of class c, where the slot begins at b: the bits are not both set, the record is the one form of what it
+-- says, and the slot is sound and on its boundary
+unfoldable pub slotExactly : (c b : ℕ) → Bool → Bool → List ℕ → Bool
+slotExactly c b r w t = let x = viewSlot r w (take 8 t) in not (r && w) && starts t (slotRecord x) && (slotSound c x && slotAligned b x)
+
+-- the first of n slots, and the others
+module _ (n r w : ℕ) (t : List ℕ) where
+  form-step : (let x = viewSlot (eqb (r % 2) 1) (eqb (w % 2) 1) (take 8 t) in
+      formed (suc n) r w t ≡ (not (eqb (r % 2) 1 && eqb (w % 2) 1) && starts t (slotRecord x) && formed n (r / 2) (w / 2) (drop 8 t)))
+  unfolding viewSlots
+  form-step =
       let x = viewSlot (eqb (r % 2) 1) (eqb (w % 2) 1) (take 8 t) in
       let xs = viewSlots n (r / 2) (w / 2) (drop 8 t) in
       rw (
@@ -142,36 +166,113 @@ module _ (most least n r w : ℕ) (t : List ℕ) where
         lowest-apart (eqb (r % 2) 1) (eqb (w % 2) 1) (mask (map isWaiting xs)) w refl,
         starts-then 8 t (slotRecord x) (join slotRecord xs) (slot-length x),
       )
-      (slots-order (eqb (mask (map isReady xs)) (r / 2)) (not (eqb (r % 2) 1 && eqb (w % 2) 1)) (eqb (mask (map isWaiting xs)) (w / 2))
-      (starts t (slotRecord x)) (starts (drop 8 t) (join slotRecord xs)) (slotFits most least x) (every (slotFits most least) xs))
+      (form-order (eqb (mask (map isReady xs)) (r / 2)) (not (eqb (r % 2) 1 && eqb (w % 2) 1)) (eqb (mask (map isWaiting xs)) (w / 2))
+      (starts t (slotRecord x)) (starts (drop 8 t) (join slotRecord xs)))
+
+  slots-step : (most least : ℕ) → slotsChecked most least (suc n) r w t
+      ≡ (slotChecked most least (eqb (r % 2) 1) (eqb (w % 2) 1) t && slotsChecked most least n (r / 2) (w / 2) (drop 8 t))
+  unfolding slotsChecked slotChecked viewSlots
+  slots-step most least =
+      let x = viewSlot (eqb (r % 2) 1) (eqb (w % 2) 1) (take 8 t) in
+      let xs = viewSlots n (r / 2) (w / 2) (drop 8 t) in
+      ap (λ m. m && (slotFits most least x && every (slotFits most least) xs)) form-step
+      ∙ fits-order (not (eqb (r % 2) 1 && eqb (w % 2) 1)) (starts t (slotRecord x)) (formed n (r / 2) (w / 2) (drop 8 t))
+      (slotFits most least x) (every (slotFits most least) xs)
+
+  exact-step : (c b : ℕ) → slotsExactly c b (suc n) r w t
+      ≡ (slotExactly c b (eqb (r % 2) 1) (eqb (w % 2) 1) t && slotsExactly c (b + slotBytes c) n (r / 2) (w / 2) (drop 8 t))
+  unfolding slotsExactly slotExactly viewSlots
+  exact-step c b =
+      let x = viewSlot (eqb (r % 2) 1) (eqb (w % 2) 1) (take 8 t) in
+      let xs = viewSlots n (r / 2) (w / 2) (drop 8 t) in
+      ap (λ m. m && (slotSound c x && every (slotSound c) xs) && (slotAligned b x && slotsAligned c (b + slotBytes c) xs)) form-step
+      ∙ exact-order (not (eqb (r % 2) 1 && eqb (w % 2) 1)) (starts t (slotRecord x)) (formed n (r / 2) (w / 2) (drop 8 t))
+      (slotSound c x) (every (slotSound c) xs) (slotAligned b x) (slotsAligned c (b + slotBytes c) xs)
 
 pub slots-end : (most least k r w : ℕ) (t : List ℕ) → k ≡ 0 → slotsChecked most least k r w t ≡ (eqb r 0 && eqb w 0)
 unfolding slotsChecked viewSlots
 slots-end most least k r w t e = rw (e, eqb-sym 0 r, eqb-sym 0 w) (and-true (eqb r 0 && eqb w 0 && true) ∙ and-true (eqb r 0 && eqb w 0))
+
+pub exact-end : (c b k r w : ℕ) (t : List ℕ) → k ≡ 0 → slotsExactly c b k r w t ≡ (eqb r 0 && eqb w 0)
+unfolding slotsExactly viewSlots
+exact-end c b k r w t e = rw (e, eqb-sym 0 r, eqb-sym 0 w) (simp and-true)
 
 pub slots-turn : (most least n i r w : ℕ) (t : List ℕ) → i < n
     → slotsChecked most least (n - i) r w t
     ≡ (slotChecked most least (eqb (r % 2) 1) (eqb (w % 2) 1) t && slotsChecked most least (n - (i + 1)) (r / 2) (w / 2) (drop 8 t))
 slots-turn most least n i r w t h =
     let e : n - i ≡ suc (n - (i + 1)) = omega arith in
-    ap (λ (k : ℕ). slotsChecked most least k r w t) e ∙ slots-step most least (n - (i + 1)) r w t
+    ap (λ (k : ℕ). slotsChecked most least k r w t) e ∙ slots-step (n - (i + 1)) r w t most least
 
--- the rule of a slot, by two numbers of its class
-pub slot-fits : (c : ℕ) → c < 48 → (x : Slot) → count x < 256 → slotSound c x ≡ slotFits (slotBytes c - 4) (below2 c) x
-unfolding slotSound slotFits
-slot-fits c h Fresh f = refl
-slot-fits c h (Idle r k d) f = rw (lt-ltb k 256 f)
-slot-fits c h (Live a) f = rw (lt-ltb (a .count) 256 f) (go (leb (16 * a .disp + a .size) (slotBytes c - 4)) refl)
+pub exact-turn : (c b n i r w : ℕ) (t : List ℕ) → i < n
+    → slotsExactly c (b + i * slotBytes c) (n - i) r w t
+    ≡ (slotExactly c (b + i * slotBytes c) (eqb (r % 2) 1) (eqb (w % 2) 1) t
+    && slotsExactly c (b + (i + 1) * slotBytes c) (n - (i + 1)) (r / 2) (w / 2) (drop 8 t))
+exact-turn c b n i r w t h =
+    let e : n - i ≡ suc (n - (i + 1)) = omega arith in
+    let f : b + i * slotBytes c + slotBytes c ≡ b + (i + 1) * slotBytes c = rw (add-one i) (omega (arith, suc-mul i (slotBytes c))) in
+    ap (λ (k : ℕ). slotsExactly c (b + i * slotBytes c) k r w t) e ∙ exact-step (n - (i + 1)) r w t c (b + i * slotBytes c) ∙ rw f
+
+-- ---- the rule of a slot, by two numbers of its class
+
+-- whether a size that can be asked for is of class c or of the one below
+near : (c e : ℕ) → c < 48 → e < tooLarge → ownClass c e ≡ (leb e (slotBytes c - 4) && ltb (below2 c) (e + 4))
+near c e h l = go (leb e (slotBytes c - 4)) refl
   where
-    n : ℕ
-    n = a .size
+    go : (b : Bool) → leb e (slotBytes c - 4) ≡ b → ownClass c e ≡ (b && ltb (below2 c) (e + 4))
+    go true q = near-test e c h (omega (arith, leb-true e (slotBytes c - 4) q, bytes-least c h))
+    go false q =
+        let p : c < classOf e = class-past e (class-facts e l) c h (omega (arith, leb-false e (slotBytes c - 4) q)) in
+        rw (ne-eqb c (classOf e) (λ z. omega arith), ne-eqb c (suc (classOf e)) (λ z. omega arith))
 
-    go : (b : Bool) → leb (16 * a .disp + n) (slotBytes c - 4) ≡ b
-        → (b && ltb n tooLarge && (eqb c (classOf n) || eqb c (suc (classOf n)))) ≡ (b && ltb (below2 c) (n + 4) && ltb n tooLarge)
-    go true e =
-        and-comm (ltb n tooLarge) (eqb c (classOf n) || eqb c (suc (classOf n)))
-        ∙ ap (λ (b : Bool). b && ltb n tooLarge) (near-test n c h (omega (arith, leb-true (16 * a .disp + n) (slotBytes c - 4) e, bytes-least c h)))
-    go false e = refl
+live-order : (a k l o n z : Bool) → (T l → o ≡ n) → (a && k && l && o && z) ≡ (k && a && l && n && z)
+live-order a k true o n z f = rw (f tt) (simp (and-assoc, and-left-comm))
+live-order a k false o n z f = simp (and-assoc, and-false)
+
+-- a live slot that begins at b, with the alignment k, the displacement d and the size n
+abbrev pub liveRule : (most least b k d n : ℕ) → Bool
+liveRule most least b k d n =
+    let e = enlarged k n in
+    (leb 1 k && leb k 9) && leb (16 * d + n) most && ltb e tooLarge && (leb e most && ltb least (e + 4)) && eqb ((b + 16 * d) % alignOf k) 0
+
+-- it is sound and on its boundary by that rule
+pub live-rule : (c b : ℕ) → c < 48 → (j k d n : ℕ) → j < 256
+    → (let x = Live (record { count = j; disp = d; size = n; align = k }) in
+    (slotSound c x && slotAligned b x) ≡ liveRule (slotBytes c - 4) (below2 c) b k d n)
+unfolding slotSound
+live-rule c b h j k d n f =
+    let e = enlarged k n in
+    rw (lt-ltb j 256 f)
+    (live-order (leb (16 * d + n) (slotBytes c - 4)) (leb 1 k && leb k 9) (ltb e tooLarge) (ownClass c e)
+    (leb e (slotBytes c - 4) && ltb (below2 c) (e + 4)) (eqb ((b + 16 * d) % alignOf k) 0) (λ t. near c e h (ltb→lt e tooLarge t)))
+
+-- a slot that is not live has no boundary
+idle-fits : (c b : ℕ) (x : Slot) → isLive x ≡ false → count x < 256 → (slotSound c x && slotAligned b x) ≡ slotFits (slotBytes c - 4) (below2 c) x
+unfolding slotSound slotFits
+idle-fits c b Fresh l f = refl
+idle-fits c b (Idle r k d) l f = rw (lt-ltb k 256 f) (and-true (leb (16 * d) (slotBytes c - 4)))
+idle-fits c b (Live a) l f = absurd (true≢false l)
+
+-- an ordinary block in a slot that begins on a unit is on its boundary
+ordinary-rule : (most least b d n : ℕ) → b % 16 ≡ 0 → 16 * d + n ≤ most → least < n + 4 → n < tooLarge → T (liveRule most least b 1 d n)
+unfolding alignOf
+ordinary-rule most least b d n e f l s =
+    let z : (b + 16 * d) % 16 ≡ 0 = omega arith in
+    rw (le-leb (16 * d + n) most f, lt-ltb n tooLarge s, le-leb n most (omega arith), lt-ltb least (n + 4) l, z) tt
+
+-- a slot whose block is ordinary, if it has one: the quick rule is every rule
+fits-exact : (c b : ℕ) → c < 48 → b % 16 ≡ 0 → (x : Slot) → count x < 256 → T (slotFits (slotBytes c - 4) (below2 c) x)
+    → T (slotSound c x && slotAligned b x)
+unfolding slotFits
+fits-exact c b h e Fresh f t = subst T (sym (idle-fits c b Fresh refl f)) t
+fits-exact c b h e (Idle r k d) f t = subst T (sym (idle-fits c b (Idle r k d) refl f)) t
+fits-exact c b h e (Live a) f t =
+    let o : 1 ≡ a .align = sym (eqb→eq (a .align) 1 (search (and-left, and-right))) in
+    let m = leb→le (16 * a .disp + a .size) (slotBytes c - 4) (search (and-left, and-right)) in
+    let l = ltb→lt (below2 c) (a .size + 4) (search (and-left, and-right)) in
+    subst T (sym (live-rule c b h (a .count) (a .align) (a .disp) (a .size) f))
+    (subst (λ k. T (liveRule (slotBytes c - 4) (below2 c) b k (a .disp) (a .size))) o
+    (ordinary-rule (slotBytes c - 4) (below2 c) b (a .disp) (a .size) e m l (ltb→lt (a .size) tooLarge (search (and-left, and-right)))))
 
 view-count : (r w : Bool) (t : List ℕ) → getD t 1 0 < 256 → count (viewSlot r w t) < 256
 unfolding viewSlot
@@ -180,27 +281,66 @@ view-count true w t h =
 view-count false true t h = h
 view-count false false t h = h
 
-slots-fit : (c : ℕ) → c < 48 → (n r w : ℕ) (t : List ℕ) → ((i : ℕ) → getD t i 0 < 256)
-    → every (slotSound c) (viewSlots n r w t) ≡ every (slotFits (slotBytes c - 4) (below2 c)) (viewSlots n r w t)
-unfolding viewSlots
-slots-fit c h zero r w t B = refl
-slots-fit c h (suc n) r w t B =
-    let k : getD (take 8 t) 1 0 < 256 = rw (getD-take 8 t 1 0 (lit≤ tt)) (B 1) in
-    ap₂ _&&_ (slot-fits c h (viewSlot (eqb (r % 2) 1) (eqb (w % 2) 1) (take 8 t)) (view-count (eqb (r % 2) 1) (eqb (w % 2) 1) (take 8 t) k))
-    (slots-fit c h n (r / 2) (w / 2) (drop 8 t) (λ i. rw (getD-drop 8 t i 0) (B (8 + i))))
+-- a slot that is in one of the two sets is not live
+view-live : (r w : Bool) (t : List ℕ) → (r || w) ≡ true → isLive (viewSlot r w t) ≡ false
+unfolding viewSlot
+view-live true w t e = choose-case (λ x. isLive x ≡ false) (eqb (getD t 0 0) 0) Fresh (Idle true (getD t 1 0) (number (part 2 2 t))) (λ e. refl) (λ e. refl)
+view-live false true t e = refl
+view-live false false t e = absurd (true≢false (sym e))
+
+-- the use count in a record is one byte
+record-count : (t : List ℕ) → ((i : ℕ) → getD t i 0 < 256) → getD (take 8 t) 1 0 < 256
+record-count t B = rw (getD-take 8 t 1 0 (lit≤ tt)) (B 1)
+
+-- a slot that is ready or waiting: the quick test is every rule
+pub idle-exact : (c b : ℕ) (r w : Bool) (t : List ℕ) → ((i : ℕ) → getD t i 0 < 256) → (r || w) ≡ true
+    → slotExactly c b r w t ≡ slotChecked (slotBytes c - 4) (below2 c) r w t
+unfolding slotExactly slotChecked
+idle-exact c b r w t B e =
+    let x = viewSlot r w (take 8 t) in
+    ap (λ f. not (r && w) && starts t (slotRecord x) && f) (idle-fits c b x (view-live r w (take 8 t) e) (view-count r w (take 8 t) (record-count t B)))
+
+-- a slot that passes the quick test passes every rule, where it begins on a unit
+quick-slot : (c b : ℕ) → c < 48 → b % 16 ≡ 0 → (r w : Bool) (t : List ℕ) → ((i : ℕ) → getD t i 0 < 256)
+    → T (slotChecked (slotBytes c - 4) (below2 c) r w t) → T (slotExactly c b r w t)
+unfolding slotExactly slotChecked
+quick-slot c b h e r w t B u =
+    let x = viewSlot r w (take 8 t) in
+    let a = not (r && w) && starts t (slotRecord x) in
+    let f = slotFits (slotBytes c - 4) (below2 c) x in
+    and-both a (slotSound c x && slotAligned b x) (and-left a f u)
+    (fits-exact c b h e x (view-count r w (take 8 t) (record-count t B)) (and-right a f u))
+
+-- and so do slots of which the first begins on a unit
+pub quick-exact : (c : ℕ) → c < 48 → (n b r w : ℕ) (t : List ℕ) → ((i : ℕ) → getD t i 0 < 256) → b % 16 ≡ 0
+    → T (slotsChecked (slotBytes c - 4) (below2 c) n r w t) → T (slotsExactly c b n r w t)
+quick-exact c h zero b r w t B e u = subst T (slots-end (slotBytes c - 4) (below2 c) 0 r w t refl ∙ sym (exact-end c b 0 r w t refl)) u
+quick-exact c h (suc n) b r w t B e u =
+    let x = eqb (r % 2) 1 in
+    let y = eqb (w % 2) 1 in
+    let f = slotChecked (slotBytes c - 4) (below2 c) x y t in
+    let fs = slotsChecked (slotBytes c - 4) (below2 c) n (r / 2) (w / 2) (drop 8 t) in
+    let v = subst T (slots-step n r w t (slotBytes c - 4) (below2 c)) u in
+    subst T (sym (exact-step n r w t c b))
+    (and-both (slotExactly c b x y t) (slotsExactly c (b + slotBytes c) n (r / 2) (w / 2) (drop 8 t))
+    (quick-slot c b h e x y t B (and-left f fs v))
+    (quick-exact c h n (b + slotBytes c) (r / 2) (w / 2) (drop 8 t) (λ i. rw (getD-drop 8 t i 0) (B (8 + i))) (omega (arith, bytes-units c))
+    (and-right f fs v)))
+
+-- ---- the slots of a group, over its masks
 
 view-length : (n r w : ℕ) (t : List ℕ) → length (viewSlots n r w t) ≡ n
 unfolding viewSlots
 view-length zero r w t = refl
 view-length (suc n) r w t = ap suc (view-length n (r / 2) (w / 2) (drop 8 t))
 
-members-order : (r w j l e : Bool) → (r && w && j && l && e) ≡ (r && w && j && e && l)
-members-order r w j l e = simp (and-assoc, and-comm)
+members-order : (r w j l e a : Bool) → (r && w && j && l && e && a) ≡ (r && w && j && e && a && l)
+members-order r w j l e a = simp (and-assoc, and-comm, and-left-comm)
 
 -- slots that pass: the live ones are those whose bits the masks have not set
-module _ (most least n r w : ℕ) (t : List ℕ) (u : T (slotsChecked most least n r w t)) where
+module _ (c b n r w : ℕ) (t : List ℕ) (u : T (slotsExactly c b n r w t)) where
   slots-ones : ones r + ones w + sum (λ x. bit (isLive x)) (viewSlots n r w t) ≡ n
-  unfolding slotsChecked
+  unfolding slotsExactly
   slots-ones =
       let ss = viewSlots n r w t in
       ones-live ss r w (eqb→eq (mask (map isReady ss)) r (search (and-left, and-right))) (eqb→eq (mask (map isWaiting ss)) w (search (and-left, and-right)))
@@ -215,27 +355,23 @@ module _ (most least n r w : ℕ) (t : List ℕ) (u : T (slotsChecked most least
       let e : n - (ones r + ones w) ≡ sum (λ x. bit (isLive x)) ss = omega (arith, slots-ones) in
       rw e (sym (ap not (none-live ss) ∙ Bool·not-not (any isLive ss)))
 
-members-view : (c : ℕ) (t : List ℕ) → c < 48 → ((i : ℕ) → getD t i 0 < 256) → let r = number (part 8 4 t) in let w = number (part 12 4 t) in
-    membersChecked c t
-    ≡ (slotsChecked (slotBytes c - 4) (below2 c) (slotsOf c) r w (drop 16 t) && not (eqb (slotsOf c - (ones r + ones w)) 0))
-unfolding membersChecked slotsChecked viewGroup
-members-view c t h B =
+members-view : (c b : ℕ) (t : List ℕ) → let r = number (part 8 4 t) in let w = number (part 12 4 t) in
+    membersChecked c b t ≡ (slotsExactly c b (slotsOf c) r w (drop 16 t) && not (eqb (slotsOf c - (ones r + ones w)) 0))
+unfolding membersChecked slotsExactly viewGroup
+members-view c b t =
     let r = number (part 8 4 t) in
     let w = number (part 12 4 t) in
     let ss = viewGroup c t in
-    rw (slots-fit c h (slotsOf c) r w (drop 16 t) (λ i. rw (getD-drop 16 t i 0) (B (16 + i))))
-    (members-order (eqb (mask (map isReady ss)) r) (eqb (mask (map isWaiting ss)) w) (starts (drop 16 t) (join slotRecord ss)) (any isLive ss)
-    (every (slotFits (slotBytes c - 4) (below2 c)) ss)
-    ∙ and-when (slotsChecked (slotBytes c - 4) (below2 c) (slotsOf c) r w (drop 16 t)) (any isLive ss) (not (eqb (slotsOf c - (ones r + ones w)) 0))
-    (some-live (slotBytes c - 4) (below2 c) (slotsOf c) r w (drop 16 t)))
+    members-order (eqb (mask (map isReady ss)) r) (eqb (mask (map isWaiting ss)) w) (starts (drop 16 t) (join slotRecord ss)) (any isLive ss)
+    (every (slotSound c) ss) (slotsAligned c b ss)
+    ∙ and-when (slotsExactly c b (slotsOf c) r w (drop 16 t)) (any isLive ss) (not (eqb (slotsOf c - (ones r + ones w)) 0))
+    (some-live c b (slotsOf c) r w (drop 16 t))
 
 -- over what the calls give
-pub members-law : (s : List ℕ) → ((i : ℕ) → getD s i 0 < 256) → (at c n r w most : ℕ) → c < 48
-    → n ≡ slotsOf c → r ≡ number (part (at + 8) 4 s) → w ≡ number (part (at + 12) 4 s) → most ≡ slotBytes c - 4
-    → membersChecked c (drop at s) ≡ (slotsChecked most (below2 c) n r w (drop (at + 16) s) && not (eqb (n - (ones r + ones w)) 0))
-members-law s B at c n r w most h en er ew em =
-    rw (en, er, ew, em, ← (drop-drop 8 at s), ← (drop-drop 12 at s), ← (drop-drop 16 at s))
-    (members-view c (drop at s) h (λ i. rw (getD-drop at s i 0) (B (at + i))))
+pub members-law : (s : List ℕ) (at c b n r w : ℕ) → n ≡ slotsOf c → r ≡ number (part (at + 8) 4 s) → w ≡ number (part (at + 12) 4 s)
+    → membersChecked c b (drop at s) ≡ (slotsExactly c b n r w (drop (at + 16) s) && not (eqb (n - (ones r + ones w)) 0))
+members-law s at c b n r w en er ew =
+    rw (en, er, ew, ← (drop-drop 8 at s), ← (drop-drop 12 at s), ← (drop-drop 16 at s)) (members-view c b (drop at s))
 
 -- ---- the first row of a group
 
@@ -243,8 +379,8 @@ pub group-length : (c : ℕ) (t : List ℕ) → length (viewGroup c t) ≡ slots
 unfolding viewGroup
 group-length c t = view-length (slotsOf c) (number (part 8 4 t)) (number (part 12 4 t)) (drop 16 t)
 
-group-order : (z r w j o l e : Bool) → ((z && (r && (w && (j && o)))) && (l && e)) ≡ (z && o && (r && w && j && l && e))
-group-order z r w j o l e = simp (and-assoc, and-left-comm)
+group-order : (z r w j o l e a : Bool) → ((z && (r && (w && (j && o)))) && (l && e) && a) ≡ (z && o && (r && w && j && l && e && a))
+group-order z r w j o l e a = simp (and-assoc, and-left-comm)
 
 module _ (s : List ℕ) (B : (i : ℕ) → getD s i 0 < 256) (at c : ℕ) (fit : at + rowRecordBytes ≤ length s) where
   group-starts : (ss : List Slot) → length ss ≤ 31
@@ -268,12 +404,12 @@ module _ (s : List ℕ) (B : (i : ℕ) → getD s i 0 < 256) (at c : ℕ) (fit :
         starts-low s B (at + 12) 4 W (omega arith) (mask-fits isWaiting ss few),
       )
 
-  pub group-law : (n : ℕ) → n ≡ slotsOf c → viewHolder (drop at s) ≡ First c → c < 48
-      → groupChecked byMasks c (drop at s)
+  pub group-law : (n b : ℕ) → n ≡ slotsOf c → viewHolder (drop at s) ≡ First c → c < 48
+      → groupChecked byMasks b c (drop at s)
       ≡ (same (part (at + 2) 6 s) (zeros 6) && same (part (at + 16 + 8 * n) (8 * (31 - n)) s) (zeros (8 * (31 - n)))
-      && membersChecked c (drop at s))
+      && membersChecked c (b + 16) (drop at s))
   unfolding groupChecked membersChecked spanSound
-  group-law n en held h =
+  group-law n b en held h =
       let k = holder-first-bytes (drop at s) c held in
       let one : getD s at 0 ≡ 1 = sym (getD-drop at s 0 0 ∙ ap (λ i. getD s i 0) (add-zero at)) ∙ k .0 in
       let cls : getD s (at + 1) 0 ≡ c = sym (getD-drop at s 1 0) ∙ k .1 in
@@ -295,4 +431,5 @@ module _ (s : List ℕ) (B : (i : ℕ) → getD s i 0 < 256) (at c : ℕ) (fit :
       )
       (group-order (starts (drop (at + 2) s) (zeros 6)) (eqb (mask (map isReady ss)) (number (part (at + 8) 4 s)))
       (eqb (mask (map isWaiting ss)) (number (part (at + 12) 4 s))) (starts (drop (at + 16) s) (join slotRecord ss))
-      (starts (drop (at + 16 + 8 * slotsOf c) s) (zeros (8 * (31 - slotsOf c)))) (any isLive ss) (every (slotSound c) ss))
+      (starts (drop (at + 16 + 8 * slotsOf c) s) (zeros (8 * (31 - slotsOf c)))) (any isLive ss) (every (slotSound c) ss)
+      (slotsAligned c (b + 16) ss))

@@ -1,17 +1,19 @@
 -- A slot's record as two numbers of four bytes, and the loop over the slots that reads it so.
 use Rattle.mem.proofs.Prelude.{_∙_, _≡_, sym, ap, refl, ap₂, true, Bool, false, _&&_, not, _||_, and-assoc, and-false, and-true, List, _++_, _+_, ℕ}
-use Rattle.mem.proofs.Prelude.{_<_, _≤_, _*_, _-_, suc, _/_, _^_, _%_, add-zero, pow-suc, add-one, add-two, arith, ne-eqb, le-leb, eqb-false}
-use Rattle.mem.proofs.Prelude.{eqb-true, eqb, leb, lit≤, ltb, eqb→eq, ltb→lt, lt→ltb, length, drop, getD, take, drop-drop}
+use Rattle.mem.proofs.Prelude.{_<_, _≤_, _*_, _-_, suc, _/_, _^_, _%_, add-zero, pow-suc, add-one, add-two, arith, ne-eqb, le-leb, lt-leb, eqb-false}
+use Rattle.mem.proofs.Prelude.{eqb-true, eqb, leb, lit≤, ltb, eqb→eq, ltb→lt, lt→ltb, length, drop, getD, take, drop-drop, getD-drop}
 use native.Mathlib.Nat.{div-div-eq-div-mul}
 use Rattle.mem.specs.Bytes.{zeros, number, same, part}
 use Rattle.mem.proofs.Tests.{same-test, eq→eqb, and-both, and-left, and-right}
 use Rattle.mem.proofs.Laws.{number-part, zeros-add, zeros-length, same-part-low}
-use Rattle.classes.specs.Classes.{tooLarge}
-use Rattle.model.specs.Tables.{sizesIn}
-use Rattle.mem.specs.Lists.{starts}
+use Rattle.classes.specs.Classes.{slotBytes, tooLarge, below2}
+use Rattle.classes.proofs.Laws.{bytes-units, units-small}
+use Rattle.model.specs.Tables.{sizesIn, viewSlot}
+use Rattle.mem.specs.Lists.{choose, starts}
 use Rattle.mem.proofs.Starts.{starts-from, starts-zeros}
-use Rattle.soundness.specs.Checks.{slotChecked, recordChecked, slotsChecked}
-use Rattle.soundness.proofs.Laws.{fresh-law, ready-law, idle-law, live-law, slots-turn, slots-end}
+use Rattle.soundness.specs.Checks.{slotChecked, recordChecked, liveChecked, exactChecked, slotsChecked, slotsExactly}
+use Rattle.soundness.proofs.Laws.{fresh-law, ready-law, idle-law, live-law, slots-turn, slots-end, slotExactly, liveRule, live-rule, live-form}
+use Rattle.soundness.proofs.Laws.{tag-at, count-at, disp-at, size-at, idle-exact, exact-turn, exact-end}
 
 -- ---- the tests, in the order of the code
 
@@ -19,14 +21,11 @@ or-false : (a : Bool) → (a || false) ≡ a
 or-false true = refl
 or-false false = refl
 
-live-order : (a b c d e z m : Bool) → (b && e) ≡ m → (a && b && (c && d && e)) ≡ (not false && (a || false) && c && (false || d) && (true || z) && m)
-live-order true true true true e z m h = h
-live-order true true true false e z m h = refl
-live-order true true false d e z m h = refl
-live-order true false true true e z m h = h
-live-order true false true false e z m h = refl
-live-order true false false d e z m h = refl
-live-order false b c d e z m h = refl
+live-order : (a b c d e z m : Bool) → (b && e) ≡ m → (b && (a && c && d && e)) ≡ (not false && (a || false) && c && (false || d) && (true || z) && m)
+live-order true b true true e z m h = h
+live-order true b true false e z m h = and-false b
+live-order true b false d e z m h = and-false b
+live-order false b c d e z m h = and-false b
 
 idle-order : (most : ℕ) (a : Bool) (d h : ℕ) → (a && eqb h 0 && leb (16 * d) most)
     ≡ (a && leb (16 * d + h % 16777216) most && true && eqb h 0 && ltb h tooLarge)
@@ -144,6 +143,37 @@ module _ (s : List ℕ) (B : (i : ℕ) → getD s i 0 < 256) (at : ℕ) (fit : a
         (ltb least (number (part (at + 4) 3 s) + 4)) (ltb (number (part (at + 4) 3 s)) tooLarge) (eqb hi 0)
         (ltb hi tooLarge) high-bound)
 
+  -- a live slot: every rule, of the two numbers
+  module _ (c b : ℕ) (h : c < 48) where
+    -- a byte after the size that is not 0 makes a size that no slot holds
+    zero-after : (z : Bool) → eqb (getD s (at + 7) 0) 0 ≡ z
+        → (z && liveRule (slotBytes c - 4) (below2 c) b (getD s at 0) (number (part (at + 2) 2 s)) (number (part (at + 4) 3 s)))
+        ≡ liveChecked (slotBytes c - 4) (below2 c) b lo hi
+    unfolding liveChecked
+    zero-after true e =
+        let f : hi ≡ number (part (at + 4) 3 s) = omega (arith, high-split, eqb-true (getD s (at + 7) 0) 0 e) in
+        rw (low-tag, low-disp, f)
+    zero-after false e =
+        let n = eqb-false (getD s (at + 7) 0) 0 e in
+        let l : slotBytes c - 4 < 16 * (lo / 65536) + hi = omega (arith, high-split, bytes-units c, units-small c) in
+        rw (lt-leb (16 * (lo / 65536) + hi) (slotBytes c - 4) l) (sym (simp and-false))
+
+    live-exact : slotExactly c b false false (drop at s) ≡ liveChecked (slotBytes c - 4) (below2 c) b lo hi
+    unfolding slotExactly viewSlot
+    live-exact =
+        let x = part at 8 s in
+        ap₂ _&&_ (live-form s B at fit)
+        (live-rule c b h (getD x 1 0) (getD x 0 0) (number (part 2 2 x)) (number (part 4 3 x)) (rw (count-at s B at fit) (B (at + 1))))
+        ∙ rw (tag-at s B at fit, disp-at s B at fit, size-at s B at fit) (zero-after (eqb (getD s (at + 7) 0) 0) refl)
+
+    pub exact-law : (r w : Bool) → slotExactly c b r w (drop at s) ≡ exactChecked (slotBytes c - 4) (below2 c) b r w lo hi
+    unfolding exactChecked choose
+    exact-law true w =
+        idle-exact c b true w (drop at s) (λ i. rw (getD-drop at s i 0) (B (at + i))) refl ∙ record-law (slotBytes c - 4) (below2 c) true w
+    exact-law false true =
+        idle-exact c b false true (drop at s) (λ i. rw (getD-drop at s i 0) (B (at + i))) refl ∙ record-law (slotBytes c - 4) (below2 c) false true
+    exact-law false false = live-exact
+
 -- ---- the loop
 
 half : (m i : ℕ) → m / 2 ^ i / 2 ≡ m / 2 ^ (i + 1)
@@ -176,6 +206,23 @@ module _ (s : List ℕ) (B : (i : ℕ) → getD s i 0 < 256) (most least at n i 
 pub walk-end : (most least n i ready waiting : ℕ) (t : List ℕ) → i ≡ n
     → slotsChecked most least (n - i) (ready / 2 ^ i) (waiting / 2 ^ i) t ≡ (eqb (ready / 2 ^ n) 0 && eqb (waiting / 2 ^ n) 0)
 walk-end most least n i ready waiting t e = rw e (slots-end most least (n - n) (ready / 2 ^ n) (waiting / 2 ^ n) t (omega arith))
+
+-- the same of any blocks: the first slot begins at b
+pub exact-walk-turn : (s : List ℕ) → ((i : ℕ) → getD s i 0 < 256) → (c b at n i ready waiting : ℕ) → c < 48 → i < n → at + 8 * n ≤ length s
+    → (let p = at + 8 * i in
+    slotsExactly c (b + i * slotBytes c) (n - i) (ready / 2 ^ i) (waiting / 2 ^ i) (drop p s)
+    ≡ (exactChecked (slotBytes c - 4) (below2 c) (b + i * slotBytes c) (eqb (ready / 2 ^ i % 2) 1) (eqb (waiting / 2 ^ i % 2) 1)
+    (number (part p 4 s)) (number (part (p + 4) 4 s))
+    && slotsExactly c (b + (i + 1) * slotBytes c) (n - (i + 1)) (ready / 2 ^ (i + 1)) (waiting / 2 ^ (i + 1)) (drop (at + 8 * (i + 1)) s)))
+exact-walk-turn s B c b at n i ready waiting h left fit =
+    let p = at + 8 * i in
+    let e : at + 8 * i + 8 ≡ at + 8 * (i + 1) = omega arith in
+    exact-turn c b n i (ready / 2 ^ i) (waiting / 2 ^ i) (drop p s) left
+    ∙ rw (exact-law s B p (omega arith) c (b + i * slotBytes c) h, half ready i, half waiting i, drop-drop 8 p s, e)
+
+pub exact-walk-end : (c b n i ready waiting : ℕ) (t : List ℕ) → i ≡ n
+    → slotsExactly c b (n - i) (ready / 2 ^ i) (waiting / 2 ^ i) t ≡ (eqb (ready / 2 ^ n) 0 && eqb (waiting / 2 ^ n) 0)
+exact-walk-end c b n i ready waiting t e = rw e (exact-end c b (n - n) (ready / 2 ^ n) (waiting / 2 ^ n) t (omega arith))
 
 pub sizes-end : (k : ℕ) (t : List ℕ) → k ≡ 0 → sizesIn k t ≡ 0
 unfolding sizesIn

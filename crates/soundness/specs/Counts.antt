@@ -65,10 +65,10 @@ tileCounted (Tile.Rows k) s = Counted.Sound s
 tileCounted Tile.Unsound s = Counted.Unsound
 
 module _ (row : ℕ) where
-  -- the span that begins here, where n rows are left
-  unfoldable pub spanCounted : ℕ → List ℕ → Counted
-  spanCounted n t = tileCounted (spanChecked byMasks row n t) (totals row (spanHeld t (viewHolder t) ∷ []))
+  -- the span that begins here, where n rows are left and the first has the arena's byte at first
+  unfoldable pub spanCounted : (at n : ℕ) → List ℕ → Counted
+  spanCounted at n t = tileCounted (spanChecked byMasks row at n t) (totals row (spanHeld t (viewHolder t) ∷ []))
 
   -- all rows that are left, n of them
-  unfoldable pub rowsCounted : ℕ → List ℕ → Counted
-  rowsCounted n t = countedIf (rowsChecked byMasks row n t) (totals row (viewRowsBy byMasks row n 0 t))
+  unfoldable pub rowsCounted : (at n : ℕ) → List ℕ → Counted
+  rowsCounted at n t = countedIf (rowsChecked byMasks row at n t) (totals row (viewRowsBy byMasks row n 0 t))

@@ -1,17 +1,19 @@
 // Whether the bytes of a room are sound tables, and the record beside them has their totals. The room is walked once, span by span; what
 // report counts is counted on the way.
 ghost use mathlib.Core.Path.{_≡_};
+ghost use mathlib.Core.Bool.{true};
 ghost use Prim.Native.Nat.{_+_, _*_, _-_, _/_, _%_, _^_, _≤_, _<_};
 ghost use lib.ListN.{length, drop};
 ghost use lib.Dec.{eqb};
 ghost use lib.Count.{ones};
 ghost use Rattle.mem.specs.Bytes.{zeros, same, part};
-ghost use Rattle.classes.specs.Classes.{Lawful, slotsOf, below2};
+ghost use Rattle.classes.specs.Classes.{Lawful, slotBytes, slotsOf, below2};
+ghost use Rattle.classes.specs.Alignments.{alignOf};
 ghost use Rattle.model.specs.declared.Holder.the-variants.{First};
 ghost use Rattle.model.specs.Tables.{headBytes, rowRecordBytes, mostSlots, slotRecordBytes, rowAt, byMasks, viewGroup, viewHolder, sizesIn};
 ghost use Rattle.model.specs.Calls.{keptIn, sameTotals, soundKept};
 ghost use Rattle.rows.specs.Checks.{groupChecked};
-ghost use Rattle.soundness.specs.Checks.{recordChecked, slotsChecked, membersChecked};
+ghost use Rattle.soundness.specs.Checks.{recordChecked, alikeChecked, liveChecked, exactChecked, slotsChecked, slotsExactly, membersChecked};
 ghost use Rattle.soundness.specs.Counts.{allRows, PerRow, plus, countedIf, groupTotals, masksTotals, spanCounted, rowsCounted};
 use masks::Masks;
 use model::Holder;
@@ -116,6 +118,95 @@ fn slots_found(
     slots_walk(s, at, n, ready, waiting, most, least)
 }
 
+// The record of a live slot that begins at a byte of the arena, whatever its alignment.
+fn live_sound(lo: u32, hi: u32, most: u32, least: u32, begin: usize) -> bool
+    requires { ⌜ (most < 131072) × (begin < 16777216) ⌝ }
+    ensures { λ r. ⌜ r ≡ liveChecked most least begin lo hi ⌝ }
+{
+    let code = (lo % 256) as u8;
+    // There is such an alignment.
+    if code == 0 {
+        return false;
+    }
+    if 9 < code {
+        return false;
+    }
+    // The size is one that can be asked for, and the byte after it is 0.
+    if classes::TOO_LARGE <= hi as usize {
+        return false;
+    }
+    let size = hi as usize;
+    let enlarged = classes::enlarged(code, size);
+    if classes::TOO_LARGE <= enlarged {
+        return false;
+    }
+    let displacement = (lo / 65536) as usize;
+    // The block ends within the slot, and the enlarged size is of the slot's class or of the one below.
+    let fits = 16 * displacement + size <= most as usize;
+    let own_class = (enlarged <= most as usize) & ((least as usize) < enlarged + 4);
+    // The block starts on a boundary.
+    let aligned = (begin + 16 * displacement) % classes::align_of(code) == 0;
+    fits & own_class & aligned
+}
+
+// The record of a slot, of which only a live one can have an alignment.
+fn slot_sound(
+    lo: u32,
+    hi: u32,
+    ready: bool,
+    waiting: bool,
+    most: u32,
+    least: u32,
+    begin: usize,
+) -> bool
+    requires { ⌜ (most < 131072) × (begin < 16777216) ⌝ }
+    ensures { λ r. ⌜ r ≡ exactChecked most least begin ready waiting lo hi ⌝ }
+{
+    if ready | waiting {
+        return record_sound(lo, hi, ready, waiting, most, least);
+    }
+    live_sound(lo, hi, most, least, begin)
+}
+
+// The records of n slots of class c, of which the first begins at a byte of the arena: every rule, one slot after the other.
+fn slots_sound(
+    s: &[u8],
+    at: usize,
+    n: usize,
+    ready: u32,
+    waiting: u32,
+    c: usize,
+    begin: usize,
+) -> bool
+    requires { ⌜ (n ≤ mostSlots) × (at + slotRecordBytes * n ≤ length (now s)) × (c < 48) × (begin < 8388608) ⌝ }
+    ensures { λ r. ⌜ r ≡ slotsExactly c begin n ready waiting (drop at (now (s .entry))) ⌝ }
+{
+    let bytes = 16 * classes::units(c);
+    let most = (bytes - 4) as u32;
+    let least = below(c) as u32;
+    let mut i = 0;
+    while i < n {
+        let lo = mem::quad(s, at + model::SLOT_RECORD * i);
+        let hi = mem::quad(s, at + model::SLOT_RECORD * i + model::SIZE);
+        if !slot_sound(
+            lo,
+            hi,
+            has(ready, i),
+            has(waiting, i),
+            most,
+            least,
+            begin + i * bytes,
+        ) {
+            return false;
+        }
+        i += 1;
+    }
+    if ready >> n as u32 != 0 {
+        return false;
+    }
+    waiting >> n as u32 == 0
+}
+
 // The bytes of the class two below c, or 0: a request that fits them is of neither class c nor the one below.
 fn below(c: usize) -> usize
     requires { ⌜ c < 48 ⌝ }
@@ -126,6 +217,187 @@ fn below(c: usize) -> usize
         return 0;
     }
     16 * classes::units(c - 2)
+}
+
+// The record of a slot of a group whose live blocks all have one alignment, the slot beginning at a byte of the arena: as `record_sound`, every
+// rule with no branch between them.
+fn record_alike(
+    lo: u32,
+    hi: u32,
+    ready: bool,
+    waiting: bool,
+    most: u32,
+    least: u32,
+    begin: u32,
+    code: u32,
+    align: u32,
+) -> bool
+    requires { ⌜ (most < 131072) × (begin < 16777216) × (1 < code) × (code ≤ 9) × (align ≡ alignOf code) ⌝ }
+    ensures { λ r. ⌜ r ≡ alikeChecked most least begin code ready waiting lo hi ⌝ }
+{
+    let displacement = lo / 65536;
+    let size = hi % 16777216;
+    let enlarged = size + (align - 16);
+    let idle = ready | waiting;
+    let one_set = !(ready & waiting);
+    // A live slot has the alignment; one that is not was granted before, or it is ready and has zeros alone.
+    let begun = (!idle & (lo % 256 == code)) | (idle & (lo % 256 == 1)) | (ready & (lo == 0));
+    let fits = 16 * displacement + size <= most;
+    let own_class = (enlarged <= most)
+        & (least < enlarged + 4)
+        & (enlarged < classes::TOO_LARGE as u32);
+    let cleared = !idle | (hi == 0);
+    let in_range = hi < classes::TOO_LARGE as u32;
+    let aligned = (begin + 16 * displacement) & (align - 1) == 0;
+    one_set & begun & fits & (idle | own_class) & cleared & in_range & (idle | aligned)
+}
+
+// The records of n slots of class c, of so many bytes, whose live blocks all have one alignment; the first begins at a byte of the arena.
+fn slots_aligned(
+    s: &[u8],
+    at: usize,
+    n: usize,
+    ready: u32,
+    waiting: u32,
+    c: usize,
+    begin: usize,
+    bytes: u32,
+    least: u32,
+    code: u8,
+) -> bool
+    requires { ⌜ (n ≤ mostSlots) × (at + slotRecordBytes * n ≤ length (now s)) × (c < 48) × (begin < 8388608) × (1 < code) × (code ≤ 9) ⌝ }
+    requires { ⌜ (bytes ≡ slotBytes c) × (least ≡ below2 c) ⌝ }
+    ensures { λ r. ⌜ (r ≡ true → slotsExactly c begin n ready waiting (drop at (now (s .entry))) ≡ true) ⌝ }
+{
+    let most = bytes - 4;
+    let align = classes::align_of(code) as u32;
+    let tag = mem::wide32(code);
+    let mut place = begin as u32;
+    let mut sound = true;
+    let mut i = 0;
+    while i < n {
+        let lo = mem::quad(s, at + model::SLOT_RECORD * i);
+        let hi = mem::quad(s, at + model::SLOT_RECORD * i + model::SIZE);
+        sound = sound
+            & record_alike(
+                lo,
+                hi,
+                has(ready, i),
+                has(waiting, i),
+                most,
+                least,
+                place,
+                tag,
+                align,
+            );
+        place += bytes;
+        i += 1;
+    }
+    sound & (ready >> n as u32 == 0) & (waiting >> n as u32 == 0)
+}
+
+// The first of n slots that is in neither set, or n.
+fn first_live(idle: u32, n: usize) -> usize
+    requires { ⌜ n ≤ mostSlots ⌝ }
+    ensures { λ r. ⌜ r ≤ n ⌝ }
+{
+    let mut i = 0;
+    while i < n {
+        if !has(idle, i) {
+            return i;
+        }
+        i += 1;
+    }
+    n
+}
+
+// Whether the slots of a group are sound because its live blocks all have the alignment of the first: most aligned blocks of a class do.
+fn slots_alike(
+    s: &[u8],
+    at: usize,
+    n: usize,
+    ready: u32,
+    waiting: u32,
+    c: usize,
+    begin: usize,
+    bytes: u32,
+    least: u32,
+) -> bool
+    requires { ⌜ (n ≤ mostSlots) × (at + slotRecordBytes * n ≤ length (now s)) × (c < 48) × (begin < 8388608) ⌝ }
+    requires { ⌜ (bytes ≡ slotBytes c) × (least ≡ below2 c) ⌝ }
+    ensures { λ r. ⌜ (r ≡ true → slotsExactly c begin n ready waiting (drop at (now (s .entry))) ≡ true) ⌝ }
+{
+    let i = first_live(ready | waiting, n);
+    if i == n {
+        return false;
+    }
+    let code = s[at + model::SLOT_RECORD * i];
+    if code < 2 {
+        return false;
+    }
+    if 9 < code {
+        return false;
+    }
+    slots_aligned(s, at, n, ready, waiting, c, begin, bytes, least, code)
+}
+
+// The records of n slots of class c, whatever their blocks: the quick way for one alignment, and every rule slot by slot for several.
+fn slots_tested(
+    s: &[u8],
+    at: usize,
+    n: usize,
+    ready: u32,
+    waiting: u32,
+    c: usize,
+    begin: usize,
+    bytes: u32,
+    least: u32,
+) -> bool
+    requires { ⌜ (n ≤ mostSlots) × (at + slotRecordBytes * n ≤ length (now s)) × (c < 48) × (begin < 8388608) ⌝ }
+    requires { ⌜ (bytes ≡ slotBytes c) × (least ≡ below2 c) ⌝ }
+    ensures { λ r. ⌜ r ≡ slotsExactly c begin n ready waiting (drop at (now (s .entry))) ⌝ }
+{
+    if slots_alike(s, at, n, ready, waiting, c, begin, bytes, least) {
+        return true;
+    }
+    slots_sound(s, at, n, ready, waiting, c, begin)
+}
+
+// What is found of the n slots of a group of class c, whatever their blocks, where the first begins at a byte of the arena. A group of
+// ordinary blocks takes the quickest way; only where that finds anything else are alignments looked at.
+fn slots_right(
+    s: &[u8],
+    at: usize,
+    n: usize,
+    ready: u32,
+    waiting: u32,
+    c: usize,
+    begin: usize,
+) -> Slots
+    requires { ⌜ (n ≤ mostSlots) × (at + slotRecordBytes * n ≤ length (now s)) × (c < 48) × (begin < 8388608) × (begin % 16 ≡ 0) ⌝ }
+    ensures { λ r. ⌜ r .sound ≡ slotsExactly c begin n ready waiting (drop at (now (s .entry))) ⌝ }
+    ensures { λ r. ⌜ r .bytes ≡ sizesIn n (drop at (now (s .entry))) ⌝ }
+    ensures small { λ r. ⌜ r .bytes ≤ 16777216 * n ⌝ }
+{
+    let bytes = (16 * classes::units(c)) as u32;
+    let least = below(c) as u32;
+    let found = slots_found(s, at, n, ready, waiting, bytes - 4, least);
+    if found.sound {
+        return found;
+    }
+    // Two calls, so that the tests of alignments stay a function of their own: compiled into the check, they would slow it where there are none.
+    if ready == 0 {
+        if waiting == 0 {
+            return Slots {
+                sound: slots_tested(s, at, n, 0, 0, c, begin, bytes, least),
+                bytes: found.bytes,
+            };
+        }
+    }
+    Slots {
+        sound: slots_tested(s, at, n, ready, waiting, c, begin, bytes, least),
+        bytes: found.bytes,
+    }
 }
 
 // What a group of k rows counts, by the masks and the bytes of its n slots.
@@ -148,15 +420,16 @@ fn group_totals(k: usize, n: usize, ready: u32, waiting: u32, bytes: u32) -> Tot
     }
 }
 
-// The masks and the n slots of a group of class c, which has k rows. One slot at least is live.
-fn members_counted(s: &[u8], at: usize, c: usize, n: usize, k: usize) -> Counted
+// The masks and the n slots of a group of class c, which has k rows, and whose first slot begins at a byte of the arena. One slot at least
+// is live.
+fn members_counted(s: &[u8], at: usize, c: usize, n: usize, k: usize, begin: usize) -> Counted
     requires { ⌜ (at + rowRecordBytes ≤ length (now s)) × (c < 48) × (n ≡ slotsOf c) × (n ≤ mostSlots) ⌝ }
-    ensures { λ r. ⌜ r ≡ countedIf (membersChecked c (drop at (now (s .entry)))) (groupTotals k (viewGroup c (drop at (now (s .entry))))) ⌝ }
+    requires { ⌜ (begin < 8388608) × (begin % 16 ≡ 0) ⌝ }
+    ensures { λ r. ⌜ r ≡ countedIf (membersChecked c begin (drop at (now (s .entry)))) (groupTotals k (viewGroup c (drop at (now (s .entry))))) ⌝ }
 {
     let r = mem::quad(s, at + model::READY);
     let w = mem::quad(s, at + model::WAITING);
-    let most = (16 * classes::units(c) - 4) as u32;
-    let found = slots_found(s, at + model::SLOTS, n, r, w, most, below(c) as u32);
+    let found = slots_right(s, at + model::SLOTS, n, r, w, c, begin);
     if !found.sound {
         return Counted::Unsound;
     }
@@ -185,10 +458,11 @@ fn rest_zero(s: &[u8], at: usize, n: usize) -> bool
 }
 
 // The first row of a group of class c, which is row i; the group has k rows.
-fn group_counted(room: &[u8], i: usize, c: usize, k: usize) -> Counted
+fn group_counted(row: usize, room: &[u8], i: usize, c: usize, k: usize) -> Counted
     requires { ⌜ (i < 512) × (rowAt i + rowRecordBytes ≤ length (now room)) ⌝ }
     requires { ⌜ (c < 48) × (viewHolder (drop (rowAt i) (now room)) ≡ First c) ⌝ }
-    ensures { λ r. ⌜ r ≡ countedIf (groupChecked byMasks c (drop (rowAt i) (now (room .entry))))
+    requires { ⌜ Lawful row ⌝ }
+    ensures { λ r. ⌜ r ≡ countedIf (groupChecked byMasks (row * i) c (drop (rowAt i) (now (room .entry))))
         (groupTotals k (viewGroup c (drop (rowAt i) (now (room .entry))))) ⌝ }
 {
     let at = rows::row_at(i);
@@ -199,7 +473,7 @@ fn group_counted(room: &[u8], i: usize, c: usize, k: usize) -> Counted
     if !rest_zero(room, at + model::SLOTS, n) {
         return Counted::Unsound;
     }
-    members_counted(room, at, c, n, k)
+    members_counted(room, at, c, n, k, row * i + 16)
 }
 
 // The group of class c whose first row is row i, where n rows are left.
@@ -207,7 +481,7 @@ fn held_counted(row: usize, room: &[u8], i: usize, n: usize, c: usize) -> Counte
     requires { ⌜ (0 < n) × (i + n ≤ 512) × (rowAt (i + n) ≤ length (now room)) ⌝ }
     requires { ⌜ viewHolder (drop (rowAt i) (now room)) ≡ First c ⌝ }
     requires { ⌜ Lawful row ⌝ }
-    ensures { λ r. ⌜ r ≡ spanCounted row n (drop (rowAt i) (now (room .entry))) ⌝ }
+    ensures { λ r. ⌜ r ≡ spanCounted row (row * i) n (drop (rowAt i) (now (room .entry))) ⌝ }
 {
     if classes::CLASSES <= c {
         return Counted::Unsound;
@@ -219,14 +493,14 @@ fn held_counted(row: usize, room: &[u8], i: usize, n: usize, c: usize) -> Counte
     if !rows::laters_sound(room, i, k - 1) {
         return Counted::Unsound;
     }
-    group_counted(room, i, c, k)
+    group_counted(row, room, i, c, k)
 }
 
 // The span that begins at row i, where n rows are left: a free row, or a group.
 fn span_counted(row: usize, room: &[u8], i: usize, n: usize) -> Counted
     requires { ⌜ (0 < n) × (i + n ≤ 512) × (rowAt (i + n) ≤ length (now room)) ⌝ }
     requires { ⌜ Lawful row ⌝ }
-    ensures { λ r. ⌜ r ≡ spanCounted row n (drop (rowAt i) (now (room .entry))) ⌝ }
+    ensures { λ r. ⌜ r ≡ spanCounted row (row * i) n (drop (rowAt i) (now (room .entry))) ⌝ }
 {
     match rows::holder_at(room, i) {
         Holder::Free => {
@@ -269,7 +543,7 @@ fn plus(a: Totals, b: Totals) -> Totals
 fn rows_counted(row: usize, room: &[u8], n: usize) -> Counted
     requires { ⌜ (n ≤ 512) × (length (now room) ≡ rowAt n) ⌝ }
     requires { ⌜ Lawful row ⌝ }
-    ensures { λ r. ⌜ r ≡ rowsCounted row n (drop headBytes (now (room .entry))) ⌝ }
+    ensures { λ r. ⌜ r ≡ rowsCounted row 0 n (drop headBytes (now (room .entry))) ⌝ }
 {
     let mut s = Totals {
         blocks: 0,

@@ -9,13 +9,14 @@ use Rattle.mem.proofs.Tests.{choose-case, choose-true, choose-false}
 use Rattle.mem.proofs.Laws.{join-append, sum-append, put-at, zeros-length}
 use Rattle.mem.proofs.Starts.{eqb-sym}
 use Rattle.classes.specs.Classes.{classOf, slotsOf, rowsOf, tooLarge}
+use Rattle.classes.specs.Alignments.{ordinary}
 use Rattle.classes.proofs.Laws.{class-facts, rows-pos}
 use Rattle.model.specs.declared.Slot.{Slot}
 use Rattle.model.specs.declared.Slot.the-variants.{Fresh, Idle, Live}
-use Rattle.model.specs.State.{Span, Pool, Place, free, group, isLive, isReady, wellFormed, poolOf, rows}
+use Rattle.model.specs.State.{Span, Pool, Place, free, group, isLive, isReady, wellFormed, poolOf, rows, beginning}
 use Rattle.model.specs.Plans.{Site, slotsIn, opens, openFrom, run, turnReady, refill, grantSlot, grantIn, runFrom, siteOr, site, reserveIn, reserve, freshPool}
 use Rattle.model.proofs.Rooms.{rows-append}
-use Rattle.model.proofs.Reserve.{Open, open-found, New, run-found, ground, Taken, grant-taken, reserve-formed}
+use Rattle.model.proofs.Reserve.{plain, Open, open-found, New, run-found, ground, Taken, grant-taken, reserve-formed}
 use Rattle.survey.specs.Survey.{openIn, openSlots, lowestRun, rowMap, mapOf, Tells, Serves}
 use Rattle.survey.proofs.MapRuns.{lowest-inside}
 
@@ -57,14 +58,14 @@ spare-ready Fresh t = refl
 spare-ready (Idle r k d) t = refl
 spare-ready (Live a) t = absurd t
 
-spare-granted : (c n : ℕ) (x : Slot) → spare (grantSlot c n x) ≡ 0
+spare-granted : (c k n b : ℕ) (x : Slot) → spare (grantSlot c k n b x) ≡ 0
 unfolding grantSlot
-spare-granted c n x = refl
+spare-granted c k n b x = refl
 
 -- a slot that is taken is one less
-spare-taken : (c n : ℕ) (s : Site) (q : Place) → Taken c n s q → sum spare (q .lower ++ (q .state ∷ q .upper)) + 1 ≡ sum spare (s .slots)
-spare-taken c n s q k =
-    let a : spare (q .state) ≡ 0 = ap spare (k .state) ∙ spare-granted c n (k .old) in
+spare-taken : (row c k n : ℕ) (s : Site) (q : Place) → Taken row c k n s q → sum spare (q .lower ++ (q .state ∷ q .upper)) + 1 ≡ sum spare (s .slots)
+spare-taken row c v n s q k =
+    let a : spare (q .state) ≡ 0 = ap spare (k .state) ∙ spare-granted c v n (beginning row q) (k .old) in
     let b : sum spare (refill (s .slots)) ≡ sum spare (q .lower ++ (k .old ∷ q .upper)) = ap (sum spare) (k .slots) in
     omega (
       arith,
@@ -254,29 +255,29 @@ one-less false m n e = refl
 
 -- the pool that a grant makes at a site
 module _ (row c n : ℕ) (s : Site) (t : T (any (λ x. not (isLive x)) (s .slots))) where
-  slots-taken : (k : ℕ) → openSlots k (poolOf (grantIn c n s)) + bit (eqb k c)
+  slots-taken : (k : ℕ) → openSlots k (poolOf (grantIn row c ordinary n s)) + bit (eqb k c)
       ≡ openSlots k (s .before) + (choose (eqb k c) (sum spare (s .slots)) 0 + openSlots k (s .after))
   unfolding grantIn
   slots-taken k =
-      let q : Place = grantIn c n s in
+      let q : Place = grantIn row c ordinary n s in
       let ss : List Slot = q .lower ++ (q .state ∷ q .upper) in
-      let l : sum spare ss + 1 ≡ sum spare (s .slots) = spare-taken c n s q (grant-taken c n s t) in
+      let l : sum spare ss + 1 ≡ sum spare (s .slots) = spare-taken row c ordinary n s q (grant-taken row c ordinary n s t) in
       omega (arith, slots-around k (s .before) c ss (s .after), one-less (eqb k c) (sum spare ss) (sum spare (s .slots)) l)
 
-  map-taken : mapOf row (poolOf (grantIn c n s)) ≡ mapOf row (s .before) ++ (zeros (rowsOf row c) ++ mapOf row (s .after))
+  map-taken : mapOf row (poolOf (grantIn row c ordinary n s)) ≡ mapOf row (s .before) ++ (zeros (rowsOf row c) ++ mapOf row (s .after))
   unfolding grantIn
   map-taken =
-      let q : Place = grantIn c n s in
+      let q : Place = grantIn row c ordinary n s in
       map-around row (s .before) c (q .lower ++ (q .state ∷ q .upper)) (s .after)
 
 module _ (row : ℕ) (P : Pool) (n c : ℕ) (class : c ≡ classOf n) where
-  reserve-site : reserve row P n ≡ reserveIn c n (site row P c)
+  reserve-site : reserve row P ordinary n ≡ reserveIn row c ordinary n (site row P c)
   unfolding reserve
-  reserve-site = ap (λ k. reserveIn k n (site row P k)) (sym class)
+  reserve-site = ap (λ k. reserveIn row k ordinary n (site row P k)) (sym class)
 
   -- a slot of a group that is there
   pub record FromOpen (q : Place) : Type 0 where
-    pub found : reserve row P n ≡ some q
+    pub found : reserve row P ordinary n ≡ some q
     pub slots : (k : ℕ) → openSlots k (poolOf q) + bit (eqb k c) ≡ openSlots k P
     pub map : mapOf row (poolOf q) ≡ mapOf row P
 
@@ -285,9 +286,9 @@ module _ (row : ℕ) (P : Pool) (n c : ℕ) (class : c ≡ classOf n) where
   from-open h =
       let (s, e) = open-there c [] P h in
       let o : Open P c s = open-found [] P c s e in (
-        grantIn c n s,
+        grantIn row c ordinary n s,
         record {
-          found = reserve-site ∙ ap (λ o. reserveIn c n (siteOr o (runFrom row [] c P))) e;
+          found = reserve-site ∙ ap (λ o. reserveIn row c ordinary n (siteOr o (runFrom row [] c P))) e;
           slots = λ k. slots-taken row c n s (o .room) k ∙ sym (slots-around k (s .before) c (s .slots) (s .after)) ∙ ap (openSlots k) (sym (o .split));
           map = map-taken row c n s (o .room) ∙ sym (map-around row (s .before) c (s .slots) (s .after)) ∙ ap (mapOf row) (sym (o .split));
         },
@@ -295,7 +296,7 @@ module _ (row : ℕ) (P : Pool) (n c : ℕ) (class : c ≡ classOf n) where
 
   -- the first slot of a new group
   pub record FromNew (r : ℕ) (q : Place) : Type 0 where
-    pub found : reserve row P n ≡ some q
+    pub found : reserve row P ordinary n ≡ some q
     pub own : openSlots c (poolOf q) ≡ slotsOf c - 1
     pub others : (k : ℕ) → (k ≡ c → ⊥) → openSlots k (poolOf q) ≡ openSlots k P
     pub map : mapOf row (poolOf q) ≡ put r (zeros (rowsOf row c)) (mapOf row P)
@@ -316,9 +317,9 @@ module _ (row : ℕ) (P : Pool) (n c : ℕ) (class : c ≡ classOf n) where
         let d : (k : ℕ) → openSlots k P ≡ openSlots k (s .before) + openSlots k (s .after) =
         λ k. ap (openSlots k) (m .split) ∙ slots-apart k (s .before) (rowsOf row c) (s .after) in
         let b : eqb c c ≡ true = eq-eqb c c refl in (
-          grantIn c n s,
+          grantIn row c ordinary n s,
           record {
-            found = reserve-site ∙ ap (reserveIn c n) i;
+            found = reserve-site ∙ ap (reserveIn row c ordinary n) i;
             own = omega (arith, slots-taken row c n s t c, ap bit b, choose-true (eqb c c) (sum spare (s .slots)) 0 b, l, d c, shut);
             others =
                 λ k no.
@@ -333,8 +334,8 @@ module _ (row : ℕ) (P : Pool) (n c : ℕ) (class : c ≡ classOf n) where
           },
         )
 
-    pub from-none : lowestRun (rowsOf row c) 0 (mapOf row P) ≡ none → reserve row P n ≡ none
-    from-none e = reserve-site ∙ ap (reserveIn c n) (site-run ∙ none-run row pos c P e)
+    pub from-none : lowestRun (rowsOf row c) 0 (mapOf row P) ≡ none → reserve row P ordinary n ≡ none
+    from-none e = reserve-site ∙ ap (reserveIn row c ordinary n) (site-run ∙ none-run row pos c P e)
 
 -- ---- what counts and a map tell after a grant
 
@@ -346,10 +347,10 @@ module _ (row : ℕ) (P : Pool) (n c : ℕ) (os m : List ℕ) (t : Tells row P o
   own-count = t .counts c (omega (arith, class-facts n small .inside))
 
   -- a grant after which class c has v open slots, and the others as many as before
-  granted : (q : Place) (v : ℕ) (l : List ℕ) → reserve row P n ≡ some q → openSlots c (poolOf q) ≡ v
+  granted : (q : Place) (v : ℕ) (l : List ℕ) → reserve row P ordinary n ≡ some q → openSlots c (poolOf q) ≡ v
       → ((k : ℕ) → (k ≡ c → ⊥) → openSlots k (poolOf q) ≡ openSlots k P) → l ≡ mapOf row (poolOf q) → Serves row P n true (set os c v) l
   granted q v l e own others kept =
-      let f = reserve-formed row P n q (t .formed) small e in
+      let f = reserve-formed row P ordinary n q (t .formed) (plain small) e in
       let told : Tells row (poolOf q) (set os c v) l =
       record {
         formed = f .formed;
@@ -387,5 +388,6 @@ module _ (row : ℕ) (P : Pool) (n c : ℕ) (os m : List ℕ) (t : Tells row P o
 
     pub serves-none : lowestRun (rowsOf row c) 0 m ≡ none → Serves row P n false os m
     serves-none e =
-        let g : reserve row P n ≡ none = from-none row P n c class pos (sym own-count ∙ shut) (ap (lowestRun (rowsOf row c) 0) (sym (t .rows-free)) ∙ e) in
+        let g : reserve row P ordinary n ≡ none = from-none row P n c class pos (sym own-count ∙ shut)
+        (ap (lowestRun (rowsOf row c) 0) (sym (t .rows-free)) ∙ e) in
         record { found = ap isSome (sym g); left = λ q f. let z : _≡_ {A = ℕ} 0 1 = cc in absurd (omega arith) }

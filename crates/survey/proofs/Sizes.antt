@@ -3,6 +3,7 @@ use Rattle.mem.proofs.Prelude.{_∙_, _≡_, sym, ap, refl, Bool, true, false, 
 use Rattle.mem.proofs.Prelude.{arith, ltb, length, drop, getD}
 use Rattle.mem.specs.Lists.{choose, every, isSome}
 use Rattle.classes.specs.Classes.{classOf, tooLarge}
+use Rattle.classes.specs.Alignments.{ordinary}
 use Rattle.model.specs.State.{Pool, Place, poolOf}
 use Rattle.model.specs.Plans.{reserve, placedBy, reserveAll}
 use Rattle.model.proofs.Lists.{small-at, some-placed, all-placed, next-placed}
@@ -32,21 +33,21 @@ module _ {row : ℕ} {sizes : List ℕ} {P : Pool} {i : ℕ} {spare map : List �
     serves = f (g .pool) (getD sizes i 0) (g .tells) e (small-at sizes i small h)
 
     -- all sizes, by the place that this one has
-    by-place : (o : Option Place) → reserve row (g .pool) (getD sizes i 0) ≡ o
+    by-place : (o : Option Place) → reserve row (g .pool) ordinary (getD sizes i 0) ≡ o
         → isSome (reserveAll row P sizes) ≡ isSome (placedBy o (λ q. reserveAll row (poolOf q) (drop (i + 1) sizes)))
     by-place o k = g .same ∙ ap isSome (next-placed row (g .pool) sizes i h ∙ ap (λ o. placedBy o (λ q. reserveAll row (poolOf q) (drop (i + 1) sizes))) k)
 
     pub one-refused : not r ≡ true → false ≡ isSome (reserveAll row P sizes)
-    one-refused n = go (reserve row (g .pool) (getD sizes i 0)) refl (sym (not-true r n) ∙ serves .found)
+    one-refused n = go (reserve row (g .pool) ordinary (getD sizes i 0)) refl (sym (not-true r n) ∙ serves .found)
       where
-        go : (o : Option Place) → reserve row (g .pool) (getD sizes i 0) ≡ o → false ≡ isSome o → false ≡ isSome (reserveAll row P sizes)
+        go : (o : Option Place) → reserve row (g .pool) ordinary (getD sizes i 0) ≡ o → false ≡ isSome o → false ≡ isSome (reserveAll row P sizes)
         go none k s = sym (by-place none k)
         go (some q) k s = let z : _≡_ {A = ℕ} 0 1 = cc in absurd (omega arith)
 
     pub one-served : not r ≡ false → ToGo row sizes P (i + 1) spare′ map′
-    one-served n = go (reserve row (g .pool) (getD sizes i 0)) refl (sym (not-false r n) ∙ serves .found)
+    one-served n = go (reserve row (g .pool) ordinary (getD sizes i 0)) refl (sym (not-false r n) ∙ serves .found)
       where
-        go : (o : Option Place) → reserve row (g .pool) (getD sizes i 0) ≡ o → true ≡ isSome o → ToGo row sizes P (i + 1) spare′ map′
+        go : (o : Option Place) → reserve row (g .pool) ordinary (getD sizes i 0) ≡ o → true ≡ isSome o → ToGo row sizes P (i + 1) spare′ map′
         go none k s = let z : _≡_ {A = ℕ} 0 1 = cc in absurd (omega arith)
         go (some q) k s = record {
           pool = poolOf q;

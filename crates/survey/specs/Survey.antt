@@ -9,6 +9,7 @@ use lib.ListN.{length, getD, replicate}
 use Rattle.mem.specs.Lists.{choose, isSome, join, starts, sum}
 use Rattle.mem.specs.Bytes.{zeros, bit}
 use Rattle.classes.specs.Classes.{rowsOf}
+use Rattle.classes.specs.Alignments.{ordinary}
 use Rattle.model.specs.State.{Span, Pool, Place, free, group, isLive, wellFormed, poolOf, rows}
 use Rattle.model.specs.Plans.{reserve}
 use Rattle.rows.specs.declared.Found.{Found}
@@ -50,5 +51,5 @@ module _ (row : ℕ) where
 
   -- what a grant of n bytes would find, and what counts and map then tell
   pub record Serves (P : Pool) (n : ℕ) (r : Bool) (spare map : List ℕ) : Type 0 where
-    pub found : r ≡ isSome (reserve row P n)
-    pub left : (q : Place) → reserve row P n ≡ some q → Tells (poolOf q) spare map
+    pub found : r ≡ isSome (reserve row P ordinary n)
+    pub left : (q : Place) → reserve row P ordinary n ≡ some q → Tells (poolOf q) spare map

@@ -171,12 +171,12 @@ module _ (row : ℕ) where
       }
 
   -- a ready slot of the group of a site is taken
-  pub taken-totals : (c n : ℕ) (g : Site) → T (any (λ x. not (isLive x)) (g .slots))
-      → Takes n (refills (g .slots)) (totals row (g .before ++ (group c (g .slots) ∷ g .after))) (totals row (poolOf (grantIn c n g)))
+  pub taken-totals : (c k n : ℕ) (g : Site) → T (any (λ x. not (isLive x)) (g .slots))
+      → Takes n (refills (g .slots)) (totals row (g .before ++ (group c (g .slots) ∷ g .after))) (totals row (poolOf (grantIn row c k n g)))
   unfolding totals grantIn grantSlot
-  taken-totals c n g spare =
-      let q = grantIn c n g in
-      let k = reserve.grant-taken c n g spare in
+  taken-totals c code n g spare =
+      let q = grantIn row c code n g in
+      let k = reserve.grant-taken row c code n g spare in
       let x = ready-counts (k .old) (k .ready) in
       let r = refilled (g .slots) in
       let A = group c (g .slots) ∷ g .after in

@@ -17,6 +17,17 @@ pub const TOO_LARGE: usize = 131_052;
 /// The most entries of a list, and the fewest places lent for one.
 pub const ENTRIES: usize = 17;
 
+/// The alignments that the tables tell apart.
+pub const ALIGNMENTS: [usize; 9] = [ORDINARY, 32, 64, 128, 256, 512, 1024, 2048, 4096];
+
+/// The alignment of every ordinary block.
+pub const ORDINARY: usize = 16;
+
+/// The size that decides the class of a block of `n` bytes with an alignment, if it is not too large.
+pub fn enlarged(n: usize, align: usize) -> Option<usize> {
+    n.checked_add(align - ORDINARY).filter(|&size| size < TOO_LARGE)
+}
+
 /// Bytes of a slot of a class.
 pub fn slot_bytes(class: usize) -> usize {
     16 * UNITS[class]
@@ -51,6 +62,12 @@ pub struct Slot {
     pub last: Option<usize>,
     pub count: u8,
     pub size: usize,
+    /// The alignment of a live block; [`ORDINARY`] if the slot is not live.
+    pub align: usize,
+}
+
+impl Slot {
+    const NEVER_GRANTED: Slot = Slot { state: State::Ready, last: None, count: 0, size: 0, align: ORDINARY };
 }
 
 #[derive(Clone, Debug, PartialEq, Eq)]
@@ -120,7 +137,7 @@ impl Tables {
                 }
                 if let Some(d) = s.last {
                     let r = at + 16 + 8 * i;
-                    room[r] = 1;
+                    room[r] = code(s.align);
                     room[r + 1] = s.count;
                     room[r + 2..r + 4].copy_from_slice(&(d as u16).to_le_bytes());
                     room[r + 4..r + 7].copy_from_slice(&(s.size as u32).to_le_bytes()[..3]);
@@ -163,7 +180,7 @@ impl Tables {
                 return None;
             }
             let group = Group { class, first_row: row, slots: (0..slots_of(class)).map(|i| read_slot(record, i)).collect::<Option<_>>()? };
-            if !group.slots.iter().any(|s| s.state == State::Live) || !group.slots.iter().all(|s| slot_rule(class, s)) {
+            if !group.slots.iter().any(|s| s.state == State::Live) || !(0..group.slots.len()).all(|i| slot_rule(&group, i)) {
                 return None;
             }
             row += rows_of(class);
@@ -185,25 +202,43 @@ fn read_slot(record: &[u8], i: usize) -> Option<Slot> {
         (false, false) => State::Live,
     };
     let r = &record[16 + 8 * i..][..8];
-    let last = match r[0] {
-        0 => None,
-        1 => Some(number(&r[2..4])),
-        _ => return None,
+    let (last, align) = match r[0] {
+        0 => (None, ORDINARY),
+        code => (Some(number(&r[2..4])), coded(code)?),
     };
-    Some(Slot { state, last, count: r[1], size: if state == State::Live { number(&r[4..7]) } else { 0 } })
+    Some(Slot { state, last, count: r[1], size: if state == State::Live { number(&r[4..7]) } else { 0 }, align })
 }
 
-fn slot_rule(class: usize, s: &Slot) -> bool {
-    let most = slot_bytes(class) - 4;
+/// The first byte of a granted slot: the place of its alignment in the list, from 1.
+fn code(align: usize) -> u8 {
+    1 + ALIGNMENTS.iter().position(|&a| a == align).expect("an alignment of the list") as u8
+}
+
+/// The alignment that such a byte says, if it says one.
+fn coded(byte: u8) -> Option<usize> {
+    ALIGNMENTS.into_iter().find(|&align| code(align) == byte)
+}
+
+fn slot_rule(group: &Group, i: usize) -> bool {
+    let s = &group.slots[i];
+    let most = slot_bytes(group.class) - 4;
     match (s.state, s.last) {
         (State::Live, Some(d)) => {
-            16 * d + s.size <= most && s.size < TOO_LARGE && (class == class_of(s.size) || class == class_of(s.size) + 1)
+            let fits = 16 * d + s.size <= most;
+            let aligned = (group.beginning(i) + 16 * d) % s.align == 0;
+            fits && aligned && enlarged(s.size, s.align).is_some_and(|size| serves(group.class, size))
         }
         (State::Live, None) => false,
-        (State::Ready | State::Waiting, Some(d)) => 16 * d <= most,
+        (State::Ready | State::Waiting, Some(d)) => 16 * d <= most && s.align == ORDINARY,
         (State::Ready, None) => s.count == 0,
         (State::Waiting, None) => false,
     }
+}
+
+/// Whether a class is that of a size or the next one up.
+fn serves(class: usize, size: usize) -> bool {
+    let least = class_of(size);
+    class == least || class == least + 1
 }
 
 fn cap_in_range(cap: usize) -> bool {
@@ -267,10 +302,19 @@ impl Reference {
     }
 
     pub fn grant(&mut self, n: usize) -> Result<usize, Refusal> {
-        if n >= TOO_LARGE {
-            return Err(Refusal::TooLarge);
+        self.grant_as(n, ORDINARY)
+    }
+
+    pub fn grant_aligned(&mut self, n: usize, align: usize) -> Result<usize, Refusal> {
+        if !align.is_power_of_two() || align > 4096 {
+            return Err(Refusal::BadAlignment);
         }
-        let class = class_of(n);
+        self.grant_as(n, align.max(ORDINARY))
+    }
+
+    /// Grants a block with an alignment of the list: the slot's count displaces an ordinary one, the next boundary any other.
+    fn grant_as(&mut self, n: usize, align: usize) -> Result<usize, Refusal> {
+        let class = class_of(enlarged(n, align).ok_or(Refusal::TooLarge)?);
         let group = match self.groups.iter().position(|g| g.class == class && g.has_room()) {
             Some(k) => k,
             None => self.make_group(class)?,
@@ -282,11 +326,14 @@ impl Reference {
             }
         }
         let i = g.slots.iter().position(|s| s.state == State::Ready).expect("a slot that is not live is ready now");
-        let s = slot_bytes(class);
-        let t = (s - 4 - n) / 16;
-        let d = g.slots[i].count as usize % (t + 1);
-        g.slots[i] = Slot { state: State::Live, last: Some(d), count: g.slots[i].count.wrapping_add(1), size: n };
-        let begin = g.beginning(i);
+        let (begin, s) = (g.beginning(i), slot_bytes(class));
+        let d = if align == ORDINARY {
+            let t = (s - 4 - n) / 16;
+            g.slots[i].count as usize % (t + 1)
+        } else {
+            (begin.next_multiple_of(align) - begin) / 16
+        };
+        g.slots[i] = Slot { state: State::Live, last: Some(d), count: g.slots[i].count.wrapping_add(1), size: n, align };
         self.arena[begin - 4..begin - 4 + s].fill(0);
         self.mark(At { group, slot: i });
         Ok(begin + 16 * d)
@@ -313,9 +360,8 @@ impl Reference {
         let first_row = (0..held.len())
             .find(|&r| r + need <= held.len() && held[r..r + need].iter().all(|h| !h))
             .ok_or(Refusal::NoRoom)?;
-        let fresh = Slot { state: State::Ready, last: None, count: 0, size: 0 };
         let k = self.groups.iter().position(|g| g.first_row > first_row).unwrap_or(self.groups.len());
-        self.groups.insert(k, Group { class, first_row, slots: vec![fresh; slots_of(class)] });
+        self.groups.insert(k, Group { class, first_row, slots: vec![Slot::NEVER_GRANTED; slots_of(class)] });
         Ok(k)
     }
 
@@ -360,18 +406,28 @@ impl Reference {
         g
     }
 
-    /// The live, undamaged block at an offset.
-    fn block(&self, offset: usize) -> Result<At, Refusal> {
+    /// The slot whose last start an offset is. There is at most one.
+    fn find(&self, offset: usize) -> Option<At> {
         let mut found = None;
         for (group, g) in self.groups.iter().enumerate() {
             for (slot, s) in g.slots.iter().enumerate() {
                 if s.last.is_some_and(|d| g.beginning(slot) + 16 * d == offset) {
-                    found = Some((At { group, slot }, s.state));
+                    found = Some(At { group, slot });
                 }
             }
         }
-        let (at, state) = found.ok_or(Refusal::NoSuchBlock)?;
-        if state != State::Live {
+        found
+    }
+
+    /// The alignment of the live block at an offset; [`ORDINARY`] for any other offset.
+    pub fn alignment(&self, offset: usize) -> usize {
+        self.find(offset).map_or(ORDINARY, |at| self.groups[at.group].slots[at.slot].align)
+    }
+
+    /// The live, undamaged block at an offset.
+    fn block(&self, offset: usize) -> Result<At, Refusal> {
+        let at = self.find(offset).ok_or(Refusal::NoSuchBlock)?;
+        if self.groups[at.group].slots[at.slot].state != State::Live {
             return Err(Refusal::AlreadyFree);
         }
         if self.arena[offset - 4..offset] != self.header(at) {
@@ -390,8 +446,7 @@ impl Reference {
     fn give_back(&mut self, at: At) {
         let g = &mut self.groups[at.group];
         let (begin, s) = (g.beginning(at.slot), slot_bytes(g.class));
-        g.slots[at.slot].state = State::Waiting;
-        g.slots[at.slot].size = 0;
+        g.slots[at.slot] = Slot { state: State::Waiting, size: 0, align: ORDINARY, ..g.slots[at.slot] };
         self.arena[begin - 4..begin - 4 + s].fill(0);
         if g.slots.iter().all(|s| s.state != State::Live) {
             let from = ROW * g.first_row;
@@ -408,20 +463,20 @@ impl Reference {
     }
 
     pub fn resize(&mut self, offset: usize, n: usize) -> Result<usize, Refusal> {
-        if n >= TOO_LARGE {
-            return Err(Refusal::TooLarge);
-        }
+        // the alignment of a live block counts before it is known whether there is one, undamaged
+        let align = self.alignment(offset);
+        let size = enlarged(n, align).ok_or(Refusal::TooLarge)?;
         let at = self.block(offset)?;
         let g = &self.groups[at.group];
         let kept = g.slots[at.slot].size.min(n);
         let end = self.end(at);
-        if offset + n <= end && g.class <= class_of(n) + 1 {
+        if offset + n <= end && serves(g.class, size) {
             self.groups[at.group].slots[at.slot].size = n;
             self.arena[offset + kept..end].fill(0);
             self.mark(at);
             return Ok(offset);
         }
-        let start = self.grant(n)?;
+        let start = self.grant_as(n, align)?;
         self.arena.copy_within(offset..offset + kept, start);
         let old = self.block(offset).expect("the old block is live and undamaged");
         self.give_back(old);

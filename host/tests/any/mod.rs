@@ -26,11 +26,13 @@ pub fn sample(seed: u64, arena_len: usize) -> Both {
     both
 }
 
-/// Every call but set up: those on a block with that block, a grant of its size, a list of two of its size, and one with everything wrong.
-pub fn calls_on((start, n): (usize, usize)) -> [Call; 7] {
+/// Every call but set up: those on a block with that block, grants of its size, a list of two of its size, and an aligned grant and a list with
+/// everything wrong.
+pub fn calls_on((start, n): (usize, usize)) -> [Call; 9] {
     let size = n.max(1);
     let lists = [List::new(2 * size, size, &[size, size], 17), List::new(usize::MAX, 0, &[0; 18], 16)].map(Call::GrantList);
-    [Call::Release(start), Call::Grant(n), Call::Resize(start, n / 2), Call::Measure(start), Call::Report, lists[0], lists[1]]
+    let aligned = [Call::GrantAligned(n, 32), Call::GrantAligned(usize::MAX, 0)];
+    [Call::Release(start), Call::Grant(n), aligned[0], Call::Resize(start, n / 2), Call::Measure(start), Call::Report, lists[0], aligned[1], lists[1]]
 }
 
 /// A call that the library must refuse, with nothing changed.

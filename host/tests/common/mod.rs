@@ -47,6 +47,7 @@ pub fn lent<const N: usize>() -> [usize; N] {
 pub enum Call {
     SetUp,
     Grant(usize),
+    GrantAligned(usize, usize),
     GrantList(List),
     Release(usize),
     Resize(usize, usize),
@@ -103,6 +104,7 @@ impl Buffers {
         match call {
             Call::SetUp => unit(Pool::set_up(arena, room, totals).map(drop)),
             Call::Grant(n) => value(pool.grant(n)),
+            Call::GrantAligned(n, align) => value(pool.grant_aligned(n, align)),
             Call::GrantList(l) => value(pool.grant_list(l.length, l.cap, l.sizes(), &mut lent[..l.places])),
             Call::Release(o) => unit(pool.release(o)),
             Call::Resize(o, n) => value(pool.resize(o, n)),
@@ -124,6 +126,7 @@ fn second(pool: &mut Reference, lent: &mut Lent, call: Call) -> Answer {
             Answer::Done
         }
         Call::Grant(n) => value(pool.grant(n)),
+        Call::GrantAligned(n, align) => value(pool.grant_aligned(n, align)),
         Call::GrantList(l) => value(pool.grant_list(l.length, l.cap, l.sizes(), &mut lent[..l.places])),
         Call::Release(o) => unit(pool.release(o)),
         Call::Resize(o, n) => value(pool.resize(o, n)),

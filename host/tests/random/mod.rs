@@ -4,7 +4,7 @@ pub mod lists;
 
 use crate::common::{Answer, Both, Call};
 use lists::{fault, list};
-use slotpool_reference::{rows_of, slot_bytes, TOO_LARGE};
+use slotpool_reference::{rows_of, slot_bytes, Reference, ORDINARY, TOO_LARGE};
 use std::collections::{BTreeMap, BTreeSet};
 
 /// A small generator of numbers, the same on every machine.
@@ -49,6 +49,42 @@ fn size(numbers: &mut Numbers, arena_len: usize) -> usize {
     }
 }
 
+/// An alignment that sets the start, more often a small one, for which the arena has room; or one that does not; or what is none.
+fn alignment(numbers: &mut Numbers, arena_len: usize) -> usize {
+    match numbers.below(12) {
+        0 => numbers.of(&[0, 3, 24, 33, 48, 4095, 4097, 8192, 1 << (usize::BITS - 1), usize::MAX]),
+        1 => numbers.of(&[1, 2, 4, 8, 16]),
+        2 => 32 << numbers.below(8),
+        _ => {
+            let most = (1 + (arena_len / 512).ilog2() as usize).min(8);
+            32 << numbers.below(most).min(numbers.below(most))
+        }
+    }
+}
+
+/// A size at or near an edge by itself or, as often, once it is enlarged for an alignment; or any.
+fn aligned_size(numbers: &mut Numbers, arena_len: usize, align: usize) -> usize {
+    let more = align.saturating_sub(ORDINARY);
+    match numbers.below(20) {
+        0 => (TOO_LARGE - 2 + numbers.below(5)).saturating_sub(more),
+        1..=9 => size(numbers, arena_len).saturating_sub(more),
+        _ => size(numbers, arena_len),
+    }
+}
+
+/// A grant, of a block like a live one, which makes groups full, and refills them, or of any.
+fn grant(numbers: &mut Numbers, both: &Both) -> Call {
+    let (live, len) = (both.second.live(), both.first.arena.len());
+    let again = (!live.is_empty() && numbers.one_in(2)).then(|| numbers.of(&live));
+    let like = again.map(|(start, _)| both.second.alignment(start)).filter(|&align| align > ORDINARY);
+    let align = if numbers.one_in(3) { Some(alignment(numbers, len)) } else { like };
+    let n = match again {
+        Some((_, n)) => n,
+        None => aligned_size(numbers, len, align.unwrap_or(ORDINARY)),
+    };
+    align.map_or(Call::Grant(n), |align| Call::GrantAligned(n, align))
+}
+
 /// A live start, a freed one, an offset near a live start, or any number.
 fn offset(numbers: &mut Numbers, both: &Both) -> usize {
     let live = both.second.live();
@@ -81,14 +117,7 @@ pub fn next_call(numbers: &mut Numbers, both: &Both, engine: Engine) -> Call {
     let totals = both.second.report();
     let crowded = totals.rows_free == 0 && totals.ready_slots == 0;
     match numbers.below(100) {
-        0..=37 if !crowded || numbers.one_in(3) => {
-            // the same size again makes groups full, and refills them
-            if !live.is_empty() && numbers.one_in(2) {
-                Call::Grant(numbers.of(&live).1)
-            } else {
-                Call::Grant(size(numbers, both.first.arena.len()))
-            }
-        }
+        0..=37 if !crowded || numbers.one_in(3) => grant(numbers, both),
         0..=62 => Call::Release(offset(numbers, both)),
         63..=80 => {
             let o = offset(numbers, both);
@@ -97,7 +126,7 @@ pub fn next_call(numbers: &mut Numbers, both: &Both, engine: Engine) -> Call {
                 0 => old,
                 1 => (old + numbers.below(40)).saturating_sub(20),
                 2 => old / 2 + numbers.below(old + 1),
-                _ => size(numbers, both.first.arena.len()),
+                _ => aligned_size(numbers, both.first.arena.len(), both.second.alignment(o)),
             };
             Call::Resize(o, n)
         }
@@ -111,30 +140,50 @@ pub fn next_call(numbers: &mut Numbers, both: &Both, engine: Engine) -> Call {
 /// How often each kind of call had each answer.
 pub type Seen = BTreeMap<String, usize>;
 
-/// A call and its answer's number; for a resize that is done, how, and for a list, what is wrong with it.
-pub fn kind(call: Call, answer: &Answer) -> String {
+/// A call and its answer's number; for a resize that is done, how, and for a list, what is wrong with it. The pool is as the call left it.
+pub fn kind(call: Call, answer: &Answer, pool: &Reference) -> String {
     let told = match answer {
         Answer::Refused(r) => *r as usize,
         _ => 0,
     };
+    let enlarged = |n| if told == 3 && n < TOO_LARGE { " once enlarged" } else { "" };
     match (call, answer) {
         (Call::SetUp, _) => format!("set up {told}"),
         (Call::Grant(_), _) => format!("grant {told}"),
+        (Call::GrantAligned(_, 1..=ORDINARY), _) if told != 13 => format!("aligned as any {told}"),
+        (Call::GrantAligned(n, _), _) => format!("aligned {told}{}", enlarged(n)),
         (Call::GrantList(list), _) => format!("list {told}{}", fault(&list).map_or(String::new(), |what| format!(" by {what}"))),
         (Call::Release(_), _) => format!("release {told}"),
-        (Call::Resize(o, _), Answer::Value(v)) => format!("resize {}", if o == *v { "in place" } else { "by a move" }),
-        (Call::Resize(..), _) => format!("resize {told}"),
+        (Call::Resize(o, _), Answer::Value(v)) => format!("{}resize {}", aligned(pool, *v), if o == *v { "in place" } else { "by a move" }),
+        (Call::Resize(o, n), _) => format!("{}resize {told}{}", aligned(pool, o), enlarged(n)),
         (Call::Measure(_), _) => format!("measure {told}"),
         (Call::Report, _) => format!("report {told}"),
         (Call::Store(..), _) => "store".to_string(),
     }
 }
 
+/// Says whether a block is live and aligned.
+fn aligned(pool: &Reference, start: usize) -> &'static str {
+    if pool.alignment(start) > ORDINARY {
+        "aligned "
+    } else {
+        ""
+    }
+}
+
 /// Every answer of every call but set up while no block is damaged, and every cause of a list's 9 and 17.
-const UNDAMAGED: [&str; 26] = [
+pub const UNDAMAGED: [&str; 39] = [
     "grant 0",
     "grant 3",
     "grant 8",
+    "aligned as any 0",
+    "aligned as any 3",
+    "aligned as any 8",
+    "aligned 0",
+    "aligned 13",
+    "aligned 3",
+    "aligned 3 once enlarged",
+    "aligned 8",
     "list 0",
     "list 8",
     "list 9 by few places",
@@ -154,15 +203,20 @@ const UNDAMAGED: [&str; 26] = [
     "resize 4",
     "resize 5",
     "resize 8",
+    "aligned resize in place",
+    "aligned resize by a move",
+    "aligned resize 3",
+    "aligned resize 3 once enlarged",
+    "aligned resize 8",
     "measure 0",
     "measure 4",
     "measure 5",
     "report 0",
 ];
 
-/// Fails if an answer due without damage or among `more` was not seen, or if any other was.
-pub fn all_seen(seen: &Seen, more: &[&str]) {
-    let due: BTreeSet<&str> = UNDAMAGED.iter().chain(more).copied().collect();
+/// Fails if an answer that is due was not seen, or if any other was.
+pub fn all_seen<'a>(seen: &Seen, due: impl IntoIterator<Item = &'a str>) {
+    let due: BTreeSet<&str> = due.into_iter().collect();
     let were: BTreeSet<&str> = seen.keys().map(String::as_str).collect();
     assert_eq!(were, due, "answers that were seen, and those due");
 }

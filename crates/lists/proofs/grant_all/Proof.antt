@@ -3,6 +3,7 @@ use Rattle.mem.proofs.Prelude.{_∙_, _≡_, sym, ap, refl, subst, map, _<_, _�
 use Rattle.mem.specs.Lists.{choose}
 use Rattle.mem.specs.Bytes.{put}
 use Rattle.classes.specs.Classes.{classOf, units}
+use Rattle.classes.specs.Alignments.{ordinary}
 use Rattle.model.specs.State.{start}
 use Rattle.model.specs.Plans.{reserve, enframe, reserveAll, poolAfter, totals}
 use Rattle.model.specs.Tables.{view}
@@ -93,7 +94,7 @@ loop-again c =
     let l = d .before .loop in
     let s = d .before .before .before .before .before .before in
     let a = s .args in
-    let n = reserve (a .row) (view (a .row) (l .room)) in
+    let n = reserve (a .row) (view (a .row) (l .room)) ordinary in
     let e = w .ensures .0 in
     let (x, y, z) = one-further (a .row) (now (a .sizes)) _ _ _ (s .pre .1 .0 .0) (l .i) (l .arena) (l .room) (l .starts) (d .loop-test .taken) (l .inv .7)
     (g .last .1 .0) (g .last .1 .1 .0) (g .result .start) (g .ensures .0 .0 ∙ ap (λ k. startOr (a .row) (n k)) e)

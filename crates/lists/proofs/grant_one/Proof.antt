@@ -1,6 +1,8 @@
 -- By what is reserved.
 use Rattle.mem.proofs.Prelude.{_∙_, sym, ap, now, needs, length}
+use Rattle.classes.specs.Alignments.{ordinary}
 use Rattle.model.specs.Plans.{reserve}
+use Rattle.model.proofs.Reserve.{plain}
 use Rattle.model.specs.Tables.{byMasks, view}
 use Rattle.rows.specs.Rows.{Lent}
 use Rattle.rows.proofs.Rooms.{by-masks}
@@ -13,11 +15,17 @@ use Rattle.lists.proofs.grant_one.Tie as tie
 lent : (s : tie.Start) → Lent byMasks (s .args .row) (length (now (s .args .arena))) (now (s .args .room))
 lent s = by-masks (s .pre .0) (s .pre .1 .1)
 
+reserve-in-requires : tie.Need-reserve-in-requires
+reserve-in-requires c κs =
+    let s = c .before .before .before in
+    let (h, e, l, p, q) = s .pre .1 .0 in
+    (s .pre .0, (plain h, ((e, l, p, q), s .pre .1 .1)))
+
 returns : tie.Need-returns
 returns c =
     let d = c .before .before .before .before in
     let a = d .before .before .before .before .args in
-    let r = reserved-none (a .row) (reserve (a .row) (view (a .row) (now (a .room))) (a .s .size))
+    let r = reserved-none (a .row) (reserve (a .row) (view (a .row) (now (a .room))) ordinary (a .s .size))
     (sym (d .reserve-in .ensures .0) ∙ c .enum-told .given .1) in (
       (sym (ap (startOr (a .row)) r), sym (ap (firstOr (a .row)) r), sym (ap (totalsOr (a .row) (a .t)) r)),
       (sym (ap (arenaAfter (a .row) (now (a .arena))) r), d .reserve-in .ensures .1),
@@ -47,5 +55,5 @@ returns-2 c =
 
 pub grant-one-spec : {M : Type 1} → statement M
 grant-one-spec =
-    tie.close (tie.spec (λ c κs. search needs) (λ c. search needs) (λ c. search needs) (λ c. search needs) returns lay-out-requires
+    tie.close (tie.spec reserve-in-requires (λ c. search needs) (λ c. search needs) (λ c. search needs) returns lay-out-requires
     (λ c. search needs) (λ c. search needs) returns-2)

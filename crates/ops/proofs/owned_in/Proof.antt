@@ -1,7 +1,6 @@
 -- The number of a slot is below 31, so its bytes before it fit.
 use Rattle.mem.proofs.Prelude.{_<_, _≤_, _*_, arith}
-use Rattle.classes.proofs.Laws.{few-bytes, bytes-units, units-small}
-use Rattle.ops.proofs.Places.{small-product}
+use Rattle.classes.proofs.Laws.{few-bytes, small-product, bytes-units, units-small}
 use Rattle.ops.proofs.owned_in.Statement.{statement}
 use Rattle.ops.proofs.owned_in.Tie as tie
 

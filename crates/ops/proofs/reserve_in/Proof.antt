@@ -1,6 +1,8 @@
 -- A slot is taken at the site of the size's class.
-use Rattle.mem.proofs.Prelude.{_∙_, _≡_, sym, subst, some, _∷_, _++_, _+_, _≤_, arith, now, needs}
+use Rattle.mem.proofs.Prelude.{_∙_, _≡_, sym, subst, some, _∷_, _++_, ℕ, _+_, _≤_, arith, now, needs}
 use Rattle.classes.specs.Classes.{slotBytes}
+use Rattle.classes.specs.Alignments.{enlarged}
+use Rattle.classes.proofs.Alignments.{enlarged-least}
 use Rattle.classes.proofs.Laws.{class-facts}
 use Rattle.model.specs.State.{group, poolOf}
 use Rattle.model.specs.Plans.{Site, site, grantIn, totals}
@@ -13,14 +15,14 @@ use Rattle.ops.proofs.reserve_in.Statement.{statement}
 use Rattle.ops.proofs.reserve_in.Tie as tie
 
 room : (s : tie.Start) → Lent byMasks (s .args .row) (s .args .len) (now (s .args .room))
-room s = by-masks (s .pre .0) (s .pre .1 .1)
+room s = by-masks (s .pre .0) (s .pre .1 .1 .1)
 
 returns : tie.Need-returns
 returns c =
     let d = c .before .before .before .before in
     let s = d .before .before .before in
     let a = s .args in
-    reserved-nothing (a .row) (now (a .room)) (a .n) (a .c) (s .pre .1 .0 .1) (d .site-for .last .1 .1 .0)
+    reserved-nothing (a .row) (now (a .room)) (a .code) (a .n) (a .c) (s .pre .1 .1 .0 .0) (d .site-for .last .1 .1 .0)
     (sym (c .enum-told .given .1) ∙ d .site-for .ensures .0)
     (d .site-for .ensures .1)
 
@@ -33,30 +35,33 @@ offer : (c : tie.After-known-told) → (let d = c .before .before .before .befor
 offer c =
     let d = c .before .before .before .before .before in
     let s = d .before .before .before in
-    site-offers (room s) (s .args .c) (c .before .i .given .0 .0) (c .before .i .given .0 .1 .0) (d .site-for .last .1 .1 .0) (s .pre .1 .0 .2) (omega arith)
+    site-offers (room s) (s .args .c) (c .before .i .given .0 .0) (c .before .i .given .0 .1 .0) (d .site-for .last .1 .1 .0) (s .pre .1 .1 .0 .1) (omega arith)
     (sym (c .before .i .given .1) ∙ d .site-for .ensures .0) (d .site-for .ensures .1)
 
 take-slot-requires : tie.Need-take-slot-requires
 take-slot-requires c κs =
     let s = c .before .before .before .before .before .before .before .before .before in
     let (g, f, o, q) = offer (c .before) in
-    ((s .args .row, g, o), subst (λ k. s .args .n + 4 ≤ slotBytes k) (sym (s .pre .1 .0 .1)) (class-facts (s .args .n) (s .pre .1 .0 .0) .holds))
+    let k : ℕ = s .args .code in
+    let e : ℕ = enlarged k (s .args .n) in
+    let l = subst (λ c. e + 4 ≤ slotBytes c) (sym (s .pre .1 .1 .0 .0)) (class-facts e (s .pre .1 .0 .small) .holds) in
+    ((g, o), ((s .pre .1 .0 .last-code, omega (arith, l, enlarged-least k (s .args .n))), s .pre .1 .1 .1))
 
 -- what the taken slot does to the totals
 takes : (c : tie.After-take-slot) → (let k = c .before .before in
     let a = k .before .before .before .before .before .before .before .before .args in
-    let z = totals (a .row) (poolOf (grantIn (a .c) (a .n) (offer k .0))) in
+    let z = totals (a .row) (poolOf (grantIn (a .row) (a .c) (a .code) (a .n) (offer k .0))) in
     Takes (a .n) (c .take-slot .result .refilled) (k .before .i .given .0 .1 .0) z × Small z)
 takes c =
     let k = c .before .before in
     let s = k .before .before .before .before .before .before .before .before in
     let a = s .args in
     let (g, f, o, q) = offer k in
-    let z = totals (a .row) (poolOf (grantIn (a .c) (a .n) g)) in
-    let d = reserved-counts (a .row) (now (a .room)) (a .n) (a .c) (s .pre .1 .0 .1) g f (room s) (s .pre .1 .0 .0) (o .spare) in (
+    let z = totals (a .row) (poolOf (grantIn (a .row) (a .c) (a .code) (a .n) g)) in
+    let d = reserved-counts (a .row) (now (a .room)) (a .code) (a .n) (a .c) (s .pre .1 .1 .0 .0) g f (room s) (s .pre .1 .0) (o .spare) in (
       subst (λ k. Takes (a .n) (c .take-slot .result .refilled) k z) (sym q)
           (subst (λ k. Takes (a .n) k (totals (a .row) (g .before ++ (group (a .c) (g .slots) ∷ g .after))) z)
-          (sym (c .take-slot .ensures (a .row) g o .2)) (d .0)),
+          (sym (c .take-slot .ensures g o .2)) (d .0)),
       d .1,
     )
 
@@ -71,8 +76,8 @@ returns-2 c =
     let a = s .args in
     let (g, f, o, q) = offer d in
     let t = k .take-slot in
-    let e = t .ensures (a .row) g o in
-    reserved-slot (a .row) (now (a .room)) (a .n) (a .c) (s .pre .1 .0 .1) g f (t .result .block) (t .last .0) (c .taken .result) (e .0) (e .1)
+    let e = t .ensures g o in
+    reserved-slot (a .row) (now (a .room)) (a .code) (a .n) (a .c) (s .pre .1 .1 .0 .0) g f (t .result .block) (t .last .1 .0) (c .taken .result) (e .0) (e .1)
     (c .taken .ensures _ (takes k .0))
 
 pub reserve-in-spec : {M : Type 1} → statement M

@@ -21,18 +21,21 @@ returns c p h =
     let d = c .before .before .before .before in
     let s = d .before .before .before .before in
     let a = s .args in
-    let e = reserved-none (a .row) (reserve (a .row) (view (a .row) (now (a .room))) (a .n)) (sym (d .reserve-slot .ensures .0) ∙ c .enum-told .given .1) in
-    rw (d .reserve-slot .ensures .1 ∙ ap (roomAfter (a .row) (now (a .room))) e) (moved-nowhere (room s) (a .n) h (now (a .arena)) (a .t) (s .pre .0 .1) e)
+    let e = reserved-none (a .row) (reserve (a .row) (view (a .row) (now (a .room))) (a .b .alloc .align) (a .n))
+    (sym (d .reserve-slot .ensures .0) ∙ c .enum-told .given .1) in
+    rw (d .reserve-slot .ensures .1 ∙ ap (roomAfter (a .row) (now (a .room))) e) (moved-nowhere (room s) (a .b .alloc .align) (a .n) h (now (a .arena)) (a .t)
+    (s .pre .0 .1) (ap (λ b. b .alloc .align) (h .block)) e)
 
 -- the place that is taken, and the room with it
 new : (c : tie.After-known-told) → (let d = c .before .before .before .before .before in
     let a = d .before .before .before .before .args in
-    (q : Place) × (reserve (a .row) (view (a .row) (now (a .room))) (a .n) ≡ some q) × (blockOf (a .row) q ≡ c .before .q .given .0 .0)
+    (q : Place) × (reserve (a .row) (view (a .row) (now (a .room))) (a .b .alloc .align) (a .n) ≡ some q) × (blockOf (a .row) q ≡ c .before .q .given .0 .0)
     × (totals (a .row) (poolOf q) ≡ c .before .q .given .0 .1 .0))
 new c =
     let d = c .before .before .before .before .before in
     let a = d .before .before .before .before .args in
-    reserved-place (a .row) (reserve (a .row) (view (a .row) (now (a .room))) (a .n)) (c .before .q .given .0 .0) (c .before .q .given .0 .1 .0)
+    reserved-place (a .row) (reserve (a .row) (view (a .row) (now (a .room))) (a .b .alloc .align) (a .n)) (c .before .q .given .0 .0)
+    (c .before .q .given .0 .1 .0)
     (sym (d .reserve-slot .ensures .0) ∙ c .before .q .given .1)
 
 after : (c : tie.After-known-told) → (let d = c .before .before .before .before .before in
@@ -48,7 +51,7 @@ stands : (c : tie.After-known-told) → (let a = c .before .before .before .befo
 stands c =
     let s = c .before .before .before .before .before .before .before .before .before in
     let (q, f, e, z₀) = new c in
-    rw (sym e) (reserve-leaves (room s) (s .args .n) (s .pre .1 .1 .0) q f .stands)
+    rw (sym e) (reserve-leaves (room s) (s .args .b .alloc .align) (s .args .n) (s .pre .1 .1 .0) q f .stands)
 
 old : (s : tie.Start) → Standing (s .args .row) (length (now (s .args .arena))) (s .args .b)
 old s = held-stands (room s) (s .pre .1 .0 .1)
@@ -71,7 +74,7 @@ copy-within-requires c κs =
     let l : length (x .last .1 .0) ≡ length (now (a .arena)) = ap length (x .ensures .1) ∙ put-length _ _ (now (a .arena)) in
     let from = c .before .start-of .ensures in
     let to = x .ensures .0 ∙ ap (startAt (a .row)) (sym e) in
-    let z = taken-size (room s) (a .n) (s .pre .1 .1 .0) q f (s .pre .1 .0 .1) in
+    let z = taken-size (room s) (a .b .alloc .align) (a .n) (s .pre .1 .1 .0) q f (s .pre .1 .0 .1) in
     let zb = ap (λ b. b .alloc .size) e in
     let m = c .lesser .ensures in (
       (
@@ -79,7 +82,8 @@ copy-within-requires c κs =
         omega (arith, l, x .ensures .0, m, h .owned, h .bytes, z, zb),
       ),
       ⊎-elim (λ x. inl (omega (arith, x, from, to, m))) (λ x. inr (omega (arith, x, from, to, m)))
-          (copy-apart (room s) (a .n) (s .pre .1 .1 .0) q f (s .pre .1 .0 .1) (min (a .b .alloc .size) (a .n)) (omega arith) (omega (arith, z))),
+          (copy-apart (room s) (a .b .alloc .align) (a .n) (s .pre .1 .1 .0) q f (s .pre .1 .0 .1) (min (a .b .alloc .size) (a .n)) (omega arith)
+          (omega (arith, z))),
     )
 
 -- the old block in the room that the grant left
@@ -87,11 +91,12 @@ still : (c : tie.After-known-told) → (let s = c .before .before .before .befor
     let a = s .args in
     (p : Place) (h : Holds byMasks (a .row) (now (a .room)) (a .b) p)
     → Holds byMasks (a .row) (c .before .before .before .before .before .reserve-slot .last .1 .1 .0) (a .b)
-    (beside (room s) (a .n) (s .pre .1 .1 .0) (new c .0) (new c .1) h .place))
+    (beside (room s) (a .b .alloc .align) (a .n) (s .pre .1 .1 .0) (new c .0) (new c .1) h .place))
 still c p h =
     let s = c .before .before .before .before .before .before .before .before .before in
-    subst (λ u. Holds byMasks (s .args .row) u (s .args .b) (beside (room s) (s .args .n) (s .pre .1 .1 .0) (new c .0) (new c .1) h .place))
-    (sym (after c)) (beside-holds (room s) (s .args .n) (s .pre .1 .1 .0) (new c .0) (new c .1) h)
+    subst (λ u. Holds byMasks (s .args .row) u (s .args .b) (beside (room s) (s .args .b .alloc .align) (s .args .n) (s .pre .1 .1 .0) (new c .0)
+    (new c .1) h .place))
+    (sym (after c)) (beside-holds (room s) (s .args .b .alloc .align) (s .args .n) (s .pre .1 .1 .0) (new c .0) (new c .1) h)
 
 discard-requires : tie.Need-discard-requires
 discard-requires c κs =
@@ -104,8 +109,8 @@ discard-requires c κs =
     ∙ put-length _ _ (now (a .arena)) in
     let (q, f, e, z₀) = new k in (
       (
-        ap₂ (sound (a .row)) l (after k) ∙ reserve-leaves (room s) (a .n) (s .pre .1 .1 .0) q f .room .sound,
-        sym z₀ ∙ ap (totals (a .row)) (sym (ap (view (a .row)) (after k) ∙ reserve-leaves (room s) (a .n) (s .pre .1 .1 .0) q f .says)),
+        ap₂ (sound (a .row)) l (after k) ∙ reserve-leaves (room s) (a .b .alloc .align) (a .n) (s .pre .1 .1 .0) q f .room .sound,
+        sym z₀ ∙ ap (totals (a .row)) (sym (ap (view (a .row)) (after k) ∙ reserve-leaves (room s) (a .b .alloc .align) (a .n) (s .pre .1 .1 .0) q f .says)),
       ),
       ((_, still k (s .pre .1 .0 .0) (s .pre .1 .0 .1)), s .pre .1 .1 .1),
     )
@@ -125,8 +130,9 @@ returns-2 c p h =
     let g = d .ensures _ (still k p h) in
     let copied : y .last .0 ≡ put (startAt (a .row) b) (part (startAt (a .row) (a .b)) (min (a .b .alloc .size) (a .n)) (x .last .1 .0)) (x .last .1 .0) =
     y .ensures ∙ rw (x .ensures .0, from .ensures, m .ensures) in
-    moved (room s) (a .n) (s .pre .1 .1 .0) (new k .0) (new k .1) h b (now (a .arena)) (x .last .1 .0) (y .last .0) (d .last .1 .0) (d .last .1 .1 .0)
-    (x .result) (d .result) (new k .2) (x .ensures .1) copied (g .0) (g .1) (g .2) (x .ensures .0)
+    moved (room s) (a .b .alloc .align) (a .n) (s .pre .1 .1 .0) (new k .0) (new k .1) h b (now (a .arena)) (x .last .1 .0) (y .last .0) (d .last .1 .0)
+    (d .last .1 .1 .0)
+    (x .result) (d .result) (new k .2) (x .ensures .1) copied (g .0) (g .1) (g .2) (x .ensures .0) (ap (λ b. b .alloc .align) (h .block))
 
 pub resize-by-move-spec : {M : Type 1} → statement M
 resize-by-move-spec =

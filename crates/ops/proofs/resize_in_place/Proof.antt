@@ -1,5 +1,7 @@
 -- The frame is written anew, and the slot's record.
-use Rattle.mem.proofs.Prelude.{_∙_, arith, now, needs, length}
+use Rattle.mem.proofs.Prelude.{_∙_, _<_, arith, now, needs, length}
+use Rattle.classes.specs.Classes.{tooLarge}
+use Rattle.classes.proofs.Alignments.{enlarged-least}
 use Rattle.rows.proofs.Rooms.{by-masks}
 use Rattle.ops.specs.Blocks.{Standing}
 use Rattle.ops.proofs.Places.{held-stands}
@@ -10,6 +12,10 @@ use Rattle.ops.proofs.resize_in_place.Tie as tie
 
 stands : (s : tie.Start) → Standing (s .args .row) (length (now (s .args .arena))) (s .args .b)
 stands s = held-stands (by-masks (s .pre .0 .0) (s .pre .1 .1 .1)) (s .pre .1 .0 .1)
+
+-- the size is one that can be asked for
+small : (s : tie.Start) → s .args .n < tooLarge
+small s = let h = s .pre .1 .1 .0 .1 in omega (arith, h .small, enlarged-least (s .args .b .alloc .align) (s .args .n))
 
 owned-of-requires : tie.Need-owned-of-requires
 owned-of-requires c κs = let h = stands (c .before .before .before .before) in ((h .class, h .slot, omega (arith, h .few)), search needs)
@@ -30,7 +36,7 @@ resize-slot-requires c κs =
 sized-requires : tie.Need-sized-requires
 sized-requires c κs =
     let s = c .before .before .before .before .before .before .before .before .before .before .before .before in
-    let d = sized-counts (s .pre .1 .0 .1) (s .args .t) (s .pre .0 .1) (s .args .n) (s .pre .1 .1 .0 .1) in
+    let d = sized-counts (s .pre .1 .0 .1) (s .args .t) (s .pre .0 .1) (s .args .n) (small s) in
     (_, d .0, d .1)
 
 returns : tie.Need-returns
@@ -42,7 +48,7 @@ returns c p h =
       in-place-writes h (now (a .arena)) (a .n) (r .before .owned-of .result) (kept .result) (r .reframe-at .last .0) (r .before .owned-of .ensures .0)
           (kept .ensures) (r .reframe-at .ensures),
       c .before .before .before .resize-slot .ensures (a .row) p h ∙ in-place-pool (a .row) p (a .n),
-      c .sized .ensures _ (sized-counts h (a .t) (s .pre .0 .1) (a .n) (s .pre .1 .1 .0 .1) .0),
+      c .sized .ensures _ (sized-counts h (a .t) (s .pre .0 .1) (a .n) (small s) .0),
     )
 
 pub resize-in-place-spec : {M : Type 1} → statement M

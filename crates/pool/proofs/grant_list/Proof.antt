@@ -1,5 +1,5 @@
 -- Test by test, in the order of the answers; then all sizes are granted.
-use Rattle.mem.proofs.Prelude.{_∙_, _≡_, sym, ap, ap₂, true, _&&_, now, needs, not-false, not-true, lit≤, le-leb, lt-leb, leb, length, arith, and-false}
+use Rattle.mem.proofs.Prelude.{_∙_, _≡_, sym, ap, ap₂, true, _&&_, now, needs, not-false, not-true, le-leb, lt-leb, leb, length, arith, and-false}
 use Rattle.mem.specs.Lists.{isSome}
 use Rattle.mem.specs.Bytes.{put}
 use Rattle.mem.proofs.Tests.{true-T, T-true}
@@ -13,6 +13,7 @@ use Rattle.model.proofs.Kept.{kept-totals}
 use Rattle.model.proofs.Calls.{call-unsound}
 use Rattle.model.proofs.Lists.{small, accepts-small, accepts-few}
 use Rattle.ops.proofs.Calls.{Checked, by-check}
+use Rattle.pool.proofs.Fresh.{card-row}
 use Rattle.pool.proofs.Lists.{refused-parts, too-long, bad-proposal, no-room, whole}
 use Rattle.pool.proofs.grant_list.Statement.{statement}
 use Rattle.pool.proofs.grant_list.Tie as tie
@@ -34,7 +35,7 @@ unfolding rowBytes
 lent c =
     let a = c .before .before .before .before .before .before .before .args in
     by-check (now (a .arena)) (keptIn (now (a .room)) (a .t)) (sym (c .before .sound .ensures) ∙ not-false (c .before .sound .result) (c .if1 .left))
-    (lit≤ tt, lit≤ tt)
+    card-row
 
 counts : (c : tie.Else1) → (let a = c .before .before .before .before .before .before .before .args in a .t ≡ totals rowBytes (view rowBytes (now (a .room))))
 unfolding rowBytes
@@ -95,7 +96,7 @@ fits-requires c κs =
     let d = c .before in
     let s = d .before .before .before .before .before in
     let a = s .before .before .before .before .before .before .before .args in
-    (lent s .room .sound, (T-true (small (now (a .sizes))) (accepts-small (a .total) (a .cap) (now (a .sizes)) (true-T _ (right d))), (lit≤ tt, lit≤ tt)))
+    (lent s .room .sound, (T-true (small (now (a .sizes))) (accepts-small (a .total) (a .cap) (now (a .sizes)) (true-T _ (right d))), card-row))
 
 returns-5 : tie.Need-returns-5
 unfolding rowBytes
@@ -130,7 +131,7 @@ grant-all-requires c κs =
       lent s .room .sound,
       (
         (T-true (small (now (a .sizes))) (accepts-small (a .total) (a .cap) (now (a .sizes)) t), omega (arith, f, k .if3 .left)),
-        ((fit e, counts s), (lit≤ tt, lit≤ tt)),
+        ((fit e, counts s), card-row),
       ),
     )
 

@@ -1,5 +1,5 @@
 -- By what is located.
-use Rattle.mem.proofs.Prelude.{_∙_, sym, ap, refl, [], _∷_, now, needs, not-false, not-true, lit≤}
+use Rattle.mem.proofs.Prelude.{_∙_, sym, ap, refl, [], _∷_, now, needs, not-false, not-true}
 use Rattle.classes.specs.Classes.{rowBytes}
 use Rattle.model.specs.Answers.{done}
 use Rattle.model.specs.Plans.{measures, measureAt}
@@ -7,7 +7,7 @@ use Rattle.model.specs.Tables.{view}
 use Rattle.model.specs.Calls.{keptIn}
 use Rattle.model.proofs.Calls.{call-unsound}
 use Rattle.ops.proofs.Calls.{Checked, by-check, called-at, called-refused, measuring}
-use Rattle.pool.proofs.Fresh.{parts}
+use Rattle.pool.proofs.Fresh.{card-row, parts}
 use Rattle.pool.proofs.measure.Statement.{statement}
 use Rattle.pool.proofs.measure.Tie as tie
 
@@ -25,11 +25,11 @@ unfolding rowBytes
 lent c =
     let a = c .before .before .before .before .args in
     by-check (now (a .arena)) (keptIn (now (a .room)) (a .t)) (sym (c .before .sound .ensures) ∙ not-false (c .before .sound .result) (c .if1 .left))
-    (lit≤ tt, lit≤ tt)
+    card-row
 
 locate-requires : tie.Need-locate-requires
 unfolding rowBytes
-locate-requires c κs = (lent c .room .sound, (lit≤ tt, lit≤ tt))
+locate-requires c κs = (lent c .room .sound, card-row)
 
 returns-2 : tie.Need-returns-2
 unfolding rowBytes

@@ -1,5 +1,5 @@
 -- By what is located.
-use Rattle.mem.proofs.Prelude.{_∙_, _≡_, sym, now, needs, not-false, not-true, lit≤, length}
+use Rattle.mem.proofs.Prelude.{_∙_, _≡_, sym, now, needs, not-false, not-true, length}
 use Rattle.classes.specs.Classes.{rowBytes}
 use Rattle.model.specs.Plans.{releases, releaseAt, totals}
 use Rattle.model.specs.Tables.{view}
@@ -7,7 +7,7 @@ use Rattle.model.specs.Calls.{keptIn}
 use Rattle.model.proofs.Kept.{kept-totals}
 use Rattle.model.proofs.Calls.{call-unsound}
 use Rattle.ops.proofs.Calls.{Checked, by-check, Called, called-at, called-refused, releasing, release-names, release-done}
-use Rattle.pool.proofs.Fresh.{parts, refused-as}
+use Rattle.pool.proofs.Fresh.{card-row, parts, refused-as}
 use Rattle.pool.proofs.release.Statement.{statement}
 use Rattle.pool.proofs.release.Tie as tie
 
@@ -26,7 +26,7 @@ unfolding rowBytes
 lent c =
     let a = c .before .before .before .before .before .args in
     by-check (now (a .arena)) (keptIn (now (a .room)) (a .t)) (sym (c .before .sound .ensures) ∙ not-false (c .before .sound .result) (c .if1 .left))
-    (lit≤ tt, lit≤ tt)
+    card-row
 
 counts : (c : tie.Else1) → (let a = c .before .before .before .before .before .args in a .t ≡ totals rowBytes (view rowBytes (now (a .room))))
 unfolding rowBytes
@@ -35,7 +35,7 @@ counts c = let a = c .before .before .before .before .before .args in kept-total
 
 locate-requires : tie.Need-locate-requires
 unfolding rowBytes
-locate-requires c κs = (lent (c .before .before) .room .sound, (lit≤ tt, lit≤ tt))
+locate-requires c κs = (lent (c .before .before) .room .sound, card-row)
 
 -- the block that is located
 block : (c : tie.After-known-told) → (let z = c .before .before .before .before .before .before in
@@ -53,7 +53,7 @@ unfolding rowBytes
 discard-requires c κs =
     let k = c .before .before in
     let z = k .before .before .before .before .before .before in
-    ((lent z .room .sound, counts z), ((block k .place, block k .holds), (lit≤ tt, lit≤ tt)))
+    ((lent z .room .sound, counts z), ((block k .place, block k .holds), card-row))
 
 returns-2 : tie.Need-returns-2
 unfolding rowBytes

@@ -1,11 +1,11 @@
 -- The totals of the record, which are those of the tables.
-use Rattle.mem.proofs.Prelude.{_∙_, sym, now, needs, not-false, not-true, lit≤}
+use Rattle.mem.proofs.Prelude.{_∙_, sym, now, needs, not-false, not-true}
 use Rattle.classes.specs.Classes.{rowBytes}
 use Rattle.model.specs.Plans.{reports}
 use Rattle.model.specs.Calls.{keptIn}
 use Rattle.model.proofs.Calls.{call-unsound}
 use Rattle.ops.proofs.Calls.{Checked, by-check, reporting}
-use Rattle.pool.proofs.Fresh.{parts}
+use Rattle.pool.proofs.Fresh.{card-row, parts}
 use Rattle.pool.proofs.report.Statement.{statement}
 use Rattle.pool.proofs.report.Tie as tie
 
@@ -22,7 +22,7 @@ unfolding rowBytes
 lent c =
     let a = c .before .before .before .before .args in
     by-check (now (a .arena)) (keptIn (now (a .room)) (a .t)) (sym (c .before .sound .ensures) ∙ not-false (c .before .sound .result) (c .if1 .left))
-    (lit≤ tt, lit≤ tt)
+    card-row
 
 returns-2 : tie.Need-returns-2
 unfolding rowBytes

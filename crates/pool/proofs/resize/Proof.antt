@@ -1,15 +1,19 @@
 -- By what is located.
-use Rattle.mem.proofs.Prelude.{_∙_, _≡_, sym, subst, _<_, now, needs, not-false, not-true, lit≤, length}
+use Rattle.mem.proofs.Prelude.{_∙_, _≡_, sym, ap, subst, _<_, arith, now, needs, not-false, not-true, leb, leb-false, length}
 use Rattle.classes.specs.Classes.{rowBytes, tooLarge}
-use Rattle.model.specs.Plans.{resizes, resizeAt, totals}
+use Rattle.classes.specs.Alignments.{enlarged, Askable}
+use Rattle.model.specs.Plans.{resizes, resizeAt, lookup, newSize, totals}
 use Rattle.model.specs.Tables.{view}
 use Rattle.model.specs.Calls.{keptIn}
 use Rattle.model.proofs.Kept.{kept-totals}
 use Rattle.model.proofs.Calls.{call-unsound}
-use Rattle.ops.specs.Blocks.{CarriedOut}
-use Rattle.ops.proofs.Places.{held-pool}
+use Rattle.model.proofs.Lookup.{fits}
+use Rattle.model.proofs.Formed.{code-kept}
+use Rattle.search.specs.Found.{looked}
+use Rattle.ops.specs.Blocks.{codeFound, judged, located, CarriedOut}
+use Rattle.ops.proofs.Places.{held-pool, Known, found-known, judged-looked, new-size}
 use Rattle.ops.proofs.Calls.{Checked, by-check, Called, called-at, called-refused, resizing, resize-names, resize-too-large}
-use Rattle.pool.proofs.Fresh.{parts, refused-as}
+use Rattle.pool.proofs.Fresh.{card-row, parts, refused-as, carried-as}
 use Rattle.pool.proofs.resize.Statement.{statement}
 use Rattle.pool.proofs.resize.Tie as tie
 
@@ -22,83 +26,145 @@ returns d =
     refused-as (d .refused .ensures) (parts (sym (call-unsound rowBytes (now (a .arena)) (keptIn (now (a .room)) (a .t)) (resizes (a .offset) (a .n)) tt
     (sym (w .ensures) ∙ not-true (w .result) (c .if1 .taken)))))
 
--- the tables are sound, and the size is allowed
+-- the tables are sound
 lent : (c : tie.Else1) → (let a = c .before .before .before .before .before .args in Checked rowBytes (now (a .arena)) (keptIn (now (a .room)) (a .t)))
 unfolding rowBytes
 lent c =
     let a = c .before .before .before .before .before .args in
     by-check (now (a .arena)) (keptIn (now (a .room)) (a .t)) (sym (c .before .sound .ensures) ∙ not-false (c .before .sound .result) (c .if1 .left))
-    (lit≤ tt, lit≤ tt)
+    card-row
 
 counts : (c : tie.Else1) → (let a = c .before .before .before .before .before .args in a .t ≡ totals rowBytes (view rowBytes (now (a .room))))
 unfolding rowBytes
 counts c = let a = c .before .before .before .before .before .args in kept-totals rowBytes (length (now (a .arena))) (keptIn (now (a .room)) (a .t))
     (lent c .kept)
 
-small : (c : tie.Else2) → c .before .before .before .before .before .before .args .n < tooLarge
-unfolding tooLarge
-small c = c .if2 .left
+-- what is found at the offset
+known : (c : tie.After-find-block) → (let a = c .before .before .before .before .before .before .before .args in
+    c .find-block .result ≡ looked rowBytes (lookup rowBytes (view rowBytes (now (a .room))) (a .offset)))
+unfolding rowBytes
+known c = c .find-block .ensures
+
+find-block-requires : tie.Need-find-block-requires
+unfolding rowBytes
+find-block-requires c κs = (lent (c .before) .room .sound, card-row)
+
+-- it lies in the arena, and has an alignment that the tables keep
+found : (c : tie.After-find-block) → (let i = c .before .before in
+    let a = i .before .before .before .before .before .args in
+    Known (lent i .room) (a .offset) (c .find-block .result))
+unfolding rowBytes
+found c =
+    let i = c .before .before in
+    let a = i .before .before .before .before .before .args in
+    subst (Known (lent i .room) (a .offset)) (sym (known c)) (found-known (lent i .room) (a .offset))
+
+too-large-requires : tie.Need-too-large-requires
+too-large-requires c κs = omega (arith, c .code-found .ensures, found (c .before) .last-code)
+
+-- the size by what is looked up
+tested : (c : tie.After-too-large) → (let f = c .before .before in
+    let a = f .before .before .before .before .before .before .before .args in
+    leb tooLarge (enlarged (codeFound (looked rowBytes (lookup rowBytes (view rowBytes (now (a .room))) (a .offset)))) (a .n)) ≡ c .too-large .result)
+unfolding rowBytes
+tested c =
+    let f = c .before .before in
+    let a = f .before .before .before .before .before .before .before .args in
+    ap (λ k. leb tooLarge (enlarged k (a .n))) (ap codeFound (sym (known f)) ∙ sym (c .before .code-found .ensures)) ∙ sym (c .too-large .ensures)
 
 returns-2 : tie.Need-returns-2
-unfolding rowBytes tooLarge
+unfolding rowBytes
 returns-2 d =
     let c = d .before in
-    let a = c .before .before .before .before .before .before .args in
-    refused-as (d .refused2 .ensures) (parts (sym (resize-too-large (now (a .arena)) (lent (c .before)) (a .offset) (a .n) (c .if2 .taken))))
+    let i = c .before .before .before .before .before in
+    let a = i .before .before .before .before .before .args in
+    refused-as (d .refused2 .ensures) (parts (sym (resize-too-large (now (a .arena)) (lent i) (a .offset) (a .n) (tested (c .before) ∙ c .if2 .taken))))
 
-locate-requires : tie.Need-locate-requires
+judge-requires : tie.Need-judge-requires
 unfolding rowBytes
-locate-requires c κs = (lent (c .before .before .before) .room .sound, (lit≤ tt, lit≤ tt))
+judge-requires c κs = (found (c .before .before .before .before) .lies, card-row)
+
+-- what is judged is what is located
+judging : (c : tie.After-judge) → (let f = c .before .before .before .before .before in
+    let a = f .before .before .before .before .before .before .before .args in
+    c .judge .result ≡ located rowBytes (now (a .arena)) (lookup rowBytes (view rowBytes (now (a .room))) (a .offset)))
+unfolding rowBytes
+judging c =
+    let f = c .before .before .before .before .before in
+    let a = f .before .before .before .before .before .before .before .args in
+    c .judge .ensures ∙ ap (judged rowBytes (now (a .arena))) (known f)
+    ∙ judged-looked rowBytes (now (a .arena)) (lookup rowBytes (view rowBytes (now (a .room))) (a .offset))
 
 -- the block that is located
-block : (c : tie.After-known-told) → (let z = c .before .before .before .before .before .before .before in
+block : (c : tie.After-known-told) → (let z = c .before .before .before .before .before .before .before .before .before .before in
     let a = z .before .before .before .before .before .args in
     let P = view rowBytes (now (a .room)) in
     Called (now (a .arena)) (lent z) (a .offset) (resizeAt rowBytes P (a .n)) (resize-names rowBytes P (a .n)) (c .before .b .given .0 .0))
 unfolding rowBytes
 block c =
-    let z = c .before .before .before .before .before .before .before in
+    let z = c .before .before .before .before .before .before .before .before .before .before in
     let a = z .before .before .before .before .before .args in
     let P = view rowBytes (now (a .room)) in
     called-at (now (a .arena)) (lent z) (a .offset) (resizeAt rowBytes P (a .n)) (resize-names rowBytes P (a .n)) (c .before .b .given .0 .0)
-    (sym (c .before .b .given .1) ∙ c .before .before .before .locate .ensures)
+    (sym (c .before .b .given .1) ∙ judging (c .before .before .before))
+
+-- its size is one that can be asked for
+small : (c : tie.After-known-told) → (let z = c .before .before .before .before .before .before .before .before .before .before in
+    Askable (c .before .b .given .0 .0 .alloc .align) (z .before .before .before .before .before .args .n))
+unfolding rowBytes
+small c =
+    let e = c .before .before .before .before .before in
+    let z = e .before .before .before .before .before in
+    let a = z .before .before .before .before .before .args in
+    let b = block c in
+    let o = b .looked-up in
+    let k = code-kept (b .place .cls) (b .place .state) (b .holds .live) (fits (b .place) (b .holds .formed) .state) in
+    let s = leb-false tooLarge (newSize (lookup rowBytes (view rowBytes (now (a .room))) (a .offset)) (a .n))
+    (ap (leb tooLarge) (sym (new-size rowBytes (lookup rowBytes (view rowBytes (now (a .room))) (a .offset)) (a .n))) ∙ tested (e .before) ∙ e .if2 .left) in
+    subst (λ v. Askable v (a .n)) (sym (ap (λ b. b .alloc .align) (b .holds .block))) (record {
+      some-code = k .0;
+      last-code = k .1;
+      small = subst (λ q. newSize q (a .n) < tooLarge) o s;
+    })
 
 change-size-requires : tie.Need-change-size-requires
 unfolding rowBytes
 change-size-requires c κs =
     let k = c .before .before in
-    let z = k .before .before .before .before .before .before in
-    ((lent (z .before) .room .sound, counts (z .before)), ((block k .place, block k .holds), (small z, (lit≤ tt, lit≤ tt))))
+    let z = k .before .before .before .before .before .before .before .before .before .before in
+    ((lent z .room .sound, counts z), ((block k .place, block k .holds), (small k, card-row)))
 
 returns-3 : tie.Need-returns-3
 unfolding rowBytes
 returns-3 c =
     let k = c .before .before .before .before .before .before .before in
-    let z = k .before .before .before .before .before .before in
-    let a = z .before .before .before .before .before .before .args in
+    let e = k .before .before .before .before .before in
+    let z = e .before .before .before .before .before in
+    let a = z .before .before .before .before .before .args in
     let b = block k in
     let r = c .before .before .before .before .change-size in
     let d : CarriedOut rowBytes (now (a .arena)) (resizeAt rowBytes (view rowBytes (now (a .room))) (a .n) (b .place)) (r .result .reply) (r .last .1 .0)
     (r .last .1 .1 .0) (r .result .totals) =
     subst (λ P. CarriedOut rowBytes (now (a .arena)) (resizeAt rowBytes P (a .n) (b .place)) (r .result .reply) (r .last .1 .0) (r .last .1 .1 .0)
     (r .result .totals))
-    (sym (held-pool (lent (z .before) .room) (b .holds))) (r .ensures (b .place) (b .holds)) in
-    let p = parts (sym (resizing (now (a .arena)) (lent (z .before)) (a .offset) (a .n) (small z) ∙ b .result)) in
-    (d .answer ∙ p .0, (d .arena ∙ p .1 .0, (d .room ∙ p .1 .1 .0, d .counts ∙ p .1 .1 .1)))
+    (sym (held-pool (lent z .room) (b .holds))) (r .ensures (b .place) (b .holds)) in
+    carried-as d (resizing (now (a .arena)) (lent z) (a .offset) (a .n) (tested (e .before) ∙ e .if2 .left) ∙ b .result)
 
 returns-4 : tie.Need-returns-4
 unfolding rowBytes
 returns-4 d =
     let c = d .before in
-    let z = c .before .before .before .before .before .before in
-    let a = z .before .before .before .before .before .before .args in
+    let j = c .before .before .before in
+    let e = j .before .before in
+    let z = e .before .before .before .before .before in
+    let a = z .before .before .before .before .before .args in
     let P = view rowBytes (now (a .room)) in
-    refused-as (d .refused3 .ensures) (parts (sym (resizing (now (a .arena)) (lent (z .before)) (a .offset) (a .n) (small z)
-    ∙ called-refused (now (a .arena)) (lent (z .before)) (a .offset) (resizeAt rowBytes P (a .n)) (resize-names rowBytes P (a .n)) (c .before .r .given .0 .0)
-    (sym (c .before .r .given .1) ∙ c .before .before .before .locate .ensures))))
+    refused-as (d .refused3 .ensures) (parts (sym (resizing (now (a .arena)) (lent z) (a .offset) (a .n) (tested (e .before) ∙ e .if2 .left)
+    ∙ called-refused (now (a .arena)) (lent z) (a .offset) (resizeAt rowBytes P (a .n)) (resize-names rowBytes P (a .n)) (c .before .r .given .0 .0)
+    (sym (c .before .r .given .1) ∙ judging j))))
 
 pub resize-spec : {M : Type 1} → statement M
 resize-spec =
-    tie.close (tie.spec (λ c κs. search needs) (λ c κs. search needs) (λ c. search needs) returns (λ c κs. search needs) (λ c. search needs) returns-2
-    locate-requires (λ c. search needs) change-size-requires (λ c. search needs) (λ c κs. search needs) (λ c. search needs) (λ c. search needs)
-    returns-3 (λ c. search needs) (λ c. search needs) returns-4)
+    tie.close (tie.spec (λ c κs. search needs) (λ c κs. search needs) (λ c. search needs) returns find-block-requires (λ c κs. search needs)
+    too-large-requires (λ c κs. search needs) (λ c. search needs) returns-2 judge-requires (λ c. search needs) change-size-requires (λ c. search needs)
+    (λ c κs. search needs) (λ c. search needs) (λ c. search needs) returns-3 (λ c. search needs) (λ c. search needs) returns-4)

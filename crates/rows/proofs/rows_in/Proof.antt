@@ -9,19 +9,27 @@ use Rattle.rows.proofs.rows_in.Tie as tie
 
 returns : tie.Need-returns
 unfolding arenaRows arenaRight choose
-returns c = let a = c .before .args in (sym (simp (lt-leb (a .row) (a .len) (c .if1 .taken))), search needs)
+returns c = let a = c .before .args in (sym (simp (eq-eqb (a .row % 16) 0 (c .before .pre .2), lt-leb (a .row) (a .len) (c .if1 .taken))), search needs)
 
 returns-2 : tie.Need-returns-2
 unfolding arenaRows arenaRight choose
 returns-2 c =
-    let a = c .before .before .args in
-    (sym (simp (le-leb (a .row) (a .len) (c .before .if1 .left), lt-leb (a .len) (512 * a .row) (c .if2 .taken))), search needs)
+    let a = c .before .before .args in (
+      sym (simp (
+        eq-eqb (a .row % 16) 0 (c .before .before .pre .2),
+        le-leb (a .row) (a .len) (c .before .if1 .left),
+        lt-leb (a .len) (512 * a .row)
+            (c .if2 .taken),
+      )),
+      search needs,
+    )
 
 returns-3 : tie.Need-returns-3
 unfolding arenaRows arenaRight choose
 returns-3 c =
     let a = c .before .before .before .args in (
       sym (simp (
+        eq-eqb (a .row % 16) 0 (c .before .before .before .pre .2),
         le-leb (a .row) (a .len) (c .before .before .if1 .left),
         le-leb (a .len) (512 * a .row) (c .before .if2 .left),
         ne-eqb (a .len % a .row) 0 (c .if3 .taken),
@@ -34,6 +42,7 @@ unfolding arenaRows arenaRight choose
 returns-4 c =
     let a = c .before .before .before .args in (
       sym (simp (
+        eq-eqb (a .row % 16) 0 (c .before .before .before .pre .2),
         le-leb (a .row) (a .len) (c .before .before .if1 .left),
         le-leb (a .len) (512 * a .row) (c .before .if2 .left),
         eq-eqb (a .len % a .row) 0 (c .if3 .left),

@@ -1,5 +1,5 @@
 -- `held_counted` meets its contract: each return is the law of a group's rows under the tests so far.
-use Rattle.mem.proofs.Prelude.{_∙_, _≡_, sym, refl, _&&_, and-false, _+_, ℕ, _-_, now, needs, not-false, not-true, le-leb, lt-leb, leb, drop}
+use Rattle.mem.proofs.Prelude.{_∙_, _≡_, sym, refl, _&&_, and-false, _+_, ℕ, _*_, _-_, now, needs, not-false, not-true, le-leb, lt-leb, leb, drop}
 use Rattle.mem.specs.Lists.{choose, starts}
 use Rattle.classes.specs.Classes.{rowsOf}
 use Rattle.model.specs.Tables.{rowAt, byMasks, laterRecords, viewGroup}
@@ -13,10 +13,10 @@ use Rattle.soundness.proofs.held_counted.Tie as tie
 law : (b : tie.Start) (k : ℕ) → (let a = b .args in
     let t = drop (rowAt (a .i)) (now (a .room)) in
     k ≡ rowsOf (a .row) (a .c)
-    → spanCounted (a .row) (a .n) t
-    ≡ countedIf (leb k (a .n) && starts (drop (rowAt (a .i + 1)) (now (a .room))) (laterRecords (k - 1) 1) && groupChecked byMasks (a .c) t)
+    → spanCounted (a .row) (a .row * a .i) (a .n) t
+    ≡ countedIf (leb k (a .n) && starts (drop (rowAt (a .i + 1)) (now (a .room))) (laterRecords (k - 1) 1) && groupChecked byMasks (a .row * a .i) (a .c) t)
     (groupTotals k (viewGroup (a .c) t)))
-law b k e = let a = b .args in held-counted (a .row) (a .n) (a .i) (a .c) k (now (a .room)) (b .pre .1 .0) e
+law b k e = let a = b .args in held-counted (a .row) (a .row * a .i) (a .n) (a .i) (a .c) k (now (a .room)) (b .pre .1 .0) e
 
 returns : tie.Need-returns
 unfolding choose
@@ -24,7 +24,7 @@ returns c =
     let a = c .before .before .args in
     let k = rowsOf (a .row) (a .c) in
     sym (law (c .before .before) k refl
-    ∙ simp (no-class byMasks (a .c) (drop (rowAt (a .i)) (now (a .room))) (c .if1 .taken), and-false))
+    ∙ simp (no-class byMasks (a .row * a .i) (a .c) (drop (rowAt (a .i)) (now (a .room))) (c .if1 .taken), and-false))
 
 returns-2 : tie.Need-returns-2
 unfolding choose
@@ -35,8 +35,8 @@ returns-2 c =
 -- past the test of how many rows are left
 laters : (e : tie.After-laters-sound) → (let a = e .before .before .before .before .before .args in
     let t = drop (rowAt (a .i)) (now (a .room)) in
-    spanCounted (a .row) (a .n) t
-    ≡ countedIf (e .laters-sound .result && groupChecked byMasks (a .c) t) (groupTotals (e .before .before .rows .result) (viewGroup (a .c) t)))
+    spanCounted (a .row) (a .row * a .i) (a .n) t
+    ≡ countedIf (e .laters-sound .result && groupChecked byMasks (a .row * a .i) (a .c) t) (groupTotals (e .before .before .rows .result) (viewGroup (a .c) t)))
 laters e =
     let r = e .before .before .rows in
     law (e .before .before .before .before .before) (r .result) (r .ensures .0)

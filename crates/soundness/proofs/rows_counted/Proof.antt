@@ -1,5 +1,5 @@
 -- `rows_counted` meets its contract. The invariant: what is counted of all rows is what was counted, and what is of those that are left.
-use Rattle.mem.proofs.Prelude.{_∙_, sym, _-_, arith, now, needs, drop}
+use Rattle.mem.proofs.Prelude.{_∙_, sym, _*_, _-_, arith, now, needs, drop}
 use Rattle.model.specs.Tables.{rowAt}
 use Rattle.soundness.specs.Counts.{allRows}
 use Rattle.soundness.proofs.Counts.{Begun, Passed, span-counts, none-passed, more-passed, all-passed, not-passed}
@@ -19,13 +19,13 @@ loop-holds c = let a = c .before .args in none-passed (a .row) (a .n) (now (a .r
 begun : (c : tie.After-known-told Inv-loop μ-loop) → (let l = c .before .before .before .before .before .before .before in
     let a = l .before .before .args in
     let i = allRows (l .loop .s) in
-    Begun (a .row) (a .n - i) (drop (rowAt i) (now (a .room))) (c .before .u .given .0 .0))
+    Begun (a .row) (a .row * i) (a .n - i) (drop (rowAt i) (now (a .room))) (c .before .u .given .0 .0))
 begun c =
     let l = c .before .before .before .before .before .before .before in
     let a = l .before .before .args in
     let i = allRows (l .loop .s) in
     let x = c .before .u .given in
-    span-counts (a .row) (omega arith) (a .n - i) (drop (rowAt i) (now (a .room))) (omega arith) (x .0 .0)
+    span-counts (a .row) (omega arith) (a .row * i) (a .n - i) (drop (rowAt i) (now (a .room))) (omega arith) (x .0 .0)
     (sym (c .before .before .before .span-counted .ensures) ∙ x .1)
 
 plus-requires : tie.Need-plus-requires Inv-loop μ-loop

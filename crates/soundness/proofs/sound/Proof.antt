@@ -28,7 +28,7 @@ law : (e : tie.Else1) → (let a = e .before .before .before .args in
     let t = now (a .room) in
     let n = e .before .rows-in .result in
     sound (a .row) (a .len) t
-    ≡ (eqb (length t) (rowAt n) && eqb (number (part 0 4 t)) (a .len) && same (part 4 12 t) (zeros 12) && rowsChecked byMasks (a .row) n (drop 16 t)))
+    ≡ (eqb (length t) (rowAt n) && eqb (number (part 0 4 t)) (a .len) && same (part 4 12 t) (zeros 12) && rowsChecked byMasks (a .row) 0 n (drop 16 t)))
 unfolding roomChecked
 law e =
     let a = e .before .before .before .args in
@@ -48,7 +48,7 @@ returns-2 c =
 sized : (e : tie.Else2) → (let a = e .before .before .before .before .before .args in
     let t = now (a .room) in
     sound (a .row) (a .len) t
-    ≡ (eqb (number (part 0 4 t)) (a .len) && same (part 4 12 t) (zeros 12) && rowsChecked byMasks (a .row) (e .before .before .before .rows-in .result)
+    ≡ (eqb (number (part 0 4 t)) (a .len) && same (part 4 12 t) (zeros 12) && rowsChecked byMasks (a .row) 0 (e .before .before .before .rows-in .result)
     (drop 16 t)))
 sized e =
     law (e .before .before) ∙ simp (eq-eqb (length (now (e .before .before .before .before .before .args .room))) _ (e .if2 .left ∙ e .before .row-at .ensures))
@@ -62,7 +62,7 @@ returns-3 c =
 -- past the tests of the room's head
 head : (e : tie.After-zeros-at) → (let b = e .before .before .before .before .before .before in
     let a = b .before .before .args in
-    sound (a .row) (a .len) (now (a .room)) ≡ (e .zeros-at .result && rowsChecked byMasks (a .row) (b .rows-in .result) (drop 16 (now (a .room)))))
+    sound (a .row) (a .len) (now (a .room)) ≡ (e .zeros-at .result && rowsChecked byMasks (a .row) 0 (b .rows-in .result) (drop 16 (now (a .room)))))
 head e =
     let q = e .before .before .quad in
     sized (e .before .before .before) ∙ simp (← (q .ensures), eq-eqb (q .result) _ (e .before .if3 .left), ← (e .zeros-at .ensures))
@@ -75,7 +75,7 @@ returns-4 c =
 -- past all of them
 rows-left : (e : tie.After-rows-counted) → (let b = e .before .before .before .before .before .before .before .before in
     let a = b .before .before .args in
-    sound (a .row) (a .len) (now (a .room)) ≡ rowsChecked byMasks (a .row) (b .rows-in .result) (drop 16 (now (a .room))))
+    sound (a .row) (a .len) (now (a .room)) ≡ rowsChecked byMasks (a .row) 0 (b .rows-in .result) (drop 16 (now (a .room))))
 rows-left e = let z = e .before .before in head z ∙ simp (not-false (z .zeros-at .result) (e .before .if4 .left))
 
 returns-5 : tie.Need-returns-5

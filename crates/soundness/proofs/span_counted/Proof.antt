@@ -1,5 +1,5 @@
 -- `span_counted` meets its contract, by who holds the first row.
-use Rattle.mem.proofs.Prelude.{_∙_, _≡_, sym, ap, now, needs, drop}
+use Rattle.mem.proofs.Prelude.{_∙_, _≡_, sym, ap, _*_, now, needs, drop}
 use Rattle.mem.specs.Lists.{choose}
 use Rattle.mem.proofs.Starts.{starts-zeros}
 use Rattle.model.specs.declared.Holder.the-variants.{First}
@@ -11,12 +11,12 @@ use Rattle.soundness.proofs.span_counted.Tie as tie
 
 -- a free row is zeros
 free-row : (c : tie.After-zeros-at) → (let a = c .before .before .before .before .before .before .args in
-    spanCounted (a .row) (a .n) (drop (rowAt (a .i)) (now (a .room)))
+    spanCounted (a .row) (a .row * a .i) (a .n) (drop (rowAt (a .i)) (now (a .room)))
     ≡ countedIf (c .zeros-at .result) (record { blocks = 0; bytes = 0; held = 0; free = 1; ready = 0; waiting = 0 }))
 free-row c =
     let a = c .before .before .before .before .before .before .args in
     let h = c .before .before in
-    free-counted (a .row) (a .n) (drop (rowAt (a .i)) (now (a .room))) (sym (h .before .before .holder-at .ensures) ∙ h .enum-told .given .1)
+    free-counted (a .row) (a .row * a .i) (a .n) (drop (rowAt (a .i)) (now (a .room))) (sym (h .before .before .holder-at .ensures) ∙ h .enum-told .given .1)
     ∙ rw (c .zeros-at .ensures, c .before .row-at .ensures, starts-zeros (rowAt (a .i)) rowRecordBytes (now (a .room)))
 
 returns : tie.Need-returns
@@ -39,7 +39,7 @@ returns-3 c = c .held-counted .ensures
 returns-4 : tie.Need-returns-4
 returns-4 c =
     let a = c .before .before .before .before .args in
-    sym (later-counted (a .row) (a .n) (c .enum-told2 .given .0 .0) (drop (rowAt (a .i)) (now (a .room)))
+    sym (later-counted (a .row) (a .row * a .i) (a .n) (c .enum-told2 .given .0 .0) (drop (rowAt (a .i)) (now (a .room)))
     (sym (c .before .before .holder-at .ensures) ∙ c .enum-told2 .given .1))
 
 pub span-counted-spec : {M : Type 1} → statement M
