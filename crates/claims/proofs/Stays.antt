@@ -17,7 +17,7 @@ use Rattle.model.proofs.Kept.{engine-lawful}
 use Rattle.model.proofs.Fresh.{fresh-rows}
 use Rattle.model.proofs.Calls.{Asks}
 use Rattle.model.proofs.Lookup.{placed, same-placed, groupOf, lookup-found}
-use Rattle.model.proofs.Reserve.{Stays, reserve-keeps, stays-before, stays-behind}
+use Rattle.model.proofs.Stays.{Stays, reserve-keeps, stays-before, stays-behind}
 use Rattle.model.proofs.Moves.{live-granted, stays-start}
 use Rattle.model.proofs.Lists.{small, by-grants, on-list}
 use Rattle.model.proofs.Formed.{plan-formed}

@@ -6,6 +6,7 @@ pub mod Fresh
 pub mod Bounds
 pub mod Lookup
 pub mod Reserve
+pub mod Stays
 pub mod Lowest
 pub mod Lists
 pub mod Proposals

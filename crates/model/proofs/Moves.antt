@@ -8,7 +8,8 @@ use Rattle.model.specs.State.{Pool, Place, isLive, granted, disp, wellFo
 use Rattle.model.specs.Plans.{onBlock, releaseAt, release, reserve}
 use Rattle.model.proofs.Lookup.{lookup-start, owned-apart}
 use Rattle.model.proofs.Calls.{on-live}
-use Rattle.model.proofs.Reserve.{reserve-formed, Stays, reserve-keeps, reserve-other}
+use Rattle.model.proofs.Reserve.{reserve-formed}
+use Rattle.model.proofs.Stays.{Stays, reserve-keeps, reserve-other}
 
 pub live-granted : (x : Slot) → T (isLive x) → T (granted x)
 live-granted Fresh l = l

@@ -16,7 +16,8 @@ use Rattle.model.specs.Calls.{written}
 use Rattle.model.proofs.Tables.{masks-laws, view-encode, encode-sound}
 use Rattle.model.proofs.Fresh.{whole-units}
 use Rattle.model.proofs.Lookup.{Fits, fits, disp-inside}
-use Rattle.model.proofs.Reserve.{reserve-size, Granted, reserve-formed, Stays}
+use Rattle.model.proofs.Reserve.{reserve-size, Granted, reserve-formed}
+use Rattle.model.proofs.Stays.{Stays}
 use Rattle.model.proofs.Moves.{Old, old, old-released, old-apart}
 use Rattle.rows.specs.declared.Block.{Block}
 use Rattle.rows.specs.Rows.{Lent, blockOf, ownedAt, startAt, Holds}
