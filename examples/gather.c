@@ -19,7 +19,7 @@ static slotpool_totals totals;
 static const char *name(uint32_t answer)
 {
     static const char *const names[] = {"done", "bad arena", "unsound", "too large", "no such block",
-                                        "already free", "header damaged", "overrun", "no room", "list too long",
+                                        "already free", "header damaged", "overrun", "no room", "list too long", "stale",
                                         [SLOTPOOL_BAD_ALIGNMENT] = "bad alignment", [SLOTPOOL_BAD_PROPOSAL] = "bad proposal"};
     return names[answer];
 }
@@ -39,16 +39,16 @@ static void map(void)
 }
 
 /* Asks for a list of so many bytes in entries of these sizes, at most cap each; gives how many were granted. */
-static size_t grant_list(size_t length, size_t cap, const size_t *sizes, size_t count, size_t starts[SLOTPOOL_ENTRIES])
+static size_t grant_list(size_t length, size_t cap, const size_t *sizes, size_t count, size_t handles[SLOTPOOL_ENTRIES])
 {
     size_t entries;
-    uint32_t answer = slotpool_grant_list(POOL, length, cap, sizes, count, starts, SLOTPOOL_ENTRIES, &entries);
+    uint32_t answer = slotpool_grant_list(POOL, length, cap, sizes, count, handles, SLOTPOOL_ENTRIES, &entries);
     printf("list of %zu bytes as", length);
     for (size_t i = 0; i < count; i++)
         printf(" %zu", sizes[i]);
     printf(": %s", name(answer));
     for (size_t i = 0; i < entries; i++)
-        printf("%s %zu", i == 0 ? "," : "", starts[i]);
+        printf("%s %zu", i == 0 ? "," : "", handles[i]);
     putchar('\n');
     return entries;
 }
@@ -68,17 +68,17 @@ int main(void)
         return 1;
     size_t entries = grant_list(400, 160, sizes, planned, list);
     for (size_t i = 0; i < entries; i++)
-        memset(arena + list[i], 'a' + (int)i, sizes[i]);
+        memset(arena + slotpool_start(list[i]), 'a' + (int)i, sizes[i]);
     map();
 
     /* a list whose last entry has no room, and one whose sizes do not add up: no entry is granted, and the map stays */
-    size_t ours[2] = {160, 100}, starts[SLOTPOOL_ENTRIES];
-    grant_list(260, 160, ours, 2, starts);
-    grant_list(261, 160, ours, 2, starts);
+    size_t ours[2] = {160, 100}, refused[SLOTPOOL_ENTRIES];
+    grant_list(260, 160, ours, 2, refused);
+    grant_list(261, 160, ours, 2, refused);
     map();
 
     /* the driver writes one byte too many into the second entry */
-    size_t value, past = list[1] + sizes[1];
+    size_t value, past = slotpool_start(list[1]) + sizes[1];
     uint8_t kept = arena[past];
     arena[past] = 1;
     printf("release %zu with one byte written past its end: %s\n", list[1], name(slotpool_release(POOL, list[1])));
@@ -88,7 +88,7 @@ int main(void)
     printf(", %zu\n", value);
     printf("release %zu: %s\n", list[1], name(slotpool_release(POOL, list[1])));
     printf("release %zu again: %s\n", list[1], name(slotpool_release(POOL, list[1])));
-    printf("release %zu: %s\n", list[1] + 1, name(slotpool_release(POOL, list[1] + 1)));
+    printf("release %zu: %s\n", list[1] + 16, name(slotpool_release(POOL, list[1] + 16)));
     printf("grant 131052: %s\n", name(slotpool_grant(POOL, 131052, &value)));
     printf("grant 5000: %s\n", name(slotpool_grant(POOL, 5000, &value)));
     map();
@@ -108,6 +108,16 @@ int main(void)
     *size ^= 32;
     printf("measure %zu: %s", list[0], name(slotpool_measure(POOL, list[0], &value)));
     printf(", %zu\n", value);
+
+    /* the driver keeps the third entry's handle too long: the entry is released and, its group being full, the next block has its slot and
+     * starts at the same place; but its handle is another */
+    while (slotpool_grant(POOL, 80, &value) == SLOTPOOL_DONE)
+        ;
+    printf("release %zu: %s\n", list[2], name(slotpool_release(POOL, list[2])));
+    printf("grant 80: %s", name(slotpool_grant(POOL, 80, &value)));
+    printf(", %zu, at %zu\n", value, slotpool_start(value));
+    printf("release %zu again: %s\n", list[2], name(slotpool_release(POOL, list[2])));
+    map();
     free(room);
     return 0;
 }

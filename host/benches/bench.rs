@@ -8,8 +8,8 @@
 mod program;
 
 use slotpool::trace::{self, Op};
-use slotpool::{room_len, Pool, Refusal, Totals, ENTRIES};
-use slotpool_reference::{replay, Reference, Tables, ORDINARY};
+use slotpool::{room_len, Handle, Pool, Refusal, Totals, ENTRIES};
+use slotpool_reference::{replay, start_of, Reference, Tables, ORDINARY};
 use std::hash::{BuildHasher, BuildHasherDefault, DefaultHasher};
 use std::hint::black_box;
 use std::path::Path;
@@ -86,7 +86,7 @@ fn plain_read(room: &[u8]) -> u8 {
 }
 
 /// Grants blocks of 160 bytes until a share of the rows is held.
-fn fill(pool: &mut Pool, second: &mut Reference, share: f64) -> Vec<usize> {
+fn fill(pool: &mut Pool, second: &mut Reference, share: f64) -> Vec<Handle> {
     let mut blocks = Vec::new();
     loop {
         let t = pool.report().unwrap();
@@ -94,9 +94,9 @@ fn fill(pool: &mut Pool, second: &mut Reference, share: f64) -> Vec<usize> {
             return blocks;
         }
         match pool.grant(160) {
-            Ok(o) => {
-                assert_eq!(second.grant(160), Ok(o));
-                blocks.push(o);
+            Ok(block) => {
+                assert_eq!(second.grant(160), Ok(block.raw()));
+                blocks.push(block);
             }
             Err(_) => return blocks,
         }
@@ -110,7 +110,7 @@ fn program(trace: &[u8]) -> Vec<u8> {
     program::run(&mut Command::new(PROGRAM), &[trace]).stdout
 }
 
-/// A full trace: grants of 160 bytes, then as many rounds as there is room for. A round is told where a grant of 160 bytes would start.
+/// A full trace: grants of 160 bytes, then as many rounds as there is room for. A round is told the handle that a grant of 160 bytes would give.
 fn full(grants: usize, round: fn(u32) -> Vec<Op>) -> Vec<Op> {
     let mut pool = Reference::set_up(16_384);
     let mut ops = vec![Op::Grant(160); grants];
@@ -119,9 +119,9 @@ fn full(grants: usize, round: fn(u32) -> Vec<Op>) -> Vec<Op> {
     }
     let mut len = trace::write(&ops).len();
     loop {
-        let start = pool.grant(160).unwrap();
-        pool.release(start).unwrap();
-        let more = round(start as u32);
+        let handle = pool.grant(160).unwrap();
+        pool.release(handle).unwrap();
+        let more = round(handle as u32);
         len += trace::write(&more).len() - 1;
         if len > trace::MOST {
             return ops;
@@ -139,11 +139,14 @@ fn replays() {
     println!("\nreplay of full traces, records per second: median of {RUNS} runs (least to most)");
     println!("{:<34} {:>8} {:>34} {:>34}", "trace", "records", "program, from its start to its end", "second, in this process");
     for (name, ops) in [
-        ("grants and releases of 160 bytes", full(1, |at| vec![Op::Grant(160), Op::Release(at)])),
+        ("grants and releases of 160 bytes", full(1, |block| vec![Op::Grant(160), Op::Release(block)])),
         ("reports over a half full pool", full(42, |_| vec![Op::Report])),
         (
             "stores of 160 bytes among calls",
-            full(1, |at| vec![Op::Grant(160), Op::Store(at, vec![7; 160]), Op::Measure(at), Op::Resize(at, 150), Op::Release(at)]),
+            full(1, |block| {
+                let start = start_of(block as usize) as u32;
+                vec![Op::Grant(160), Op::Store(start, vec![7; 160]), Op::Measure(block), Op::Resize(block, 150), Op::Release(block)]
+            }),
         ),
     ] {
         let trace = trace::write(&ops);
@@ -215,23 +218,23 @@ impl Kept {
 }
 
 /// Which of all blocks are released in a state.
-type Released = fn(&[usize]) -> Vec<usize>;
+type Released = fn(&[Handle]) -> Vec<Handle>;
 
-fn all(blocks: &[usize]) -> Vec<usize> {
+fn all(blocks: &[Handle]) -> Vec<Handle> {
     blocks.to_vec()
 }
 
-fn none(_: &[usize]) -> Vec<usize> {
+fn none(_: &[Handle]) -> Vec<Handle> {
     Vec::new()
 }
 
 /// So many, equally far apart.
-fn spread(blocks: &[usize], count: usize) -> Vec<usize> {
+fn spread(blocks: &[Handle], count: usize) -> Vec<Handle> {
     (0..count).map(|i| blocks[i * blocks.len() / count]).collect()
 }
 
 /// Half of them, in no order: those whose hash is in the lower half.
-fn half_at_random(blocks: &[usize]) -> Vec<usize> {
+fn half_at_random(blocks: &[Handle]) -> Vec<Handle> {
     let mut mixed = blocks.to_vec();
     mixed.sort_by_cached_key(|block| BuildHasherDefault::<DefaultHasher>::new().hash_one(block));
     mixed.truncate(blocks.len() / 2);
@@ -243,7 +246,7 @@ const STATES: [(&str, Released); 3] =
 
 /// A list call under the largest cap.
 fn list_call(pool: &mut Pool, sizes: &[usize; ENTRIES]) -> Result<usize, Refusal> {
-    pool.grant_list(sizes.iter().sum(), 131_051, black_box(sizes), black_box(&mut [0; ENTRIES]))
+    pool.grant_list(sizes.iter().sum(), 131_051, black_box(sizes), black_box(&mut [Handle::default(); ENTRIES]))
 }
 
 /// Times 17 grants of one size beside a list call of the same, and a list call that is refused at its last entry.
@@ -318,9 +321,9 @@ const CHECKED: [(&str, &[(usize, usize)], Released); 13] = [
     ("half full of 44 aligned to 32 and 12 to 64", &SHARING, half_at_random),
 ];
 
-/// Times the soundness check alone, as a measure of offset 1 (answer 4), beside a plain read of the room.
+/// Times the soundness check alone, as a measure of handle 1 (answer 4), beside a plain read of the room.
 fn checks() {
-    println!("\nthe soundness check alone (a measure of offset 1, answer 4) beside a plain read of the room. Half full: half of the blocks were");
+    println!("\nthe soundness check alone (a measure of handle 1, answer 4) beside a plain read of the room. Half full: half of the blocks were");
     println!("released, drawn at random. Mixed: 12 bytes aligned to 32, 100 to 64 and 2,000 to 4,096, in turn. Ordinary blocks of 28 bytes have the");
     println!("class of 12 aligned to 32; 44 aligned to 32 and 12 to 64 have one class, and share its groups");
     println!("{:<52} {:>26} {:>26} {:>20}", "arena", "check", "plain read", "ratio of a run");
@@ -333,7 +336,7 @@ fn checks() {
             let (check, read, ratio) = time_beside(
                 turns,
                 || {
-                    black_box(pool.measure(black_box(1)).is_err());
+                    black_box(pool.measure(black_box(Handle::from_raw(1))).is_err());
                 },
                 || {
                     black_box(plain_read(black_box(&bytes)));
@@ -358,19 +361,19 @@ fn aligned() {
                 let mut one = Kept::full_of(1024 * kib, &[(n, align)], released);
                 let mut other = one.clone();
                 let (mut one, mut other) = (one.pool(), other.pool());
-                if one.grant_aligned(n, align).map(|start| one.release(start).unwrap()).is_err() {
+                if one.grant_aligned(n, align).map(|block| one.release(block).unwrap()).is_err() {
                     println!("{name:<48} no room");
                     continue;
                 }
                 let (aligned, ordinary, ratio) = time_beside(
                     40_000 / kib + 200,
                     || {
-                        let start = one.grant_aligned(black_box(n), black_box(align)).unwrap();
-                        one.release(black_box(start)).unwrap();
+                        let block = one.grant_aligned(black_box(n), black_box(align)).unwrap();
+                        one.release(black_box(block)).unwrap();
                     },
                     || {
-                        let start = other.grant(black_box(n + align - ORDINARY)).unwrap();
-                        other.release(black_box(start)).unwrap();
+                        let block = other.grant(black_box(n + align - ORDINARY)).unwrap();
+                        other.release(black_box(block)).unwrap();
                     },
                 );
                 println!("{name:<48} {:>26} {:>26} {:>20}", show(&aligned), show(&ordinary), show_ratio(&ratio));
@@ -392,36 +395,36 @@ fn main() {
             // one block more than is measured, and room for the one that is granted and released
             let turns = 40_000 / kib + 200;
             while share > 0.9 && pool.grant(160).is_err() {
-                let o = blocks.pop().unwrap();
-                pool.release(o).unwrap();
-                second.release(o).unwrap();
+                let h = blocks.pop().unwrap();
+                pool.release(h).unwrap();
+                second.release(h.raw()).unwrap();
             }
             if share > 0.9 {
-                let o = second.grant(160).unwrap();
-                pool.release(o).unwrap();
-                second.release(o).unwrap();
+                let h = second.grant(160).unwrap();
+                pool.release(Handle::from_raw(h)).unwrap();
+                second.release(h).unwrap();
             }
             let first = time(turns, || {
-                let o = pool.grant(black_box(160)).unwrap();
-                pool.release(black_box(o)).unwrap();
+                let h = pool.grant(black_box(160)).unwrap();
+                pool.release(black_box(h)).unwrap();
             });
             // the second implementation checks the tables as they are before each call
             let before = lent(&second);
-            let o = second.grant(160).unwrap();
+            let h = second.grant(160).unwrap();
             let between = lent(&second);
-            second.release(o).unwrap();
+            second.release(h).unwrap();
             let other = time(turns / 10 + 1, || {
                 assert!(is_sound(len, &before));
-                let o = second.grant(black_box(160)).unwrap();
+                let h = second.grant(black_box(160)).unwrap();
                 assert!(is_sound(len, &between));
-                second.release(black_box(o)).unwrap();
+                second.release(black_box(h)).unwrap();
             });
             let block = match blocks.last() {
-                Some(&o) => o,
+                Some(&h) => h,
                 None => {
-                    let o = pool.grant(160).unwrap();
-                    assert_eq!(second.grant(160), Ok(o));
-                    o
+                    let h = pool.grant(160).unwrap();
+                    assert_eq!(second.grant(160), Ok(h.raw()));
+                    h
                 }
             };
             let now = lent(&second);
@@ -430,7 +433,7 @@ fn main() {
             });
             let measured_other = time(turns / 10 + 1, || {
                 assert!(is_sound(len, &now));
-                black_box(second.measure(black_box(block)).unwrap());
+                black_box(second.measure(black_box(block.raw())).unwrap());
             });
             println!(
                 "{:<22} {:>26} {:>26} {:>26} {:>26}",

@@ -2,27 +2,36 @@
 //! lent record.
 //!
 //! ```
-//! let mut arena = vec![0; 8192];
-//! let mut room = vec![0; slotpool::room_len(8192)];
+//! let mut arena = vec![0; 16_384];
+//! let mut room = vec![0; slotpool::room_len(16_384)];
 //! let mut totals = slotpool::Totals::default();
 //! let mut pool = slotpool::Pool::set_up(&mut arena, &mut room, &mut totals).unwrap();
 //!
 //! let block = pool.grant(160).unwrap();
-//! pool.arena_mut()[block..block + 160].fill(7);
+//! let start = block.start();
+//! pool.arena_mut()[start..start + 160].fill(7);
 //! assert_eq!(pool.measure(block), Ok(160));
 //! pool.release(block).unwrap();
 //! assert_eq!(pool.release(block), Err(slotpool::Refusal::NoSuchBlock));
 //!
 //! // a packet of 400 bytes as one list, in entries of at most 160
-//! let (mut sizes, mut starts) = ([0; slotpool::ENTRIES], [0; slotpool::ENTRIES]);
+//! let (mut sizes, mut list) = ([0; slotpool::ENTRIES], [slotpool::Handle::default(); slotpool::ENTRIES]);
 //! let planned = slotpool::plan_list(400, 160, &mut sizes).unwrap();
-//! let entries = pool.grant_list(400, 160, &sizes[..planned], &mut starts).unwrap();
+//! let entries = pool.grant_list(400, 160, &sizes[..planned], &mut list).unwrap();
 //! assert_eq!(sizes[..entries], [160, 160, 80]);
-//! assert_eq!(starts[..entries], [16, 208, 4112]);
+//! assert!(list[..entries].iter().map(|entry| entry.start()).eq([16, 208, 4112]));
 //! assert_eq!(pool.report().unwrap().requested_bytes, 400);
 //!
 //! // a ring of 8 descriptors of 16 bytes, which the DMA engine wants at a multiple of 64
-//! assert_eq!(pool.grant_aligned(128, 64), Ok(448));
+//! assert_eq!(pool.grant_aligned(128, 64).unwrap().start(), 448);
+//!
+//! // two blocks fill a group, so the next one has the slot of one that was released: the old handle is refused
+//! let old = pool.grant(2028).unwrap();
+//! pool.grant(2028).unwrap();
+//! pool.release(old).unwrap();
+//! let new = pool.grant(2028).unwrap();
+//! assert_eq!(new.start(), old.start());
+//! assert_eq!(pool.release(old), Err(slotpool::Refusal::Stale));
 //! ```
 
 pub mod trace;
@@ -41,12 +50,13 @@ pub enum Refusal {
     Overrun = 7,
     NoRoom = 8,
     TooLong = 9,
+    Stale = 10,
     BadAlignment = 13,
     BadProposal = 17,
 }
 
 /// Each refusal with its name.
-const REFUSALS: [(Refusal, &str); 11] = [
+const REFUSALS: [(Refusal, &str); 12] = [
     (Refusal::BadArena, "bad arena"),
     (Refusal::Unsound, "unsound"),
     (Refusal::TooLarge, "too large"),
@@ -56,6 +66,7 @@ const REFUSALS: [(Refusal, &str); 11] = [
     (Refusal::Overrun, "overrun"),
     (Refusal::NoRoom, "no room"),
     (Refusal::TooLong, "list too long"),
+    (Refusal::Stale, "stale"),
     (Refusal::BadAlignment, "bad alignment"),
     (Refusal::BadProposal, "bad proposal"),
 ];
@@ -85,8 +96,33 @@ pub struct Totals {
     pub waiting_slots: usize,
 }
 
+/// What names a block: grants give it, and the calls on the block take it. It is the block's start plus, in the low four bits, how often the
+/// block's slot was granted before, modulo 16; so a handle that was kept too long is refused, even if another block has its start by now.
+/// Not told apart are a slot's blocks a multiple of 16 grants apart, if they start at the same place, and blocks before and after all of a
+/// group were released: then the slots are counted anew.
+#[repr(transparent)]
+#[derive(Clone, Copy, Debug, Default, PartialEq, Eq, PartialOrd, Ord, Hash)]
+pub struct Handle(usize);
+
+impl Handle {
+    /// The place of the block's first byte in the arena.
+    pub fn start(self) -> usize {
+        self.0 & !15
+    }
+
+    /// The handle as a number, for keeping it in a descriptor or passing it to C.
+    pub fn raw(self) -> usize {
+        self.0
+    }
+
+    /// The handle of such a number. Of any other number too: calls refuse it, like any handle that is not a live block's.
+    pub fn from_raw(number: usize) -> Handle {
+        Handle(number)
+    }
+}
+
 mod sys {
-    use super::Totals;
+    use super::{Handle, Totals};
 
     /// Declares calls on a pool, which all begin with what it is lent, to be changed or only read.
     macro_rules! on_pool {
@@ -106,23 +142,23 @@ mod sys {
 
     on_pool! { mut:
         slotpool_set_up();
-        slotpool_grant(n: usize, value: *mut usize);
-        slotpool_grant_aligned(n: usize, align: usize, value: *mut usize);
-        slotpool_release(offset: usize);
-        slotpool_resize(offset: usize, n: usize, value: *mut usize);
+        slotpool_grant(n: usize, value: *mut Handle);
+        slotpool_grant_aligned(n: usize, align: usize, value: *mut Handle);
+        slotpool_release(handle: Handle);
+        slotpool_resize(handle: Handle, n: usize, value: *mut Handle);
         slotpool_grant_list(
             length: usize,
             cap: usize,
             sizes: *const usize,
             sizes_len: usize,
-            starts: *mut usize,
-            starts_len: usize,
+            handles: *mut Handle,
+            handles_len: usize,
             value: *mut usize
         );
     }
 
     on_pool! { const:
-        slotpool_measure(offset: usize, value: *mut usize);
+        slotpool_measure(handle: Handle, value: *mut usize);
         slotpool_report(out: *mut Totals);
     }
 
@@ -198,56 +234,56 @@ impl<'a> Pool<'a> {
         Pool { arena, room, totals }
     }
 
-    /// Grants a block of `n` zero bytes and gives its offset in the arena.
-    pub fn grant(&mut self, n: usize) -> Result<usize, Refusal> {
-        let mut value = 0;
+    /// Grants a block of `n` zero bytes.
+    pub fn grant(&mut self, n: usize) -> Result<Handle, Refusal> {
+        let mut value = Handle::default();
         let number = call!(mut self.slotpool_grant(n, &mut value));
         answer(number, value)
     }
 
-    /// Grants a block of `n` zero bytes whose offset is a multiple of `align`, a power of two from 1 to 4,096, and gives the offset. Up to 16
-    /// this is [`Pool::grant`]; from 32 on the block takes the slot of one of `n + align - 16` bytes, and keeps the alignment when it is
-    /// resized. Refused with [`Refusal::BadAlignment`] for any other `align`.
-    pub fn grant_aligned(&mut self, n: usize, align: usize) -> Result<usize, Refusal> {
-        let mut value = 0;
+    /// Grants a block of `n` zero bytes that starts at a multiple of `align`, a power of two from 1 to 4,096. Up to 16 this is
+    /// [`Pool::grant`]; from 32 on the block takes the slot of one of `n + align - 16` bytes, and keeps the alignment when it is resized.
+    /// Refused with [`Refusal::BadAlignment`] for any other `align`.
+    pub fn grant_aligned(&mut self, n: usize, align: usize) -> Result<Handle, Refusal> {
+        let mut value = Handle::default();
         let number = call!(mut self.slotpool_grant_aligned(n, align, &mut value));
         answer(number, value)
     }
 
-    /// Grants the sizes of a proposal in order, all of them or none. Writes the offsets of the blocks to the front of `starts`, keeps its
-    /// later places, and gives the number of entries. Refused with [`Refusal::TooLong`] where [`plan_list`] is, or if `starts` has fewer
+    /// Grants the sizes of a proposal in order, all of them or none. Writes the handles of the blocks to the front of `handles`, keeps its
+    /// later places, and gives the number of entries. Refused with [`Refusal::TooLong`] where [`plan_list`] is, or if `handles` has fewer
     /// than [`ENTRIES`] places; with [`Refusal::BadProposal`] if [`check_list`] says no; with [`Refusal::NoRoom`] if one of the grants
     /// would be.
-    pub fn grant_list(&mut self, length: usize, cap: usize, sizes: &[usize], starts: &mut [usize]) -> Result<usize, Refusal> {
+    pub fn grant_list(&mut self, length: usize, cap: usize, sizes: &[usize], handles: &mut [Handle]) -> Result<usize, Refusal> {
         let mut value = 0;
         let number = call!(mut self.slotpool_grant_list(
             length,
             cap,
             sizes.as_ptr(),
             sizes.len(),
-            starts.as_mut_ptr(),
-            starts.len(),
+            handles.as_mut_ptr(),
+            handles.len(),
             &mut value
         ));
         answer(number, value)
     }
 
-    /// Takes the block at an offset back.
-    pub fn release(&mut self, offset: usize) -> Result<(), Refusal> {
-        answer(call!(mut self.slotpool_release(offset)), ())
+    /// Takes a block back.
+    pub fn release(&mut self, handle: Handle) -> Result<(), Refusal> {
+        answer(call!(mut self.slotpool_release(handle)), ())
     }
 
-    /// Gives the block at an offset another size, and gives its offset from then on. An aligned block stays aligned.
-    pub fn resize(&mut self, offset: usize, n: usize) -> Result<usize, Refusal> {
-        let mut value = 0;
-        let number = call!(mut self.slotpool_resize(offset, n, &mut value));
+    /// Gives a block another size, and gives its handle from then on, the same if it stays where it is. An aligned block stays aligned.
+    pub fn resize(&mut self, handle: Handle, n: usize) -> Result<Handle, Refusal> {
+        let mut value = Handle::default();
+        let number = call!(mut self.slotpool_resize(handle, n, &mut value));
         answer(number, value)
     }
 
-    /// The size of the block at an offset.
-    pub fn measure(&self, offset: usize) -> Result<usize, Refusal> {
+    /// The size of a block.
+    pub fn measure(&self, handle: Handle) -> Result<usize, Refusal> {
         let mut value = 0;
-        let number = call!(const self.slotpool_measure(offset, &mut value));
+        let number = call!(const self.slotpool_measure(handle, &mut value));
         answer(number, value)
     }
 

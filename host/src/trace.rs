@@ -29,12 +29,13 @@ pub const MOST: usize = 65_535;
 pub enum Op {
     /// A size.
     Grant(u32),
-    /// An offset, as in the others.
+    /// A handle.
     Release(u32),
-    /// An offset and the new size.
+    /// A handle and the new size.
     Resize(u32, u32),
+    /// A handle.
     Measure(u32),
-    /// An offset and the bytes that go there.
+    /// A place in the arena and the bytes that go there.
     Store(u32, Vec<u8>),
     Report,
 }
@@ -51,9 +52,9 @@ struct Kind {
 /// The operations in the order of their numbers, from 1.
 const KINDS: [Kind; 6] = [
     Kind { word: "grant", numbers: &["SIZE"], bytes: false },
-    Kind { word: "release", numbers: &["OFFSET"], bytes: false },
-    Kind { word: "resize", numbers: &["OFFSET", "SIZE"], bytes: false },
-    Kind { word: "measure", numbers: &["OFFSET"], bytes: false },
+    Kind { word: "release", numbers: &["HANDLE"], bytes: false },
+    Kind { word: "resize", numbers: &["HANDLE", "SIZE"], bytes: false },
+    Kind { word: "measure", numbers: &["HANDLE"], bytes: false },
     Kind { word: "store", numbers: &["OFFSET"], bytes: true },
     Kind { word: "report", numbers: &[], bytes: false },
 ];
@@ -86,9 +87,9 @@ impl Op {
     fn parts(&self) -> (u8, Vec<u32>, &[u8]) {
         match *self {
             Op::Grant(n) => (1, vec![n], &[]),
-            Op::Release(offset) => (2, vec![offset], &[]),
-            Op::Resize(offset, n) => (3, vec![offset, n], &[]),
-            Op::Measure(offset) => (4, vec![offset], &[]),
+            Op::Release(handle) => (2, vec![handle], &[]),
+            Op::Resize(handle, n) => (3, vec![handle, n], &[]),
+            Op::Measure(handle) => (4, vec![handle], &[]),
             Op::Store(offset, ref bytes) => (5, vec![offset], bytes),
             Op::Report => (6, vec![], &[]),
         }
@@ -98,9 +99,9 @@ impl Op {
     fn of(operation: u8, numbers: &[u32], bytes: &[u8]) -> Option<Op> {
         match (operation, numbers, bytes) {
             (1, &[n], []) => Some(Op::Grant(n)),
-            (2, &[offset], []) => Some(Op::Release(offset)),
-            (3, &[offset, n], []) => Some(Op::Resize(offset, n)),
-            (4, &[offset], []) => Some(Op::Measure(offset)),
+            (2, &[handle], []) => Some(Op::Release(handle)),
+            (3, &[handle, n], []) => Some(Op::Resize(handle, n)),
+            (4, &[handle], []) => Some(Op::Measure(handle)),
             (5, &[offset], bytes) => Some(Op::Store(offset, bytes.to_vec())),
             (6, [], []) => Some(Op::Report),
             _ => None,

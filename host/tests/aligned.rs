@@ -6,16 +6,18 @@ mod common;
 mod due;
 mod forged;
 mod random;
+mod sample;
 
-use any::{calls_on, no_store, over_any, refused, sample, set_up_over, OLD};
+use any::{calls_on, over_any, refused, set_up_over};
 use common::Answer::{Done, Refused, Value};
 use common::Call::{self, Grant, GrantAligned, Measure, Release, Resize, Store};
 use common::{lent, Both, Buffers};
 use due::due;
 use forged::saying;
 use random::{all_seen, kind, next_call, Numbers, Seen, UNDAMAGED};
-use slotpool::Refusal::{AlreadyFree, BadAlignment, HeaderDamaged, NoRoom, NoSuchBlock, Overrun, TooLarge, Unsound};
-use slotpool_reference::{class_of, rows_of, slot_bytes, slots_of, Group, Reference, Slot, State, Tables, ALIGNMENTS, ORDINARY, TOO_LARGE};
+use sample::{no_store, sample, OLD};
+use slotpool::Refusal::{AlreadyFree, BadAlignment, HeaderDamaged, NoRoom, NoSuchBlock, Overrun, Stale, TooLarge, Unsound};
+use slotpool_reference::{class_of, rows_of, slot_bytes, slots_of, start_of, Group, Reference, Slot, State, Tables, ALIGNMENTS, ORDINARY, TOO_LARGE};
 
 /// Alignments that every start has.
 const SMALL: [usize; 5] = [1, 2, 4, 8, 16];
@@ -39,6 +41,10 @@ impl Place {
         self.begin + 16 * self.slot.last.unwrap_or(0)
     }
 
+    fn handle(&self) -> usize {
+        self.slot.handle(self.start())
+    }
+
     fn end(&self) -> usize {
         self.begin + slot_bytes(self.class) - 4
     }
@@ -60,9 +66,9 @@ fn places(groups: &[Group]) -> Vec<Place> {
     places
 }
 
-/// The live block that starts at an offset.
-fn live_at(pool: &Reference, start: usize) -> Option<Place> {
-    places(&pool.groups).into_iter().find(|place| place.is_live() && place.start() == start)
+/// The live block of a handle.
+fn live_at(pool: &Reference, handle: usize) -> Option<Place> {
+    places(&pool.groups).into_iter().find(|place| place.is_live() && place.handle() == handle)
 }
 
 /// Whether a live block of a class may have a size and an alignment.
@@ -85,8 +91,8 @@ fn up_to_16_a_grant_is_an_ordinary_one() {
                 assert_eq!(aligned.call(&mut lent(), GrantAligned(n, align)), answer, "{n} bytes at a multiple of {align}");
                 assert!(aligned == ordinary.first, "{n} bytes at a multiple of {align}: not the state after a grant");
             }
-            if let Value(start) = answer {
-                displaced[usize::from(start > live_at(&ordinary.second, start).unwrap().begin)] += 1;
+            if let Value(handle) = answer {
+                displaced[usize::from(start_of(handle) > live_at(&ordinary.second, handle).unwrap().begin)] += 1;
             }
         }
     }
@@ -144,10 +150,11 @@ fn the_lowest_multiple() {
                 displaced[usize::from(start > begin)] += 1;
             }
             due(both, [(GrantAligned(n, align), Refused(NoRoom))]);
-            // the next block of a slot starts where the last one did
-            let (start, _) = both.second.live()[0];
-            for _ in 0..if slots_of(class) > 1 { 3 } else { 0 } {
-                due(both, [(Release(start), Done), (Release(start), Refused(AlreadyFree)), (GrantAligned(n, align), Value(start))]);
+            // the next block of a slot starts where the last one did, and has the next handle
+            let (first, _) = both.second.live()[0];
+            for handle in first..first + if slots_of(class) > 1 { 3 } else { 0 } {
+                due(both, [(Release(handle), Done), (Release(handle), Refused(AlreadyFree))]);
+                due(both, [(GrantAligned(n, align), Value(handle + 1)), (Release(handle), Refused(Stale))]);
             }
         }
     }
@@ -169,10 +176,11 @@ fn the_count_steps_and_displaces_nothing() {
             3 => (Grant(317), 816 + 16 * (usize::from(count) % 5)),
             _ => (GrantAligned(300, 64), 832),
         };
-        due(both, [(Release(last), Done), (call, Value(start))]);
+        let handle = start + usize::from(count) % 16;
+        due(both, [(Release(last), Done), (call, Value(handle))]);
         count = count.wrapping_add(1);
         assert_eq!(both.second.groups[0].slots[2].count, count, "after {turn} turns");
-        last = start;
+        last = handle;
     }
 }
 
@@ -225,29 +233,35 @@ fn a_resize_that_is_too_large() {
     // blocks in slots of 80 bytes: an aligned one at 64, which is released, and at 128, with 16 bytes to spare, and an ordinary one at 176
     let both = &mut Both::new(4096, OLD);
     due(both, [(GrantAligned(28, 64), Value(64)), (GrantAligned(28, 64), Value(128)), (Grant(61), Value(176)), (Release(64), Done)]);
-    let due_at = |both: &mut Both, offset, limit, otherwise| {
+    let due_at = |both: &mut Both, handle, limit, otherwise| {
         for n in [TOO_LARGE - 49, TOO_LARGE - 48, TOO_LARGE - 1, TOO_LARGE, usize::MAX - 47, usize::MAX] {
-            due(both, [(Resize(offset, n), Refused(if n < limit { otherwise } else { TooLarge }))]);
+            due(both, [(Resize(handle, n), Refused(if n < limit { otherwise } else { TooLarge }))]);
         }
     };
-    // at the start of the live aligned block the enlarged size counts, whether it is damaged or not
+    // at the start of the live aligned block the enlarged size counts, whether the handle is its present one or not, and it is damaged or not
     due_at(both, 128, TOO_LARGE - 48, NoRoom);
+    for handle in 129..144 {
+        due_at(both, handle, TOO_LARGE - 48, Stale);
+    }
     due(both, [(Store(124, 1), Done)]);
     due_at(both, 128, TOO_LARGE - 48, HeaderDamaged);
     due(both, [(Store(124, 0), Done), (Store(156, 1), Done)]);
     due_at(both, 128, TOO_LARGE - 48, Overrun);
-    // at any other offset the size itself does
+    due_at(both, 129, TOO_LARGE - 48, Stale);
+    // at any other start the size itself does
     due_at(both, 64, TOO_LARGE, AlreadyFree);
+    due_at(both, 79, TOO_LARGE, AlreadyFree);
     due_at(both, 176, TOO_LARGE, NoRoom);
-    for offset in [0, 32, 127, 129, 136, 144, 4096, usize::MAX] {
-        due_at(both, offset, TOO_LARGE, NoSuchBlock);
+    due_at(both, 177, TOO_LARGE, Stale);
+    for handle in [0, 32, 127, 144, 4096, usize::MAX] {
+        due_at(both, handle, TOO_LARGE, NoSuchBlock);
     }
 }
 
 /// Calls about a block, with those sizes for a resize that tell alignments apart.
-fn calls_about((start, n): (usize, usize)) -> Vec<Call> {
+fn calls_about((handle, n): (usize, usize)) -> Vec<Call> {
     let sizes = [n, n + 1, n + 16, TOO_LARGE - 16, TOO_LARGE - 4080];
-    calls_on((start, n)).into_iter().chain(sizes.map(|n| Resize(start, n))).chain([GrantAligned(n, 64)]).collect()
+    calls_on((handle, n)).into_iter().chain(sizes.map(|n| Resize(handle, n))).chain([GrantAligned(n, 64)]).collect()
 }
 
 /// A pool over tables that no calls have made, with header and guard of every live block that fits its slot.
@@ -309,7 +323,7 @@ fn every_alignment_byte() {
             for byte in 0..=255 {
                 let told = format_args!("pool {p}, slot {} of group {}, {:?}, made {byte}", place.number, place.group, place.slot);
                 changed.room[at] = byte;
-                let is_sound = over_any(&changed, &calls_about((place.start(), place.slot.size)), told);
+                let is_sound = over_any(&changed, &calls_about((place.handle(), place.slot.size)), told);
                 assert_eq!(is_sound, may_begin(&place, byte), "{told}");
                 if is_sound {
                     sound[usize::from(place.is_live())][usize::from(byte)] += 1;
@@ -423,7 +437,7 @@ fn at_an_edge(numbers: &mut Numbers, both: &Both) -> Option<Call> {
     let of_class = |class| slot_bytes(class) - 4 - (place.slot.align - 16).min(slot_bytes(class) - 4);
     let edges =
         [place.end() - place.start(), of_class(place.class), of_class(place.class.saturating_sub(1)), of_class(place.class.saturating_sub(2))];
-    Some(Resize(place.start(), (numbers.of(&edges) + numbers.below(4)).saturating_sub(1)))
+    Some(Resize(place.handle(), (numbers.of(&edges) + numbers.below(4)).saturating_sub(1)))
 }
 
 #[test]
@@ -438,17 +452,17 @@ fn random_calls_on_blocks_at_any_multiple() {
         for _ in 0..150 {
             let call = if numbers.one_in(4) { at_an_edge(&mut numbers, &both) } else { None };
             let call = call.unwrap_or_else(|| next_call(&mut numbers, &both, no_store));
-            let before = if let Resize(offset, _) = call { aligned(&both.second).into_iter().find(|place| place.start() == offset) } else { None };
+            let before = if let Resize(handle, _) = call { aligned(&both.second).into_iter().find(|place| place.handle() == handle) } else { None };
             let answer = both.call(call).unwrap_or_else(|why| panic!("seed {seed}: {why}"));
-            *seen.entry(kind(call, &answer, &both.second)).or_default() += 1;
-            if let (Resize(offset, n), Some(place), Value(start)) = (call, before, answer) {
-                let (fits, serves) = (offset + n <= place.end(), serves(place.class, n, place.slot.align));
-                assert_eq!(start == offset, fits && serves, "seed {seed}: {call:?}");
+            *seen.entry(kind(call, &answer, &both)).or_default() += 1;
+            if let (Resize(handle, n), Some(place), Value(after)) = (call, before, answer) {
+                let (fits, serves) = (place.start() + n <= place.end(), serves(place.class, n, place.slot.align));
+                assert_eq!(after == handle, fits && serves, "seed {seed}: {call:?}");
                 upwards += usize::from(fits && !serves && place.class < class_of(n + place.slot.align - 16));
                 beyond += usize::from(!fits && serves);
             }
-            if let (GrantAligned(_, align), Value(start)) = (call, answer) {
-                assert_eq!(start % align, 0, "seed {seed}: {call:?}");
+            if let (GrantAligned(_, align), Value(handle)) = (call, answer) {
+                assert_eq!(start_of(handle) % align, 0, "seed {seed}: {call:?}");
             }
             assert!(aligned(&both.second).iter().all(|place| place.start() % place.slot.align == 0), "seed {seed}: after {call:?}");
         }

@@ -4,13 +4,15 @@ mod any;
 mod common;
 mod forged;
 mod random;
+mod sample;
 
-use any::{calls_on, no_store, over_any, refused, sample, set_up_over, OLD};
+use any::{calls_on, over_any, refused, set_up_over};
 use common::{Answer, Both, Buffers, Call};
 use forged::saying;
 use random::{all_seen, block, kind, next_call, Engine, Numbers, Seen, UNDAMAGED};
+use sample::{no_store, sample, OLD};
 use slotpool::{room_len, Refusal};
-use slotpool_reference::{class_of, enlarged, rows_of, slot_bytes, slots_of, State, Tables, ALIGNMENTS, ORDINARY, TOO_LARGE};
+use slotpool_reference::{class_of, enlarged, rows_of, slot_bytes, slots_of, start_of, State, Tables, ALIGNMENTS, ORDINARY, TOO_LARGE};
 
 fn run(arena_len: usize, calls: &[Call]) -> Result<(), String> {
     let mut both = Both::new(arena_len, OLD);
@@ -49,8 +51,8 @@ fn anywhere(numbers: &mut Numbers, both: &Both) -> Option<Call> {
     let at = if live.is_empty() || numbers.one_in(6) {
         numbers.below(both.first.arena.len())
     } else {
-        let (start, n) = numbers.of(&live);
-        let near = start + numbers.below(n + 24);
+        let (handle, n) = numbers.of(&live);
+        let near = start_of(handle) + numbers.below(n + 24);
         near.saturating_sub(8).min(both.first.arena.len() - 1)
     };
     Some(Call::Store(at, if numbers.one_in(2) { 0 } else { numbers.next() as u8 }))
@@ -76,7 +78,7 @@ fn random(seed: u64, arena_len: usize, steps: usize, engine: Engine, seen: &mut 
         let call = next_call(&mut numbers, &both, engine);
         calls.push(call);
         match both.call(call) {
-            Ok(answer) => *seen.entry(kind(call, &answer, &both.second)).or_default() += 1,
+            Ok(answer) => *seen.entry(kind(call, &answer, &both)).or_default() += 1,
             Err(_) => fail(seed, arena_len, calls),
         }
     }
@@ -129,28 +131,30 @@ fn wrap(n: usize, slot: usize) -> usize {
     assert!(slots_of(class) > 1, "another slot keeps the group");
     let mut both = Both::new(512 * rows_of(class), OLD);
     let grants = (0..slots_of(class)).map(|_| both.call(Call::Grant(n)));
-    let first: Vec<usize> = grants.map(|a| if let Ok(Answer::Value(start)) = a { start } else { panic!("grant {n}: {a:?}") }).collect();
-    // the first starts have no displacement, and are a slot apart
+    let first: Vec<usize> = grants.map(|a| if let Ok(Answer::Value(handle)) = a { handle } else { panic!("grant {n}: {a:?}") }).collect();
+    // the first handles are starts with no displacement, a slot apart
     let s = first[1] - first[0];
     let t = (s - 4 - n) / 16;
     let places = t + 1;
     let mut wrapped = 0;
     let mut old = first[slot];
     for granted in 1..256 * WRAPS + places {
-        // the displacement is the count modulo t + 1
+        // the displacement is the count modulo t + 1, the bits are it modulo 16
         let start = first[slot] + 16 * (granted % 256 % places);
+        let handle = start + granted % 16;
+        let gone = if start_of(old) == start { Refusal::Stale } else { Refusal::NoSuchBlock };
         let count = both.second.groups[0].slots[slot].count;
         for (call, due) in [
             (Call::Release(old), Answer::Done),
             (Call::Release(old), Answer::Refused(Refusal::AlreadyFree)),
-            (Call::Grant(n), Answer::Value(start)),
-            (Call::Measure(start), Answer::Value(n)),
-            (Call::Measure(old), if old == start { Answer::Value(n) } else { Answer::Refused(Refusal::NoSuchBlock) }),
+            (Call::Grant(n), Answer::Value(handle)),
+            (Call::Measure(handle), Answer::Value(n)),
+            (Call::Measure(old), Answer::Refused(gone)),
         ] {
             assert_eq!(both.call(call), Ok(due), "blocks of {n} bytes, slot {slot} granted {granted} times: {call:?}");
         }
         wrapped += usize::from((count, both.second.groups[0].slots[slot].count) == (255, 0));
-        old = start;
+        old = handle;
     }
     assert_eq!(wrapped, WRAPS, "blocks of {n} bytes, slot {slot}: how often its count went from 255 to 0");
     places
@@ -168,9 +172,10 @@ fn use_counts_wrap() {
     assert!(places.iter().any(|p| 256 % p != 0));
 }
 
-/// Changes single bytes from the first one past a live block of `n` bytes at `start` to its end and the byte after that. Calls on the block are
-/// refused with 7 exactly if the byte is the first spare one, or one of the guard's five.
-fn past_the_end(both: &mut Both, start: usize, n: usize, end: usize) {
+/// Changes single bytes from the first one past a live block of `n` bytes to its end and the byte after that. Calls on the block are refused with 7
+/// exactly if the byte is the first spare one, or one of the guard's five.
+fn past_the_end(both: &mut Both, handle: usize, n: usize, end: usize) {
+    let start = start_of(handle);
     let reserved = end - start - n;
     let guard = if reserved >= 5 { end - 5 } else { end };
     let first = start + n;
@@ -181,11 +186,11 @@ fn past_the_end(both: &mut Both, start: usize, n: usize, end: usize) {
             both.call(Call::Store(at, byte)).unwrap();
             let told = format_args!("a block of {n} bytes at {start}, {reserved} spare, byte {at}");
             if compared {
-                for call in [Call::Measure(start), Call::Release(start), Call::Resize(start, n), Call::Resize(start, n / 2)] {
+                for call in [Call::Measure(handle), Call::Release(handle), Call::Resize(handle, n), Call::Resize(handle, n / 2)] {
                     assert_eq!(both.call(call), Ok(Answer::Refused(Refusal::Overrun)), "{told}: {call:?}");
                 }
             } else {
-                assert_eq!(both.call(Call::Measure(start)), Ok(Answer::Value(n)), "{told}");
+                assert_eq!(both.call(Call::Measure(handle)), Ok(Answer::Value(n)), "{told}");
             }
         }
         both.call(Call::Store(at, old)).unwrap();
@@ -207,11 +212,11 @@ fn one_byte_past_the_end() {
         }
         // the first slot's block, then the next one there: its start is displaced if the slot has a unit to spare
         for _ in 0..2 {
-            let (start, _) = both.second.live()[0];
+            let (handle, _) = both.second.live()[0];
             let end = 16 + slot_bytes(class) - 4;
-            past_the_end(&mut both, start, n, end);
-            blocks[(end - start - n).min(6)] += 1;
-            both.call(Call::Release(start)).unwrap();
+            past_the_end(&mut both, handle, n, end);
+            blocks[(end - start_of(handle) - n).min(6)] += 1;
+            both.call(Call::Release(handle)).unwrap();
             both.call(Call::GrantAligned(n, align)).unwrap();
         }
     }

@@ -7,6 +7,13 @@ mod random;
 use common::{Answer, Both, Call};
 use random::{all_seen, block, kind, next_call, Numbers, Seen, UNDAMAGED};
 use slotpool::Refusal;
+use slotpool_reference::start_of;
+
+/// Some bytes of a block, by their numbers in it: where they are in the arena.
+fn requested(handle: usize, from: usize, to: usize) -> (usize, usize) {
+    let start = start_of(handle);
+    (start + from, start + to)
+}
 
 /// One of the two runs, beside the second implementation, with the numbers that its engine stores.
 struct Run {
@@ -50,11 +57,13 @@ impl Run {
     /// From where to where blocks have gained bytes by a call, before which these ones were live.
     fn gained(&self, live: &[(usize, usize)], call: Call, answer: Answer) -> Vec<(usize, usize)> {
         match (call, answer) {
-            (Call::Grant(n) | Call::GrantAligned(n, _), Answer::Value(start)) => vec![(start, start + n)],
-            (Call::GrantList(list), Answer::Value(_)) => list.sizes().iter().zip(self.both.lent[0]).map(|(n, start)| (start, start + n)).collect(),
-            (Call::Resize(offset, n), Answer::Value(start)) => {
-                let old = live.iter().find(|b| b.0 == offset).map_or(0, |b| b.1);
-                vec![(start + old.min(n), start + n)]
+            (Call::Grant(n) | Call::GrantAligned(n, _), Answer::Value(handle)) => vec![requested(handle, 0, n)],
+            (Call::GrantList(list), Answer::Value(_)) => {
+                list.sizes().iter().zip(self.both.lent[0]).map(|(&n, handle)| requested(handle, 0, n)).collect()
+            }
+            (Call::Resize(before, n), Answer::Value(handle)) => {
+                let old = live.iter().find(|b| b.0 == before).map_or(0, |b| b.1);
+                vec![requested(handle, old.min(n), n)]
             }
             _ => Vec::new(),
         }
@@ -63,8 +72,9 @@ impl Run {
     /// The arena with zero for the requested bytes of live blocks.
     fn outside(&self) -> Vec<u8> {
         let mut bytes = self.both.first.arena.clone();
-        for (start, n) in self.both.second.live() {
-            bytes[start..start + n].fill(0);
+        for (handle, n) in self.both.second.live() {
+            let (from, to) = requested(handle, 0, n);
+            bytes[from..to].fill(0);
         }
         bytes
     }
@@ -99,7 +109,7 @@ fn twice(seed: u64, arena_len: usize, calls: usize, seen: &mut Seen) -> usize {
     for made in 0..calls {
         let call = next_call(&mut numbers, &runs[0].both, |_, _| None);
         match step(&mut runs, call) {
-            Ok(answer) => *seen.entry(kind(call, &answer, &runs[0].both.second)).or_default() += 1,
+            Ok(answer) => *seen.entry(kind(call, &answer, &runs[0].both)).or_default() += 1,
             Err(why) => panic!("seed {seed}, arena of {arena_len} bytes, after {made} calls: {why}"),
         }
         different += usize::from(runs[0].both.first.arena != runs[1].both.first.arena);

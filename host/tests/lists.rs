@@ -13,9 +13,9 @@ const CAPS: [usize; 14] = [1, 2, 3, 12, 13, 160, 4095, 65_536, 131_050, 131_051,
 
 #[test]
 fn refusals_have_names() {
-    let refusals = [Refusal::BadArena, Refusal::NoRoom, Refusal::TooLong, Refusal::BadAlignment, Refusal::BadProposal];
+    let refusals = [Refusal::BadArena, Refusal::NoRoom, Refusal::TooLong, Refusal::Stale, Refusal::BadAlignment, Refusal::BadProposal];
     let names = refusals.map(|refusal| refusal.to_string());
-    assert_eq!(names, ["bad arena", "no room", "list too long", "bad alignment", "bad proposal"]);
+    assert_eq!(names, ["bad arena", "no room", "list too long", "stale", "bad alignment", "bad proposal"]);
 }
 
 /// Checks a proposal in both implementations: whether it is accepted.
@@ -120,15 +120,15 @@ fn last_requested(numbers: &mut Numbers, both: &Both) -> Option<Call> {
 fn beside_its_grants(both: &mut Both, list: List) -> Result<(Answer, usize), String> {
     let mut copy = both.first.clone();
     let mut pool = Pool::over(&mut copy.arena, &mut copy.room, &mut copy.totals);
-    let mut starts = Vec::new();
-    let refusal = list.sizes().iter().find_map(|&n| pool.grant(n).map(|start| starts.push(start)).err());
+    let mut handles = Vec::new();
+    let refusal = list.sizes().iter().find_map(|&n| pool.grant(n).map(|handle| handles.push(handle.raw())).err());
     let answer = both.call(Call::GrantList(list))?;
     let right = match answer {
-        Answer::Value(entries) => refusal.is_none() && entries == starts.len() && starts == both.lent[0][..entries] && copy == both.first,
+        Answer::Value(entries) => refusal.is_none() && entries == handles.len() && handles == both.lent[0][..entries] && copy == both.first,
         Answer::Refused(Refusal::NoRoom) => refusal == Some(Refusal::NoRoom),
         _ => matches!(answer, Answer::Refused(Refusal::TooLong | Refusal::BadProposal)),
     };
-    right.then_some((answer, starts.len())).ok_or(format!("{list:?}: {answer:?}, but its grants gave {starts:?} and {refusal:?}"))
+    right.then_some((answer, handles.len())).ok_or(format!("{list:?}: {answer:?}, but its grants gave {handles:?} and {refusal:?}"))
 }
 
 #[test]
@@ -152,7 +152,7 @@ fn a_list_is_its_grants() {
                 (Call::GrantList(_), Answer::Refused(Refusal::NoRoom)) => refused[grants] += 1,
                 _ => {}
             }
-            *seen.entry(kind(call, &answer, &both.second)).or_default() += 1;
+            *seen.entry(kind(call, &answer, &both)).or_default() += 1;
         }
     }
     println!("{seen:?}\nlists of 0 to 17 entries that were granted: {granted:?}\nlists whose entry 1 to 17 met no room: {refused:?}");

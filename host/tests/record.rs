@@ -3,10 +3,12 @@
 mod any;
 mod common;
 mod random;
+mod sample;
 
-use any::{calls_on, over_any, refused, sample, set_up_over, OLD};
+use any::{calls_on, over_any, refused, set_up_over};
 use common::{Answer, Both, Buffers, Call, List};
 use random::{all_seen, block as requested, kind, next_call, Numbers, Seen, UNDAMAGED};
+use sample::{sample, OLD};
 use slotpool::{Pool, Refusal, Totals};
 use slotpool_reference::{slot_bytes, Group, Slot, State, Tables};
 use std::collections::{BTreeMap, BTreeSet};
@@ -47,7 +49,10 @@ fn pools() -> Vec<Both> {
         // class 0: blocks of no bytes, some waiting while others were never granted
         after(1024, times(6, Grant(0)).chain([Release(32), Release(80)])),
         // class 0: the second slot granted 256 times, and ready
-        after(512, times(31, Grant(0)).chain((0..255).flat_map(|_| [Release(32), Grant(0)])).chain([Release(16), Release(32), Grant(0)])),
+        after(
+            512,
+            times(31, Grant(0)).chain((0..255).flat_map(|k| [Release(32 + k % 16), Grant(0)])).chain([Release(16), Release(32 + 15), Grant(0)]),
+        ),
         // class 1: blocks resized to no bytes, one waiting; and, of a full group, some ready again
         after(1024, times(5, Grant(20)).chain([Resize(16, 0), Resize(48, 0), Release(80), Grant(28)])),
         after(1024, times(31, Grant(13)).chain([Release(16), Release(48), Release(80), Grant(28), Resize(112, 0)])),
@@ -57,7 +62,7 @@ fn pools() -> Vec<Both> {
         // class 10: a full group, refilled; blocks displaced, and one shrunk and one grown in place
         after(
             4096,
-            times(21, Grant(160)).chain([16, 592, 784].map(Release)).chain([Grant(160), Grant(157), Resize(32, 141), Resize(208, 188), Release(976)]),
+            times(21, Grant(160)).chain([16, 592, 784].map(Release)).chain([Grant(160), Grant(157), Resize(33, 141), Resize(208, 188), Release(976)]),
         ),
         // resizes by a move: the first leaves its group, the second ends it
         after(4096, [Grant(40), Grant(40), Resize(16, 50), Resize(64, 52), Grant(60), Resize(1616, 20)]),
@@ -72,7 +77,7 @@ fn pools() -> Vec<Both> {
     pools
 }
 
-/// A live block of a pool, the next at each turn, or where the first one would be.
+/// A live block of a pool, handle and size, the next at each turn, or what the first one would be.
 fn block(both: &Both, turn: usize) -> (usize, usize) {
     let live = both.second.live();
     live.get(turn % live.len().max(1)).copied().unwrap_or((16, 12))
@@ -116,10 +121,11 @@ impl Place {
         Some(format!("{}{of}, {slot}", self.field))
     }
 
-    /// The last start of the slot there, or where its first would be, and its size.
+    /// The handle and the size of the slot's block there; of one that is not live, of its last block or, at the beginning, of none.
     fn block(&self, tables: &Tables) -> Option<(usize, usize)> {
         let (group, slot) = self.slot(tables)?;
-        Some((512 * group.first_row + 16 + self.slot * slot_bytes(group.class) + 16 * slot.last.unwrap_or(0), slot.size))
+        let start = 512 * group.first_row + 16 + self.slot * slot_bytes(group.class) + 16 * slot.last.unwrap_or(0);
+        Some((slot.handle(start), slot.size))
     }
 }
 
@@ -325,7 +331,7 @@ fn wrong_records_among_random_calls() {
                 wrong += 1;
             }
             let answer = both.call(call).unwrap_or_else(|why| panic!("seed {seed}: {why}"));
-            *seen.entry(kind(call, &answer, &both.second)).or_default() += 1;
+            *seen.entry(kind(call, &answer, &both)).or_default() += 1;
         }
     }
     println!("{wrong} calls with a wrong record, then with the right one: {seen:?}");
@@ -350,13 +356,13 @@ fn a_refused_set_up_keeps_the_record() {
 fn a_pool_shows_its_record() {
     let Buffers { mut arena, mut room, mut totals } = Buffers::old(4096, OLD);
     let mut pool = Pool::set_up(&mut arena, &mut room, &mut totals).unwrap();
-    pool.grant(160).unwrap();
+    let block = pool.grant(160).unwrap();
     let due = record_of([1, 160, 8, 0, 20, 0]);
     assert_eq!((*pool.totals(), pool.report()), (due, Ok(due)));
     pool.grant(13).unwrap_err();
     assert_eq!(*pool.totals(), due);
     // what is lent is the record itself, and another pool over it sees what this one left
-    pool.release(16).unwrap();
+    pool.release(block).unwrap();
     assert_eq!(Pool::over(&mut arena, &mut room, &mut totals).report(), Ok(record_of([0, 0, 0, 8, 0, 0])));
     totals.rows_free = 7;
     let pool = Pool::over(&mut arena, &mut room, &mut totals);

@@ -1,5 +1,5 @@
-/* Every refusal of every call, through the C functions: its number, the value 0 (from report, six zeros), and no byte changed, nor a
- * number of the record, nor a place of a lent list. */
+/* Every refusal of every call, through the C functions, alone and with each later one due behind it: its number, the value 0 (from report,
+ * six zeros), and no byte changed, nor a number of the record, nor a place of a lent list. */
 #include <stdio.h>
 #include <stdlib.h>
 #include <string.h>
@@ -10,11 +10,12 @@ enum call { SET_UP, GRANT, RELEASE, RESIZE, MEASURE, REPORT, GRANT_ALIGNED, GRAN
 
 static const char *const names[] = {"set up", "grant", "release", "resize", "measure", "report", "grant aligned", "grant list", "plan list"};
 
-/* The numbers that each call on blocks can refuse with. */
-static const char *const refusals[] = {"1", "238", "24567", "2345678", "24567", "2"};
+/* The numbers that each call on blocks can refuse with, in the order in which they are tested; 0 ends them. */
+static const uint8_t refusals[][9] = {{1}, {2, 3, 8}, {2, 4, 5, 10, 6, 7}, {2, 3, 4, 5, 10, 6, 7, 8}, {2, 4, 5, 10, 6, 7}, {2}};
 
-/* The pool: one group holds all rows, with a freed block and a live one. The live one's guard is the 5 bytes before END. */
-enum { ARENA = 4096, SIZE = 160, FREED = 16, LIVE = 208, END = LIVE + 188 };
+/* The pool: one group holds all rows, with a freed block and a live one. Each is the second of its slot: it starts 16 bytes after the slot's
+ * beginning, and the low bits of its handle are 1. The live one's guard is the 5 bytes before END. */
+enum { ARENA = 4096, SIZE = 160, SLOTS = 21, SLOT = 192, FREED = 16 + 16 + 1, LIVE = FREED + SLOT, END = 16 + SLOT + 188 };
 
 /* The largest size of the group's class. A block of one byte more has no room. */
 enum { MOST = 188 };
@@ -102,10 +103,10 @@ union record {
 static struct {
     uint8_t arena[ARENA], room[ARENA];
     union record record;
-    size_t starts[40], sizes[17];
+    size_t handles[40], sizes[17];
 } pool, before;
 
-static size_t arena_len, room_len, offset, n;
+static size_t arena_len, room_len, handle, n;
 static const struct aligned *block;
 static const struct list *list;
 #define LENT pool.arena, arena_len, pool.room, room_len, &pool.record.totals
@@ -116,41 +117,64 @@ static union record given;
 enum { PATTERN = 0x5A5A };
 
 static enum call call;
-static uint32_t due;
 
-/* Why 2 is due: by the tables, or by a number of the record that is one too large, or one too small. */
+/* The answer that is due, and one that would be due without it, or the same. */
+static uint32_t due, behind;
+
+/* Why 2 is due: by the tables, or by a number of the record that is one too large, or one too small. With which low bits 4, 5 or 10 is. */
 static unsigned cause;
-enum { BY_TABLES, CAUSES = 1 + 6 + 6 };
+enum { BY_TABLES, CAUSES = 1 + 6 + 6, BITS = 16 };
 
 static void check(int holds, int line, const char *what)
 {
     if (holds)
         return;
-    printf("%s:%d: %s, answer %u due", __FILE__, line, names[call], (unsigned)due);
+    printf("%s:%d: %s, answer %u due before %u", __FILE__, line, names[call], (unsigned)due, (unsigned)behind);
     if (call == GRANT_ALIGNED)
         printf(", block %d", (int)(block - blocks));
     if (call >= GRANT_LIST)
         printf(", list %d", (int)(list - lists));
-    if (due == SLOTPOOL_UNSOUND)
-        printf(", cause %u", cause);
-    printf(": it is not so that %s\n", what);
+    printf(", cause %u: it is not so that %s\n", cause, what);
     exit(1);
 }
 #define CHECK(what) check(what, __LINE__, #what)
 
-/* Sets the pool up, and makes one refusal due. */
-static void arrange(void)
+/* A grant that is done, with the handle due. */
+static void grant(size_t due_handle)
+{
+    CHECK(slotpool_grant(LENT, SIZE, VALUE) == SLOTPOOL_DONE);
+    CHECK(*VALUE == due_handle);
+}
+
+static void release(size_t granted)
+{
+    CHECK(slotpool_release(LENT, granted) == SLOTPOOL_DONE);
+}
+
+/* Sets the pool up: a first block in every slot of the group, all released but the last, which keeps the group for the second ones. */
+static void set_up(void)
 {
     memset(&pool, 0xA5, sizeof pool);
     arena_len = ARENA;
     room_len = slotpool_room_len(ARENA);
     CHECK(slotpool_set_up(LENT) == SLOTPOOL_DONE);
-    CHECK(slotpool_grant(LENT, SIZE, VALUE) == SLOTPOOL_DONE && *VALUE == FREED);
-    CHECK(slotpool_grant(LENT, SIZE, VALUE) == SLOTPOOL_DONE && *VALUE == LIVE);
-    CHECK(slotpool_release(LENT, FREED) == SLOTPOOL_DONE);
-    offset = LIVE;
+    for (size_t i = 0; i < SLOTS; i++)
+        grant(16 + i * SLOT);
+    for (size_t i = 0; i < SLOTS - 1; i++)
+        release(16 + i * SLOT);
+    grant(FREED);
+    grant(LIVE);
+    release(16 + (SLOTS - 1) * SLOT);
+    release(FREED);
+    handle = LIVE;
     n = SIZE;
-    switch (due) {
+}
+
+/* Makes a refusal due. */
+static void spoil(uint32_t refusal)
+{
+    size_t start = slotpool_start(LIVE);
+    switch (refusal) {
     case SLOTPOOL_BAD_ARENA:
         arena_len--;
         break;
@@ -164,19 +188,22 @@ static void arrange(void)
         n = 131052;
         break;
     case SLOTPOOL_NO_SUCH_BLOCK:
-        offset = LIVE + 1;
+        handle = start + 16 + cause % BITS;
         break;
     case SLOTPOOL_ALREADY_FREE:
-        offset = FREED;
+        handle = slotpool_start(FREED) + cause % BITS;
+        break;
+    case SLOTPOOL_STALE:
+        handle = start + (LIVE + 1 + cause % (BITS - 1)) % BITS;
         break;
     case SLOTPOOL_HEADER_DAMAGED:
-        pool.arena[LIVE - 1] ^= 1;
+        pool.arena[start - 1] ^= 1;
         break;
     case SLOTPOOL_OVERRUN:
         pool.arena[END - 1] ^= 1;
         break;
     case SLOTPOOL_NO_ROOM:
-        n = END - LIVE + 1;
+        n = MOST + 1;
         break;
     }
 }
@@ -192,19 +219,19 @@ static size_t make(uint32_t *answer)
         *answer = slotpool_grant(LENT, n, VALUE);
         return 1;
     case RELEASE:
-        *answer = slotpool_release(LENT, offset);
+        *answer = slotpool_release(LENT, handle);
         return 0;
     case RESIZE:
-        *answer = slotpool_resize(LENT, offset, n, VALUE);
+        *answer = slotpool_resize(LENT, handle, n, VALUE);
         return 1;
     case MEASURE:
-        *answer = slotpool_measure(LENT, offset, VALUE);
+        *answer = slotpool_measure(LENT, handle, VALUE);
         return 1;
     case GRANT_ALIGNED:
         *answer = slotpool_grant_aligned(LENT, block->n, block->align, VALUE);
         return 1;
     case GRANT_LIST:
-        *answer = slotpool_grant_list(LENT, list->length, list->cap, list->sizes, list->count, pool.starts, list->places, VALUE);
+        *answer = slotpool_grant_list(LENT, list->length, list->cap, list->sizes, list->count, pool.handles, list->places, VALUE);
         return 1;
     case PLAN_LIST:
         *answer = slotpool_plan_list(list->length, list->cap, pool.sizes, VALUE);
@@ -217,7 +244,10 @@ static size_t make(uint32_t *answer)
 
 static void refuse_once(void)
 {
-    arrange();
+    set_up();
+    if (behind != due)
+        spoil(behind);
+    spoil(due);
     before = pool;
     for (size_t i = 0; i < 6; i++)
         given.numbers[i] = PATTERN;
@@ -229,13 +259,54 @@ static void refuse_once(void)
     CHECK(memcmp(&pool, &before, sizeof pool) == 0);
 }
 
-/* A refusal, by every cause; gives how many those are. */
+static unsigned causes(void)
+{
+    switch (due) {
+    case SLOTPOOL_UNSOUND:
+        return CAUSES;
+    case SLOTPOOL_NO_SUCH_BLOCK:
+    case SLOTPOOL_ALREADY_FREE:
+        return BITS;
+    case SLOTPOOL_STALE:
+        return BITS - 1;
+    default:
+        return 1;
+    }
+}
+
+/* A refusal before another, by every cause; gives how many those are. */
+static unsigned refuse_before(uint32_t other)
+{
+    behind = other;
+    for (cause = 0; cause < causes(); cause++)
+        refuse_once();
+    return causes();
+}
+
 static unsigned refuse(void)
 {
-    unsigned causes = due == SLOTPOOL_UNSOUND ? CAUSES : 1;
-    for (cause = 0; cause < causes; cause++)
-        refuse_once();
-    return causes;
+    return refuse_before(due);
+}
+
+/* A call's refusals, each alone and before each later one. */
+static unsigned refuse_in_order(const uint8_t *numbers)
+{
+    unsigned seen = 0;
+    for (const uint8_t *first = numbers; *first; first++)
+        for (const uint8_t *later = first; *later; later++) {
+            due = *first;
+            seen += refuse_before(*later);
+        }
+    return seen;
+}
+
+/* A start is the multiple of 16 at or below the handle. */
+static void check_starts(void)
+{
+    for (size_t i = 0; i < ARENA; i++) {
+        CHECK(slotpool_start(i) == i / 16 * 16);
+        CHECK(slotpool_start(SIZE_MAX - i) == SIZE_MAX / 16 * 16 - i / 16 * 16);
+    }
 }
 
 /* A list, and its plan where the planner refuses it, too. 17 is due exactly if the check refuses. */
@@ -256,11 +327,9 @@ static unsigned refuse_list(void)
 int main(void)
 {
     unsigned seen = 0;
+    check_starts();
     for (call = SET_UP; call <= REPORT; call++)
-        for (const char *digit = refusals[call]; *digit; digit++) {
-            due = (uint32_t)(*digit - '0');
-            seen += refuse();
-        }
+        seen += refuse_in_order(refusals[call]);
     call = GRANT_ALIGNED;
     for (block = blocks; block < blocks + sizeof blocks / sizeof *blocks; block++) {
         due = block->due;

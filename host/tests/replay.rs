@@ -8,7 +8,7 @@ use common::{Answer, Both, Call};
 use program::run;
 use random::{all_seen, block, kind, next_call, Numbers, Seen, UNDAMAGED};
 use slotpool::trace::{parse, read, text, write, Op, MOST};
-use slotpool_reference::replay;
+use slotpool_reference::{replay, start_of};
 use std::ops::Range;
 use std::path::Path;
 use std::process::Command;
@@ -63,8 +63,8 @@ fn anywhere(numbers: &mut Numbers, both: &Both) -> Range<usize> {
     let from = if live.is_empty() || numbers.one_in(6) {
         numbers.below(ARENA + 1)
     } else {
-        let (start, n) = numbers.of(&live);
-        (start + numbers.below(n + 24)).saturating_sub(8).min(ARENA)
+        let (handle, n) = numbers.of(&live);
+        (start_of(handle) + numbers.below(n + 24)).saturating_sub(8).min(ARENA)
     };
     let most = numbers.of(&[9, 9, 9, 9, 300]);
     from..(from + numbers.below(most)).min(ARENA)
@@ -76,15 +76,15 @@ type Engine = fn(&mut Numbers, &Both) -> Range<usize>;
 /// How an engine stores: not at all, so as to damage no block, or anyhow.
 const ENGINES: [Option<Engine>; 3] = [None, Some(in_requested), Some(anywhere)];
 
-/// The records of an answered call, as far as traces have it: a list that was granted is its grants. The largest sizes and offsets
+/// The records of an answered call, as far as traces have it: a list that was granted is its grants. The largest sizes and handles
 /// become the largest of four bytes.
 fn records(call: Call, answer: Answer) -> Vec<Op> {
     match (call, answer) {
         (Call::Grant(n), _) => vec![Op::Grant(n as u32)],
         (Call::GrantList(list), Answer::Value(_)) => list.sizes().iter().map(|&n| Op::Grant(n as u32)).collect(),
-        (Call::Release(offset), _) => vec![Op::Release(offset as u32)],
-        (Call::Resize(offset, n), _) => vec![Op::Resize(offset as u32, n as u32)],
-        (Call::Measure(offset), _) => vec![Op::Measure(offset as u32)],
+        (Call::Release(handle), _) => vec![Op::Release(handle as u32)],
+        (Call::Resize(handle, n), _) => vec![Op::Resize(handle as u32, n as u32)],
+        (Call::Measure(handle), _) => vec![Op::Measure(handle as u32)],
         (Call::Report, _) => vec![Op::Report],
         (Call::SetUp | Call::GrantAligned(..) | Call::GrantList(_) | Call::Store(..), _) => Vec::new(),
     }
@@ -116,7 +116,7 @@ fn draw(seed: usize, seen: &mut Seen) -> Vec<Op> {
                     call => call,
                 };
                 let answer = both.make(call).0;
-                count(kind(call, &answer, &both.second));
+                count(kind(call, &answer, &both));
                 ops.extend(records(call, answer));
             }
         }
@@ -158,22 +158,26 @@ fn random_traces_with_bytes_changed() {
 }
 
 /// Records with every operation and every answer, and what is printed of each.
-const EVERY: [(&str, &str); 19] = [
+const EVERY: [(&str, &str); 23] = [
     ("grant 160", "0 16"),
     ("grant 160", "0 208"),
     ("store 16 00ff07", "0 0"),
     ("measure 16", "0 160"),
     ("resize 16 188", "0 16"),
     ("report", "0 2 348 8 24 19 0"),
+    ("measure 17", "10 0"),
     ("store 12 01", "0 0"),
     ("release 16", "6 0"),
+    ("release 31", "10 0"),
     ("store 12 00", "0 0"),
     ("store 368 01", "0 0"),
     ("measure 208", "7 0"),
     ("store 368 00", "0 0"),
+    ("resize 209 189", "10 0"),
     ("release 16", "0 0"),
     ("release 16", "5 0"),
-    ("resize 17 0", "4 0"),
+    ("resize 17 0", "5 0"),
+    ("resize 15 0", "4 0"),
     ("grant 131052", "3 0"),
     ("grant 20000", "8 0"),
     ("resize 208 189", "0 4112"),

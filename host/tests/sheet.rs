@@ -105,10 +105,10 @@ fn w8_and_w9() {
     for i in 0..21 {
         due(&mut both, [(Grant(160), Value(16 + 192 * i))]);
     }
-    due(&mut both, [(Release(16), Done), (Grant(160), Value(32))]);
+    due(&mut both, [(Release(16), Done), (Grant(160), Value(33))]);
     assert_eq!(both.first.arena[28..32], [0, 160, 1, 0]);
     assert_eq!(both.first.arena[200..204], [12, 0, 0, 0]);
-    due(&mut both, [(Release(16), Refused(Refusal::NoSuchBlock))]);
+    due(&mut both, [(Release(32), Refused(Refusal::Stale)), (Release(16), Refused(Refusal::NoSuchBlock)), (Release(33), Done)]);
 }
 
 #[test]
@@ -150,9 +150,13 @@ fn from_160_to_140_moves() {
 }
 
 #[test]
-fn offset_0_is_never_a_start() {
+fn place_0_is_never_a_start() {
     let absent = Refused(Refusal::NoSuchBlock);
-    due(&mut fresh(512), [(Grant(0), Value(16)), (Release(0), absent), (Measure(0), absent), (Resize(0, 0), absent)]);
+    let mut both = fresh(512);
+    due(&mut both, [(Grant(0), Value(16))]);
+    for handle in 0..16 {
+        due(&mut both, [(Release(handle), absent), (Measure(handle), absent), (Resize(handle, 0), absent)]);
+    }
 }
 
 #[test]
@@ -234,7 +238,7 @@ fn a_list_whose_last_entry_has_no_room() {
     }
     due(&mut both, [(Release(16), Done), (list(373, 200, [160, 13, 200], 17), Refused(Refusal::NoRoom))]);
     due(&mut both, [(list(173, 200, [160, 13], 17), Value(2))]);
-    assert_eq!(both.lent[0][..2], [32, 4112]);
+    assert_eq!(both.lent[0][..2], [33, 4112]);
 }
 
 #[test]
@@ -285,7 +289,7 @@ fn a_displacement_of_0_and_the_last_start_of_a_released_block() {
 fn the_count_steps_by_aligned_grants() {
     let mut both = fresh(4096);
     due(&mut both, [(GrantAligned(392, 1024), Value(1024)), (GrantAligned(392, 1024), Value(2048)), (Release(1024), Done)]);
-    due(&mut both, [(GrantAligned(392, 1024), Value(1024)), (Release(1024), Done), (Grant(1400), Value(48))]);
+    due(&mut both, [(GrantAligned(392, 1024), Value(1025)), (Release(1025), Done), (Grant(1400), Value(50))]);
 }
 
 #[test]

@@ -16,6 +16,7 @@ fn refusal_number(r: Refusal) -> u32
         Refusal::TooLarge => 3,
         Refusal::NoSuchBlock => 4,
         Refusal::AlreadyFree => 5,
+        Refusal::Stale => 10,
         Refusal::HeaderDamaged => 6,
         Refusal::Overrun => 7,
         Refusal::NoRoom => 8,

@@ -135,7 +135,7 @@ aligned-as-said row pos a t n b z =
         let m : alignOf k ≡ max 16 b = align-code b (h .some-code) in
         let i : enlarged k n ≡ n + (b - 16) = enlarged-code b n (h .some-code) in
         let g : GrantedBy row a t asks k n (classOf (n + (b - 16))) q =
-        subst (λ x. GrantedBy row a t asks k n (classOf x) q) i (granted-by row pos a t asks k n (stands .formed) q h e l) in
+        subst (λ x. GrantedBy row a t asks k n (classOf x) q) i (granted-by row pos a t asks k n stands q h e l) in
         let u : row % 16 ≡ 0 = whole-units row (length a) (stands .lawful) in
         let x : start row q % max 16 b ≡ 0 = subst (λ y. start row q % y ≡ 0) m (start-multiple row q _ k n (g .old) (g .state) u (h .some-code)) in
         record {

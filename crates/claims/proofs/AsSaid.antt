@@ -5,17 +5,18 @@ use Rattle.mem.specs.Lists.{any}
 use Rattle.mem.specs.Bytes.{zeros, put}
 use Rattle.mem.proofs.Tests.{T-true, true-T, every-not, choose-case}
 use Rattle.mem.proofs.Laws.{put-all, put-length, put-before, put-past, zeros-length, zeros-put}
-use Rattle.model.specs.State.{Pool, Place, isLive, wellFormed, poolOf}
+use Rattle.model.specs.State.{Pool, Place, isLive, wellFormed, startOf, poolOf}
 use Rattle.model.specs.Answers.{done, listed}
-use Rattle.model.specs.Plans.{freshPool, Plan, releases, reports, plan, lookup, onBlock, releaseAt, release, report}
+use Rattle.model.specs.Plans.{freshPool, Plan, releases, reports, plan, onHandle, releaseAt, release, report}
 use Rattle.model.specs.Tables.{view}
 use Rattle.model.specs.Calls.{callBy, setUpRight, Result, engine, soundKept, applied, written, call}
 use Rattle.model.proofs.Kept.{engine-lawful, kept-totals}
 use Rattle.model.proofs.Formed.{release-formed}
 use Rattle.model.proofs.Fresh.{fresh-formed, fresh-totals, set-up-done}
-use Rattle.model.proofs.Calls.{call-sound, carried-whole, on-live, measure-keeps, report-keeps}
+use Rattle.model.proofs.Calls.{call-sound, carried-whole, measure-keeps, report-keeps}
 use Rattle.claims.specs.Demand2 as demand2
 use Rattle.claims.specs.AsSaid.{MadeFresh, SetsUpAsSaid, ReportsAsSaid, ZeroedOnly, NeverAtZero, ReadsOnly, Waits, Goes, ReleasesAsSaid}
+use Rattle.claims.proofs.Handles.{on-present}
 use Rattle.claims.proofs.Cases.{release-parts}
 use Rattle.claims.proofs.Demand1.{starts-found}
 use Rattle.claims.proofs.Demand2.{set-up-accepted, Accepted, accepted, releases-exactly}
@@ -48,7 +49,7 @@ sets-up-as-said row pos a t z =
 
 pub reads-only : (row : ℕ) → 0 < row → ReadsOnly row
 reads-only row pos = record {
-  measured = λ a t o. let k = measure-keeps row a t o in record { arena = k .arena; room = k .room };
+  measured = λ a t h. let k = measure-keeps row a t h in record { arena = k .arena; room = k .room };
   reported = λ a t. let k = report-keeps row a t in record { arena = k .arena; room = k .room };
 }
 
@@ -74,27 +75,27 @@ module _ (row : ℕ) (pos : 0 < row) (a : List ℕ) (p : Place) (w : T (wellForm
       (ap (λ (r : Result). view row (r .room .tables)) done ∙ engine-lawful row pos .says (releaseAt row p .pool) (release-formed row p w l .formed))
       (ap (λ (r : Result). r .arena) done)
 
--- the plan of a call on the live block that starts at an offset
-module _ (row : ℕ) (pos : 0 < row) (P : Pool) (w : T (wellFormed P)) (a : List ℕ) (o : ℕ) (p : Place) (i : demand2.Intact row a P o p) where
-  pub on-intact : (f : Place → Plan) → onBlock P f (lookup row P o) ≡ f p
-  on-intact f = ap (onBlock P f) (starts-found row pos P o p w (i .live .here)) ∙ on-live P f p (i .live .live)
+-- the plan of a call on the live block of a handle
+module _ (row : ℕ) (pos : 0 < row) (P : Pool) (w : T (wellFormed P)) (a : List ℕ) (h : ℕ) (p : Place) (i : demand2.Intact row a P h p) where
+  pub on-intact : (f : Place → Plan) → onHandle row P h f ≡ f p
+  on-intact f = on-present row pos P h f p (starts-found row pos P (startOf h) p w (i .live .here)) (i .live .live) (i .present)
 
   pub place-formed : T (wellFormed (poolOf p))
   place-formed = subst (λ Q. T (wellFormed Q)) (sym (i .live .here .slotted .pool)) w
 
 pub releases-as-said : (row : ℕ) → 0 < row → ReleasesAsSaid row
 unfolding plan release
-releases-as-said row pos a t o z =
-    let y : Accepted row pos a t (releases o) = accepted row pos a t (releases o) tt z in
+releases-as-said row pos a t h z =
+    let y : Accepted row pos a t (releases h) = accepted row pos a t (releases h) tt z in
     let w : T (wellFormed (view row (t .tables))) = engine-lawful row pos .only (length a) t (y .sound-tables) .0 .formed in
-    let (p, i) = releases-exactly row pos a t o (y .sound-tables) .0 z in
-    let l : call row a t (releases o) ≡ applied (engine row) a (releaseAt row p) =
-    y .left ∙ ap (applied (engine row) a) (on-intact row pos (view row (t .tables)) w a o p i (releaseAt row)) in (
+    let (p, i) = releases-exactly row pos a t h (y .sound-tables) .0 z in
+    let l : call row a t (releases h) ≡ applied (engine row) a (releaseAt row p) =
+    y .left ∙ ap (applied (engine row) a) (on-intact row pos (view row (t .tables)) w a h p i (releaseAt row)) in (
       p,
       record {
         block = i;
         value = ap (λ (r : Result). r .answer .values) l ∙ ap (λ r. r .values) (release-parts row p .1);
-        left = released-as-said row pos a p (place-formed row pos (view row (t .tables)) w a o p i) (i .live .live) (call row a t (releases o)) l;
+        left = released-as-said row pos a p (place-formed row pos (view row (t .tables)) w a h p i) (i .live .live) (call row a t (releases h)) l;
       },
     )
 

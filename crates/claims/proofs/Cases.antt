@@ -10,15 +10,16 @@ use Rattle.classes.proofs.Alignments.{code-most}
 use Rattle.model.specs.declared.Slot.{Slot}
 use Rattle.model.specs.declared.Slot.the-variants.{Fresh}
 use Rattle.model.specs.declared.Refusal.{Refusal}
-use Rattle.model.specs.declared.Refusal.the-variants.{BadArena, Unsound, TooLarge, NoSuchBlock, AlreadyFree, HeaderDamaged, Overrun, NoRoom, TooLong}
-use Rattle.model.specs.declared.Refusal.the-variants.{BadProposal, BadAlignment}
-use Rattle.model.specs.State.{Pool, Place, group, isLive, align, wellFormed, poolOf, become, beginning}
+use Rattle.model.specs.declared.Refusal.the-variants.{BadArena, Unsound, TooLarge, NoSuchBlock, AlreadyFree, Stale, HeaderDamaged, Overrun, NoRoom}
+use Rattle.model.specs.declared.Refusal.the-variants.{TooLong, BadProposal, BadAlignment}
+use Rattle.model.specs.State.{Pool, Place, group, isLive, align, wellFormed, startOf, poolOf, become, beginning, start, handle}
 use Rattle.model.specs.Answers.{numberOf, done}
-use Rattle.model.specs.Plans.{Plan, Site, refused, refill, grantIn, reserve, grantAt, grantAs, grantAligned, lookup, onBlock, releaseAt, inPlace, resizeInPlace}
-use Rattle.model.specs.Plans.{moveTo, newSize, resizeMove, resizeAt, resize, freshPool}
+use Rattle.model.specs.Plans.{Plan, Site, refused, refill, grantIn, reserve, grantAt, grantAs, grantAligned, lookup, onHandle, releaseAt, inPlace}
+use Rattle.model.specs.Plans.{resizeInPlace, moveTo, newSize, resizeMove, resizeAt, resize, freshPool}
 use Rattle.model.specs.Plans.{Call, setsUp, grants, grantsAligned, releases, resizes, measures, reports, grantsList}
 use Rattle.model.proofs.Reserve.{Open, New, site-found, Served, grant-live}
-use Rattle.model.proofs.Formed.{on-block, resizable}
+use Rattle.model.proofs.Lookup.{lookup-found}
+use Rattle.model.proofs.Formed.{on-handle, resizable}
 use Rattle.model.proofs.Calls.{Asks}
 
 -- no refusal's number is 0
@@ -28,6 +29,7 @@ refuses Unsound e = omega arith
 refuses TooLarge e = omega arith
 refuses NoSuchBlock e = omega arith
 refuses AlreadyFree e = omega arith
+refuses Stale e = omega arith
 refuses HeaderDamaged e = omega arith
 refuses Overrun e = omega arith
 refuses NoRoom e = omega arith
@@ -40,9 +42,9 @@ pub by-call : (M : Call → Type 0) → M setsUp → ((c : Call) → Asks c → 
 by-call M s f setsUp = s
 by-call M s f (grants n) = f (grants n) tt
 by-call M s f (grantsAligned n b) = f (grantsAligned n b) tt
-by-call M s f (releases o) = f (releases o) tt
-by-call M s f (resizes o n) = f (resizes o n) tt
-by-call M s f (measures o) = f (measures o) tt
+by-call M s f (releases h) = f (releases h) tt
+by-call M s f (resizes h n) = f (resizes h n) tt
+by-call M s f (measures h) = f (measures h) tt
 by-call M s f reports = f reports tt
 by-call M s f (grantsList total cap places ns) = f (grantsList total cap places ns) tt
 
@@ -53,17 +55,20 @@ release-parts row p =
     choose-case (λ (r : Plan). (r .checks ≡ some p) × (r .answer ≡ done (0 ∷ []))) (any isLive (p .lower ++ p .upper)) _ _
     (λ e. (refl, refl)) (λ e. (refl, refl))
 
--- the live block that a call names
-pub record Named (row : ℕ) (P : Pool) (o : ℕ) (p : Place) : Type 0 where
-  pub found : lookup row P o ≡ some p
+-- the live block that a call names by its handle
+pub record Named (row : ℕ) (P : Pool) (h : ℕ) (p : Place) : Type 0 where
+  pub found : lookup row P (startOf h) ≡ some p
   pub pool : poolOf p ≡ P
   pub live : T (isLive (p .state))
+  pub starts : start row p ≡ startOf h
+  pub present : handle row p ≡ h
 
 -- what holds of every refusal, and of what is done where nothing is refused
 module _ (row : ℕ) (pos : 0 < row) (P : Pool) (M : Plan → Type 0) (no : (r : Refusal) → M (refused r P)) where
-  pub on-named : (o : ℕ) (f : Place → Plan) → ((p : Place) → Named row P o p → M (f p)) → M (onBlock P f (lookup row P o))
-  on-named o f k =
-      on-block row pos M P o f (no NoSuchBlock) (no AlreadyFree) (λ p e i l. k p (record { found = e; pool = i; live = l }))
+  pub on-named : (h : ℕ) (f : Place → Plan) → ((p : Place) → Named row P h p → M (f p)) → M (onHandle row P h f)
+  on-named h f k =
+      on-handle row pos M P h f no
+      (λ p e i l b. k p (record { found = e; pool = i; live = l; starts = lookup-found row pos P (startOf h) p e .2; present = b }))
 
   -- a grant with an alignment that the tables keep
   pub on-grant : (k n : ℕ) → 1 ≤ k → k ≤ 9 → ((q : Place) → Askable k n → reserve row P k n ≡ some q → M (grantAt row P (some q)))
@@ -85,22 +90,25 @@ module _ (row : ℕ) (pos : 0 < row) (P : Pool) (M : Plan → Type 0) (no : (r :
       choose-case M (ltb 0 (codeOf b)) _ _ (λ e. on-grant (codeOf b) n (ltb-true 0 (codeOf b) e) (code-most b) f) (λ e. no BadAlignment)
 
   -- a move asks for the block's own alignment
-  pub on-resize : T (wellFormed P) → (o n : ℕ) → ((p : Place) → Named row P o p → T (inPlace p n) → M (resizeInPlace row p n))
-      → ((p : Place) → Named row P o p → M (moveTo row P p n none))
-      → ((p q : Place) → Named row P o p → Askable (align (p .state)) n → reserve row P (align (p .state)) n ≡ some q → M (moveTo row P p n (some q)))
-      → M (resize row P o n)
+  pub on-resize : T (wellFormed P) → (h n : ℕ) → ((p : Place) → Named row P h p → T (inPlace p n) → M (resizeInPlace row p n))
+      → ((p : Place) → Named row P h p → M (moveTo row P p n none))
+      → ((p q : Place) → Named row P h p → Askable (align (p .state)) n → reserve row P (align (p .state)) n ≡ some q → M (moveTo row P p n (some q)))
+      → M (resize row P h n)
   unfolding resize resizeAt resizeMove
-  on-resize w o n here full moved =
+  on-resize w h n here full moved =
       choose-case M (leb tooLarge (newSize (lookup row P o) n)) _ _ (λ e. no TooLarge)
-      (λ e. on-named o (resizeAt row P n)
+      (λ e. on-named h (resizeAt row P n)
       (λ p b. choose-case M (inPlace p n) (resizeInPlace row p n) (resizeMove row P p n) (λ t. here p b (true-T (inPlace p n) t))
       (λ t. go p b (resizable row pos P o n w p (b .found) (b .pool) (b .live) (leb-false tooLarge (newSize (lookup row P o) n) e))
       (reserve row P (align (p .state)) n) refl)))
     where
-      go : (p : Place) → Named row P o p → Askable (align (p .state)) n → (r : Option Place) → reserve row P (align (p .state)) n ≡ r
+      o : ℕ
+      o = startOf h
+
+      go : (p : Place) → Named row P h p → Askable (align (p .state)) n → (r : Option Place) → reserve row P (align (p .state)) n ≡ r
           → M (moveTo row P p n r)
-      go p b h none e = full p b
-      go p b h (some q) e = moved p q b h e
+      go p b s none e = full p b
+      go p b s (some q) e = moved p q b s e
 
 -- what a grant takes is live
 pub reserve-live : (row : ℕ) (P : Pool) (k n : ℕ) (q : Place) → Served row P k n q → T (isLive (q .state))

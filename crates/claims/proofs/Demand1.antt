@@ -1,6 +1,6 @@
 -- Demand 1: every call ends with the number of the first reason that is due, or 0, and a refusal changes no byte.
-use Rattle.mem.proofs.Prelude.{_≡_, sym, ap, refl, subst, true, Bool, false, inl, inr, some, none, Option, List, [], _∷_, ℕ, _<_, _≤_, _+_, _-_, arith}
-use Rattle.mem.proofs.Prelude.{_&&_, leb-false, leb-true, T, leb, ltb, T-not, length, ⊎-elim, true≢false}
+use Rattle.mem.proofs.Prelude.{_≡_, sym, ap, refl, subst, true, Bool, false, inl, inr, some, none, Option, List, [], _∷_, ℕ, _<_, _≤_, _+_, _-_, _%_, arith}
+use Rattle.mem.proofs.Prelude.{_&&_, leb-false, leb-true, eqb-true, eqb-false, T, eqb, leb, ltb, T-not, length, ⊎-elim, true≢false}
 use mathlib.Core.Logic.{_↔_}
 use borrow.Author.Tests.{ltb-true, ltb-false}
 use Rattle.mem.specs.Lists.{choose}
@@ -11,17 +11,17 @@ use Rattle.classes.proofs.Alignments.{enlarged-least}
 use Rattle.model.specs.declared.Slot.{Slot}
 use Rattle.model.specs.declared.Slot.the-variants.{Fresh, Idle, Live}
 use Rattle.model.specs.declared.Refusal.{Refusal}
-use Rattle.model.specs.declared.Refusal.the-variants.{BadArena, Unsound, TooLarge, NoSuchBlock, AlreadyFree, HeaderDamaged, Overrun, NoRoom, TooLong}
-use Rattle.model.specs.declared.Refusal.the-variants.{BadProposal, BadAlignment}
+use Rattle.model.specs.declared.Refusal.the-variants.{BadArena, Unsound, TooLarge, NoSuchBlock, AlreadyFree, Stale, HeaderDamaged, Overrun, NoRoom}
+use Rattle.model.specs.declared.Refusal.the-variants.{TooLong, BadProposal, BadAlignment}
 use Rattle.model.specs.declared.Damage.{Damage}
-use Rattle.model.specs.State.{Pool, Place, isLive, granted, align, wellFormed, poolOf, start}
+use Rattle.model.specs.State.{Pool, Place, isLive, granted, count, align, wellFormed, useBits, startOf, poolOf, start, handle}
 use Rattle.model.specs.Blocks.{damageIn}
 use Rattle.model.specs.Answers.{numberOf, refusal}
 use Rattle.model.specs.Plans.{Plan, Call, setsUp, grants, grantsAligned, releases, resizes, measures, reports, grantsList, refused, plan, NoPlace}
 use Rattle.model.specs.Proposals.{entries, accepts, plannable}
 use Rattle.model.specs.Plans.{reserveAll, grantAllAt, grantList}
-use Rattle.model.specs.Plans.{reserve, grantAt, grantAs, grantAligned, lookup, newSize, onBlock, releaseAt, inPlace, resizeInPlace, resizeMove, moveTo}
-use Rattle.model.specs.Plans.{resizeAt, measureAt}
+use Rattle.model.specs.Plans.{reserve, grantAt, grantAs, grantAligned, lookup, newSize, onBlock, byHandle, onHandle, releaseAt, inPlace, resizeInPlace}
+use Rattle.model.specs.Plans.{resizeMove, moveTo, resizeAt, measureAt}
 use Rattle.model.specs.Tables.{view}
 use Rattle.model.specs.Calls as calls
 use Rattle.model.specs.Calls.{KeptBytes, Stands, engine, soundKept, Result, keeps, applied, unless, carried, setUpRight, setUp, checked, call, callBy}
@@ -30,8 +30,9 @@ use Rattle.model.proofs.Kept.{engine-lawful}
 use Rattle.model.proofs.Lookup.{fits, lookup-start, lookup-found}
 use Rattle.model.proofs.Formed.{code-kept}
 use Rattle.model.proofs.Lowest.{reserve-none, reserve-some}
-use Rattle.claims.specs.Demand1.{order, offsetIn, FirstDue, refusedValues, StartsAt, LiveAt, headerDue, guardDue, TooLargeFor, Due, Demand1}
+use Rattle.claims.specs.Demand1.{order, handleIn, FirstDue, refusedValues, StartsAt, LiveAt, headerDue, guardDue, TooLargeFor, Due, Demand1}
 use Rattle.claims.proofs.Codes.{no-code, some-code, enlarged-align, enlarged-code}
+use Rattle.claims.proofs.Handles.{by-bits}
 use Rattle.claims.proofs.Cases.{release-parts}
 use Rattle.claims.proofs.Meets.{too-long, short-enough, meets, meets-none}
 
@@ -41,9 +42,9 @@ idle-size Fresh n e = refl
 idle-size (Idle r k d) n e = refl
 idle-size (Live a) n e = absurd (true≢false e)
 
--- what is tested of the block at an offset, before other reasons
+-- what is tested of the block of a handle, before other reasons
 abbrev pub blockFirst : List Refusal → List Refusal
-blockFirst rs = NoSuchBlock ∷ AlreadyFree ∷ HeaderDamaged ∷ Overrun ∷ rs
+blockFirst rs = NoSuchBlock ∷ AlreadyFree ∷ Stale ∷ HeaderDamaged ∷ Overrun ∷ rs
 
 module _ (row : ℕ) (pos : 0 < row) (P : Pool) (o : ℕ) where
   -- the look-up finds the one granted slot that starts at an offset
@@ -78,24 +79,28 @@ module _ (row : ℕ) (pos : 0 < row) (P : Pool) (o : ℕ) where
       let f = fits p (subst (λ Q. T (wellFormed Q)) (sym (l .here .slotted .pool)) w) in
       enlarged-align (align (p .state)) n (code-kept (p .cls) (p .state) (l .live) (f .state) .0)
 
-  -- answer 3 of a resize, by what is found at its offset
-  pub resize-large : (n : ℕ) → T (wellFormed P) → (tooLarge ≤ newSize (lookup row P o) n) ↔ TooLargeFor row P (resizes o n)
+-- answer 3 of a resize, by what is found at the start of its handle
+module _ (row : ℕ) (pos : 0 < row) (P : Pool) (h : ℕ) where
+  pub resize-large : (n : ℕ) → T (wellFormed P) → (tooLarge ≤ newSize (lookup row P (startOf h)) n) ↔ TooLargeFor row P (resizes h n)
   resize-large n w = go (lookup row P o) refl
     where
-      go : (r : Option Place) → lookup row P o ≡ r → (tooLarge ≤ newSize r n) ↔ TooLargeFor row P (resizes o n)
-      go none e = (inl, ⊎-elim (λ h. h) (λ (p, l, _). absurd (none-starts p w e (l .here))))
+      o : ℕ
+      o = startOf h
+
+      go : (r : Option Place) → lookup row P o ≡ r → (tooLarge ≤ newSize r n) ↔ TooLargeFor row P (resizes h n)
+      go none e = (inl, ⊎-elim (λ x. x) (λ (p, l, _). absurd (none-starts row pos P o p w e (l .here))))
       go (some p) e = (
         by-state (isLive (p .state)) refl,
-        ⊎-elim (λ h. omega (arith, h, enlarged-least (align (p .state)) n))
-            (λ (q, l, h). subst (λ x. tooLarge ≤ enlarged (align (x .state)) n) (starts-same q p w (l .here) (found-starts p e))
-            (subst (λ m. tooLarge ≤ m) (sym (live-enlarged q n w l)) h)),
+        ⊎-elim (λ x. omega (arith, x, enlarged-least (align (p .state)) n))
+            (λ (q, l, x). subst (λ y. tooLarge ≤ enlarged (align (y .state)) n) (starts-same row pos P o q p w (l .here) (found-starts row pos P o p e))
+            (subst (λ m. tooLarge ≤ m) (sym (live-enlarged row pos P o q n w l)) x)),
       )
         where
-          by-state : (b : Bool) → isLive (p .state) ≡ b → tooLarge ≤ enlarged (align (p .state)) n → TooLargeFor row P (resizes o n)
-          by-state true i h =
-              let l : LiveAt row P o p = record { here = found-starts p e; live = true-T (isLive (p .state)) i } in
-              inr (p, l, subst (λ m. tooLarge ≤ m) (live-enlarged p n w l) h)
-          by-state false i h = inl (subst (λ m. tooLarge ≤ m) (idle-size (p .state) n i) h)
+          by-state : (b : Bool) → isLive (p .state) ≡ b → tooLarge ≤ enlarged (align (p .state)) n → TooLargeFor row P (resizes h n)
+          by-state true i x =
+              let l : LiveAt row P o p = record { here = found-starts row pos P o p e; live = true-T (isLive (p .state)) i } in
+              inr (p, l, subst (λ m. tooLarge ≤ m) (live-enlarged row pos P o p n w l) x)
+          by-state false i x = inl (subst (λ m. tooLarge ≤ m) (idle-size (p .state) n i) x)
 
 module _ (row : ℕ) (pos : 0 < row) (a : List ℕ) (t : KeptBytes) where
   -- what is claimed of a call, of the reasons that are left to test and a result
@@ -145,6 +150,13 @@ module _ (row : ℕ) (pos : 0 < row) (a : List ℕ) (t : KeptBytes) where
 
   -- a call on sound tables that gives one value
   module _ (s : Sound) (c : Call) (v : refusedValues c ≡ 0 ∷ []) where
+    -- the handle that it names, and its start
+    abbrev h : ℕ
+    h = handleIn c
+
+    abbrev o : ℕ
+    o = startOf h
+
     refused-right : (d : Refusal) (rs : List Refusal) → Due row a t c d → Right c (d ∷ rs) (carried row a t (refused d P))
     unfolding carriedBy unless
     refused-right d rs x = due-right c d rs (sym v) (sym (s .1)) x
@@ -168,7 +180,7 @@ module _ (row : ℕ) (pos : 0 < row) (a : List ℕ) (t : KeptBytes) where
         room (some q) e = later-right c NoRoom [] _ (λ d. reserve-some row P k n q e (full .1 d)) (done-right c _ refl)
 
     -- then a live block's header and guard
-    intact-right : (rs : List Refusal) (p : Place) (f : Plan) → f .checks ≡ some p → LiveAt row P (offsetIn c) p
+    intact-right : (rs : List Refusal) (p : Place) (f : Plan) → f .checks ≡ some p → LiveAt row P o p
         → Right c rs (applied (engine row) a f) → Right c (HeaderDamaged ∷ Overrun ∷ rs) (carried row a t f)
     unfolding carriedBy unless damageIn
     intact-right rs p f k l r =
@@ -183,28 +195,42 @@ module _ (row : ℕ) (pos : 0 < row) (a : List ℕ) (t : KeptBytes) where
         M : List Refusal → Damage → Type 0
         M rs d = Right c rs (unless d (applied (engine row) a f) (λ r. keeps (refusal r) a t))
 
-        alike : (M : Place → Bool) (q : Place) → LiveAt row P (offsetIn c) q → M p ≡ true → T (M q)
-        alike M q m e = starts-alike row pos P (offsetIn c) M p q (s .0 .formed) (l .here) (m .here) (true-T (M p) e)
+        alike : (M : Place → Bool) (q : Place) → LiveAt row P o q → M p ≡ true → T (M q)
+        alike M q m e = starts-alike row pos P o M p q (s .0 .formed) (l .here) (m .here) (true-T (M p) e)
 
-    -- what is done with the block at an offset
+    -- and before them the bits of the handle
+    present-right : (rs : List Refusal) (p : Place) (f : Place → Plan) → f p .checks ≡ some p → LiveAt row P o p
+        → Right c rs (applied (engine row) a (f p)) → Right c (Stale ∷ HeaderDamaged ∷ Overrun ∷ rs) (carried row a t (byHandle P h f p))
+    present-right rs p f k l r =
+        let bits : (handle row p ≡ h) ↔ (h % 16 ≡ useBits (count (p .state))) = by-bits row p h (l .here .starts) in
+        choose-case (λ z. Right c (Stale ∷ HeaderDamaged ∷ Overrun ∷ rs) (carried row a t z)) (eqb (h % 16) (useBits (count (p .state)))) (f p)
+        (refused Stale P)
+        (λ e. later-right c Stale (HeaderDamaged ∷ Overrun ∷ rs) _
+        (λ (q, m, d). d (subst (λ x. handle row x ≡ h) (starts-same row pos P o p q (s .0 .formed) (l .here) (m .here)) (bits .1 (eqb-true _ _ e))))
+        (intact-right rs p (f p) k l r))
+        (λ e. refused-right Stale (HeaderDamaged ∷ Overrun ∷ rs) (p, l, λ i. eqb-false _ _ e (bits .0 i)))
+
+    -- what is done with the block of a handle
     block-right : (rs : List Refusal) (f : Place → Plan)
-        → ((p : Place) → (f p .checks ≡ some p) × (LiveAt row P (offsetIn c) p → Right c rs (applied (engine row) a (f p))))
-        → Right c (blockFirst rs) (carried row a t (onBlock P f (lookup row P (offsetIn c))))
-    block-right rs f k = found (lookup row P (offsetIn c)) refl
+        → ((p : Place) → (f p .checks ≡ some p) × (LiveAt row P o p → Right c rs (applied (engine row) a (f p))))
+        → Right c (blockFirst rs) (carried row a t (onHandle row P h f))
+    unfolding onHandle
+    block-right rs f k = found (lookup row P o) refl
       where
-        found : (o : Option Place) → lookup row P (offsetIn c) ≡ o → Right c (blockFirst rs) (carried row a t (onBlock P f o))
-        found none e = refused-right NoSuchBlock _ (λ p h. none-starts row pos P (offsetIn c) p (s .0 .formed) e h)
+        found : (r : Option Place) → lookup row P o ≡ r → Right c (blockFirst rs) (carried row a t (onBlock P (byHandle P h f) r))
+        found none e = refused-right NoSuchBlock _ (λ p h. none-starts row pos P o p (s .0 .formed) e h)
         found (some p) e =
-            let h : StartsAt row P (offsetIn c) p = found-starts row pos P (offsetIn c) p e in
-            later-right c NoSuchBlock (AlreadyFree ∷ HeaderDamaged ∷ Overrun ∷ rs) _ (λ d. d p h)
-            (choose-case (λ z. Right c (AlreadyFree ∷ HeaderDamaged ∷ Overrun ∷ rs) (carried row a t z)) (isLive (p .state)) (f p) (refused AlreadyFree P)
+            let i : StartsAt row P o p = found-starts row pos P o p e in
+            later-right c NoSuchBlock (AlreadyFree ∷ Stale ∷ HeaderDamaged ∷ Overrun ∷ rs) _ (λ d. d p i)
+            (choose-case (λ z. Right c (AlreadyFree ∷ Stale ∷ HeaderDamaged ∷ Overrun ∷ rs) (carried row a t z)) (isLive (p .state)) (byHandle P h f p)
+            (refused AlreadyFree P)
             (λ e.
             let l : T (isLive (p .state)) = true-T (isLive (p .state)) e in
-            let m : LiveAt row P (offsetIn c) p = record { here = h; live = l } in
-            later-right c AlreadyFree (HeaderDamaged ∷ Overrun ∷ rs) _
-            (λ (q, g, d). T-not (isLive (q .state)) d (starts-alike row pos P (offsetIn c) (λ z. isLive (z .state)) p q (s .0 .formed) h g l))
-            (intact-right rs p (f p) (k p .0) m (k p .1 m)))
-            (λ e. refused-right AlreadyFree (HeaderDamaged ∷ Overrun ∷ rs) (p, h, rw e tt)))
+            let m : LiveAt row P o p = record { here = i; live = l } in
+            later-right c AlreadyFree (Stale ∷ HeaderDamaged ∷ Overrun ∷ rs) _
+            (λ (q, g, d). T-not (isLive (q .state)) d (starts-alike row pos P o (λ z. isLive (z .state)) p q (s .0 .formed) i g l))
+            (present-right rs p f (k p .0) m (k p .1 m)))
+            (λ e. refused-right AlreadyFree (Stale ∷ HeaderDamaged ∷ Overrun ∷ rs) (p, i, rw e tt)))
 
   module _ (s : Sound) where
     grants-right : (n : ℕ) → Right (grants n) (TooLarge ∷ NoRoom ∷ []) (carried row a t (plan row P (grants n)))
@@ -230,22 +256,25 @@ module _ (row : ℕ) (pos : 0 < row) (a : List ℕ) (t : KeptBytes) where
         sized : 0 < codeOf b → (M : ℕ → Type 0) → M (enlarged (codeOf b) n) ↔ M (n + (b - 16))
         sized h M = (subst M (enlarged-code b n h), subst M (sym (enlarged-code b n h)))
 
-    resizes-right : (o n : ℕ) → Right (resizes o n) (TooLarge ∷ blockFirst (NoRoom ∷ [])) (carried row a t (plan row P (resizes o n)))
+    resizes-right : (h n : ℕ) → Right (resizes h n) (TooLarge ∷ blockFirst (NoRoom ∷ [])) (carried row a t (plan row P (resizes h n)))
     unfolding plan
-    resizes-right o n =
-        small-right s c refl (blockFirst (NoRoom ∷ [])) _ (newSize (lookup row P o) n) (resize-large row pos P o n (s .0 .formed))
+    resizes-right h n =
+        small-right s c refl (blockFirst (NoRoom ∷ [])) _ (newSize (lookup row P o) n) (resize-large row pos P h n (s .0 .formed))
         (block-right s c refl (NoRoom ∷ []) (resizeAt row P n)
         (λ p. choose-case (M p) (inPlace p n) (resizeInPlace row p n) (resizeMove row P p n)
         (λ e. (refl, λ l. later-right c NoRoom [] _ (λ (q, m, d, _). T-not (inPlace q n) d (fitting p q e l m)) (done-right c _ refl)))
         (λ e. room p e (reserve row P (align (p .state)) n) refl)))
       where
         c : Call
-        c = resizes o n
+        c = resizes h n
+
+        o : ℕ
+        o = startOf h
 
         M : Place → Plan → Type 0
         M p z = (z .checks ≡ some p) × (LiveAt row P o p → Right c (NoRoom ∷ []) (applied (engine row) a z))
 
-        -- the block at the offset is but one
+        -- the block at the start is but one
         fitting : (p q : Place) → inPlace p n ≡ true → LiveAt row P o p → LiveAt row P o q → T (inPlace q n)
         fitting p q e l m = starts-alike row pos P o (λ z. inPlace z n) p q (s .0 .formed) (l .here) (m .here) (true-T (inPlace p n) e)
 
@@ -296,14 +325,14 @@ module _ (row : ℕ) (pos : 0 < row) (a : List ℕ) (t : KeptBytes) where
   call-right setsUp = set-up-right
   call-right (grants n) = checked-right (grants n) _ refl (λ s. grants-right s n)
   call-right (grantsAligned n b) = checked-right (grantsAligned n b) _ refl (λ s. aligned-right s n b)
-  call-right (releases o) =
-      checked-right (releases o) _ refl
-      (λ s. block-right s (releases o) refl [] (releaseAt row)
-      (λ p. (release-parts row p .0, λ l. done-right (releases o) _ (ap (λ r. r .number) (release-parts row p .1)))))
-  call-right (resizes o n) = checked-right (resizes o n) _ refl (λ s. resizes-right s o n)
-  call-right (measures o) =
-      checked-right (measures o) _ refl
-      (λ s. block-right s (measures o) refl [] (measureAt row P) (λ p. (refl, λ l. done-right (measures o) _ refl)))
+  call-right (releases h) =
+      checked-right (releases h) _ refl
+      (λ s. block-right s (releases h) refl [] (releaseAt row)
+      (λ p. (release-parts row p .0, λ l. done-right (releases h) _ (ap (λ r. r .number) (release-parts row p .1)))))
+  call-right (resizes h n) = checked-right (resizes h n) _ refl (λ s. resizes-right s h n)
+  call-right (measures h) =
+      checked-right (measures h) _ refl
+      (λ s. block-right s (measures h) refl [] (measureAt row P) (λ p. (refl, λ l. done-right (measures h) _ refl)))
   call-right reports = checked-right reports [] refl (λ s. done-right reports _ refl)
   call-right (grantsList total cap places ns) = checked-right (grantsList total cap places ns) _ refl (λ s. lists-right s total cap places ns)
 

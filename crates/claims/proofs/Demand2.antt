@@ -1,44 +1,51 @@
 -- Demand 2: release, measure and grant accept exactly what document 01 says, a granted block is where and what it says, and live blocks
 -- never share a byte.
 use Rattle.mem.proofs.Prelude.{_∙_, _≡_, sym, ap, refl, ap₂, subst, true, Bool, false, not, ⊎-elim, inl, inr, _⊎_, some, none, Option, List, [], _∷_, _++_, ℕ}
-use Rattle.mem.proofs.Prelude.{_<_, _≤_, _*_, arith, T, T-not, lit≤, length}
+use Rattle.mem.proofs.Prelude.{_<_, _≤_, _+_, _*_, _%_, arith, T, T-not, eqb, eq-eqb, eqb→eq, lit≤, length}
 use mathlib.Core.Logic.{_↔_}
 use Rattle.mem.specs.Lists.{choose, first}
 use Rattle.mem.specs.Bytes.{put}
-use Rattle.mem.proofs.Tests.{T-true}
+use Rattle.mem.proofs.Tests.{T-true, eq→eqb}
 use Rattle.mem.proofs.Laws.{zeros-length}
 use Rattle.classes.specs.Classes.{classOf, rowsOf, tooLarge}
 use Rattle.classes.specs.Alignments.{ordinary, enlarged, Askable}
 use Rattle.model.specs.declared.Refusal.{Refusal}
-use Rattle.model.specs.declared.Refusal.the-variants.{Unsound, AlreadyFree, HeaderDamaged, Overrun}
+use Rattle.model.specs.declared.Refusal.the-variants.{Unsound, AlreadyFree, Stale, HeaderDamaged, Overrun}
 use Rattle.model.specs.declared.Damage.{Damage}
 use Rattle.model.specs.declared.Damage.the-variants.{Intact, Damaged}
-use Rattle.model.specs.State.{Pool, Place, group, isLive, isReady, disp, size, wellFormed, poolOf, slotNumber, rows, owned}
+use Rattle.model.specs.State.{Pool, Place, group, isLive, isReady, count, disp, size, wellFormed, useBits, startOf, poolOf, slotNumber, rows, owned, start}
+use Rattle.model.specs.State.{handle}
 use Rattle.model.specs.Blocks.{frame, damageIn}
 use Rattle.model.specs.Answers.{refusal}
-use Rattle.model.specs.Plans.{Plan, Site, freshPool, AllLive, NoPlace, plan, reserve, enframe}
+use Rattle.model.specs.Plans.{Plan, Site, freshPool, AllLive, NoPlace, plan, reserve, grantSlot, enframe}
 use Rattle.model.specs.Plans.{Call, setsUp, grants, grantsAligned, releases, resizes, measures, reports, grantsList}
 use Rattle.model.specs.Plans.{grantAt, grantIn, lookup}
 use Rattle.model.specs.Tables.{byMasks, view}
-use Rattle.model.specs.Calls.{KeptBytes, Result, FormLaws, engine, soundKept, applied, keeps, damaged, setUpRight, call, callBy, carriedBy, checkedBy, unless}
+use Rattle.model.specs.Calls.{KeptBytes, Result, Stands, FormLaws, engine, soundKept, applied, keeps, damaged, setUpRight, call, callBy}
+use Rattle.model.specs.Calls.{carriedBy, checkedBy, unless}
 use Rattle.model.proofs.Tables.{sound-facts}
 use Rattle.model.proofs.Kept.{engine-lawful}
-use Rattle.model.proofs.Fresh.{set-up-done, set-up-sound}
+use Rattle.model.proofs.Fresh.{whole-units, set-up-done, set-up-sound}
 use Rattle.model.proofs.Forms.{step, call-step, Standing, step-stands}
 use Rattle.model.proofs.Calls.{Asks, call-sound}
 use Rattle.model.proofs.Lookup.{All, Fits, fits, disp-inside, owned-inside, Owns, owned-unique}
 use Rattle.model.proofs.Reserve.{Served, served, reserve-formed, reserve-size}
 use Rattle.model.proofs.Lowest.{site-lowest, first-lowest}
-use Rattle.claims.specs.Demand1.{order, offsetIn, FirstDue, StartsAt, LiveAt, headerDue, guardDue, Due}
+use Rattle.claims.specs.Demand1.{order, handleIn, FirstDue, StartsAt, LiveAt, headerDue, guardDue, Due}
 use Rattle.claims.specs.Demand2 as demand2
 use Rattle.claims.specs.Demand2.{ReleasesExactly, MeasuresExactly, GrantsExactly, GrantedBy, GrantsAsSaid, InBlock, NeverShared, LeavesSound}
+use Rattle.claims.proofs.Handles.{stepped-bits, start-cleared, by-bits}
 use Rattle.claims.proofs.Cases.{refuses, by-call, on-grant}
-use Rattle.claims.proofs.Demand1.{blockFirst, starts-found, none-starts, starts-alike, found-starts, demand1}
+use Rattle.claims.proofs.Demand1.{blockFirst, starts-found, none-starts, starts-same, starts-alike, found-starts, demand1}
 
 -- what is not refuted passes the test
 unrefuted : (b : Bool) → (T (not b) → ⊥) → T b
 unrefuted true f = tt
 unrefuted false f = absurd (f tt)
+
+-- two numbers that do not differ
+same-number : (m n : ℕ) → ((m ≡ n → ⊥) → ⊥) → m ≡ n
+same-number m n f = eqb→eq m n (unrefuted (eqb m n) (λ d. f (λ e. T-not (eqb m n) d (eq→eqb m n e))))
 
 -- a call's number is 0 exactly if no reason that it tests is due
 module _ (D : Refusal → Type 0) where
@@ -73,9 +80,9 @@ module _ (row : ℕ) (pos : 0 < row) (a : List ℕ) (t : KeptBytes) where
       asked-sound setsUp k n = absurd k
       asked-sound (grants m) k n = unrefuted (soundKept row (length a) t) (n .0)
       asked-sound (grantsAligned m b) k n = unrefuted (soundKept row (length a) t) (n .0)
-      asked-sound (releases o) k n = unrefuted (soundKept row (length a) t) (n .0)
-      asked-sound (resizes o m) k n = unrefuted (soundKept row (length a) t) (n .0)
-      asked-sound (measures o) k n = unrefuted (soundKept row (length a) t) (n .0)
+      asked-sound (releases h) k n = unrefuted (soundKept row (length a) t) (n .0)
+      asked-sound (resizes h m) k n = unrefuted (soundKept row (length a) t) (n .0)
+      asked-sound (measures h) k n = unrefuted (soundKept row (length a) t) (n .0)
       asked-sound reports k n = unrefuted (soundKept row (length a) t) (n .0)
       asked-sound (grantsList total cap places ns) k n = unrefuted (soundKept row (length a) t) (n .0)
 
@@ -124,60 +131,70 @@ module _ (row : ℕ) (pos : 0 < row) (a : List ℕ) (t : KeptBytes) (s : T (soun
   w : T (wellFormed P)
   w = engine-lawful row pos .only (length a) t s .0 .formed
 
-  -- where no reason of the block at an offset is due, it is live and intact
-  pub found-intact : (c : Call) (rs : List Refusal) → All (λ r. Due row a t c r → ⊥) (blockFirst rs) → (p : Place) × demand2.Intact row a P (offsetIn c) p
+  -- where no reason of the block of a handle is due, it is live and intact, and the handle is its present one
+  pub found-intact : (c : Call) (rs : List Refusal) → All (λ r. Due row a t c r → ⊥) (blockFirst rs) → (p : Place) × demand2.Intact row a P (handleIn c) p
   found-intact c rs n = whole (lookup row P o) refl n
     where
       o : ℕ
-      o = offsetIn c
+      o = startOf (handleIn c)
 
-      whole : (r : Option Place) → lookup row P o ≡ r → All (λ r. Due row a t c r → ⊥) (blockFirst rs) → (p : Place) × demand2.Intact row a P o p
+      whole : (r : Option Place) → lookup row P o ≡ r → All (λ r. Due row a t c r → ⊥) (blockFirst rs) → (p : Place) × demand2.Intact row a P (handleIn c) p
       whole none e (n₄, _) = absurd (n₄ (λ p h. none-starts row pos P o p w e h))
-      whole (some p) e (_, (n₅, (n₆, (n₇, _)))) =
+      whole (some p) e (_, (n₅, (n₁₀, (n₆, (n₇, _))))) =
           let h : StartsAt row P o p = found-starts row pos P o p e in
           let l : LiveAt row P o p = record { here = h; live = unrefuted (isLive (p .state)) (λ d. n₅ (p, h, d)) } in
-          let m : T (headerDue row a p) = unrefuted (headerDue row a p) (λ d. n₆ (p, l, d)) in
-          (p, record { live = l; header = m; guard = unrefuted (guardDue row a p) (λ d. n₇ (p, l, m, d)) })
+          let m : T (headerDue row a p) = unrefuted (headerDue row a p) (λ d. n₆ (p, l, d)) in (
+            p,
+            record {
+              live = l;
+              present = same-number (handle row p) (handleIn c) (λ d. n₁₀ (p, l, d));
+              header = m;
+              guard = unrefuted (guardDue row a p) (λ d. n₇ (p, l, m, d));
+            },
+          )
 
-  -- the number of a call on the block at an offset is 0 exactly if a live, intact block starts there
-  exactly : (c : Call) (k : ℕ) → FirstDue (Due row a t c) (Unsound ∷ blockFirst []) k → (k ≡ 0) ↔ ((p : Place) × demand2.Intact row a P (offsetIn c) p)
+  -- the number of a call on the block of a handle is 0 exactly if it is the present one of a live, intact block
+  exactly : (c : Call) (k : ℕ) → FirstDue (Due row a t c) (Unsound ∷ blockFirst []) k → (k ≡ 0) ↔ ((p : Place) × demand2.Intact row a P (handleIn c) p)
   exactly c k d = (
     λ z. found-intact c [] (none-due (Due row a t c) (Unsound ∷ blockFirst []) k d z .1),
     λ (p, i). due-none (Due row a t c) (Unsound ∷ blockFirst []) k d (fine p i),
   )
     where
       o : ℕ
-      o = offsetIn c
+      o = startOf (handleIn c)
 
       Fine : Type 0
       Fine = All (λ r. Due row a t c r → ⊥) (Unsound ∷ blockFirst [])
 
-      fine : (p : Place) → demand2.Intact row a P o p → Fine
+      fine : (p : Place) → demand2.Intact row a P (handleIn c) p → Fine
       fine p i =
           let alike : (M : Place → Bool) (q : Place) → StartsAt row P o q → T (M p) → T (M q) = λ M q h. starts-alike row pos P o M p q w (i .live .here) h in
           let n₂ : Due row a t c Unsound → ⊥ = λ d. T-not (soundKept row (length a) t) d s in
           let n₅ : Due row a t c AlreadyFree → ⊥ = λ (q, h, d). T-not (isLive (q .state)) d (alike (λ z. isLive (z .state)) q h (i .live .live)) in
+          let n₁₀ : Due row a t c Stale → ⊥ =
+          λ (q, l, d). d (subst (λ z. handle row z ≡ handleIn c) (starts-same row pos P o p q w (i .live .here) (l .here)) (i .present)) in
           let n₆ : Due row a t c HeaderDamaged → ⊥ = λ (q, l, d). T-not (headerDue row a q) d (alike (headerDue row a) q (l .here) (i .header)) in
           let n₇ : Due row a t c Overrun → ⊥ = λ (q, l, _, d). T-not (guardDue row a q) d (alike (guardDue row a) q (l .here) (i .guard)) in
-          (n₂, (λ d. d p (i .live .here), (n₅, (n₆, (n₇, tt)))))
+          (n₂, (λ d. d p (i .live .here), (n₅, (n₁₀, (n₆, (n₇, tt))))))
 
   -- the size of an intact block
-  measured : (o : ℕ) (p : Place) → demand2.Intact row a P o p → call row a t (measures o) .answer .values ≡ size (p .state) ∷ []
+  measured : (h : ℕ) (p : Place) → demand2.Intact row a P h p → call row a t (measures h) .answer .values ≡ size (p .state) ∷ []
   unfolding callBy checkedBy carriedBy unless plan damageIn choose
-  measured o p i =
+  measured h p i =
       rw (
         T-true (soundKept row (length a) t) s,
-        starts-found row pos P o p w (i .live .here),
+        starts-found row pos P (startOf h) p w (i .live .here),
         T-true (isLive (p .state)) (i .live .live),
+        eq-eqb (h % 16) (useBits (count (p .state))) (by-bits row p h (i .live .here .starts) .0 (i .present)),
         T-true (headerDue row a p) (i .header),
         T-true (guardDue row a p) (i .guard),
       )
 
 pub releases-exactly : (row : ℕ) → 0 < row → ReleasesExactly row
-releases-exactly row pos a t o s = exactly row pos a t s (releases o) _ (demand1 row pos a t (releases o) .number)
+releases-exactly row pos a t h s = exactly row pos a t s (releases h) _ (demand1 row pos a t (releases h) .number)
 
 pub measures-exactly : (row : ℕ) → 0 < row → MeasuresExactly row
-measures-exactly row pos a t o s = (exactly row pos a t s (measures o) _ (demand1 row pos a t (measures o) .number), λ p i. measured row pos a t s o p i)
+measures-exactly row pos a t h s = (exactly row pos a t s (measures h) _ (demand1 row pos a t (measures h) .number), λ p i. measured row pos a t s h p i)
 
 -- ---- what a grant refuses, and what it gives
 
@@ -208,10 +225,11 @@ module _ (row : ℕ) (pos : 0 < row) (a : List ℕ) (t : KeptBytes) (asks : Call
   abbrev c : ℕ
   c = classOf (enlarged k n)
 
-  pub granted-by : T (wellFormed S) → (q : Place) → Askable k n → reserve row S k n ≡ some q
+  pub granted-by : Stands row (length a) S → (q : Place) → Askable k n → reserve row S k n ≡ some q
       → call row a t asks ≡ applied (engine row) a (grantAt row S (some q)) → GrantedBy row a t asks k n c q
-  unfolding grantIn enframe
-  granted-by w q h e l =
+  unfolding grantIn grantSlot enframe
+  granted-by y q h e l =
+      let w : T (wellFormed S) = y .formed in
       let v : Served row S k n q = served row S k n q w e in
       let s : Site = v .at in
       let b : q .before ≡ s .before = ap (λ p. p .before) (v .place) in
@@ -240,6 +258,8 @@ module _ (row : ℕ) (pos : 0 < row) (a : List ℕ) (t : KeptBytes) (asks : Call
         cls = ap (λ p. p .cls) (v .place);
         bytes = m;
         value = ap (λ r. r .answer .values) l;
+        bits = ap (λ i. start row q + useBits i) (ap count (v .taken .state)) ∙ ap (λ i. start row q + i) (stepped-bits (count (v .taken .old)));
+        cleared = start-cleared row (whole-units row (length a) (y .lawful)) q;
         pool = ap (λ r. view row (r .room .tables)) l ∙ engine-lawful row pos .says (poolOf q) (reserve-formed row S k n q w h e .formed);
         arena = ap (λ r. r .arena) l ∙ ap (λ i. put (owned row q) (frame (q .cls) (slotNumber q) (disp (q .state)) i) a) m;
       }
@@ -251,7 +271,7 @@ grants-as-said row pos a t n z =
     on-grant row pos (view row (t .tables))
     (λ p. p .answer .number ≡ 0 → call row a t (grants n) ≡ applied (engine row) a p → (q : Place) × GrantedBy row a t (grants n) ordinary n (classOf n) q)
     (λ r z. absurd (refuses r z)) ordinary n (lit≤ tt) (lit≤ tt)
-    (λ q h e _ l. (q, granted-by row pos a t (grants n) ordinary n (engine-lawful row pos .only (length a) t (y .sound-tables) .0 .formed) q h e l))
+    (λ q h e _ l. (q, granted-by row pos a t (grants n) ordinary n (engine-lawful row pos .only (length a) t (y .sound-tables) .0) q h e l))
     (ap (λ (r : Result). r .answer .number) (sym (y .left)) ∙ z) (y .left)
 
 -- ---- live blocks never share a byte

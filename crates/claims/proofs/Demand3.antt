@@ -19,7 +19,7 @@ use Rattle.claims.specs.Demand3.{Turn, calls, model, fed, RoomFollows, r
 use Rattle.claims.specs.Demand3.{SteersNothing, StoresAdmitted}
 use Rattle.claims.proofs.Cases.{by-call}
 use Rattle.claims.proofs.Cells.{cells, Agrees}
-use Rattle.claims.proofs.Steps.{fresh-agrees, arena-length, set-up-zero, plan-kept}
+use Rattle.claims.proofs.Steps.{Kept, fresh-agrees, arena-length, set-up-zero, plan-kept}
 use Rattle.claims.proofs.Requested.{engine-keeps, outside}
 
 -- ---- one call
@@ -46,7 +46,7 @@ module _ (row : ℕ) (pos : 0 < row) where
         (λ c k. call-sound row a (engine row .encode P)
         (T-true (soundKept row (length a) (engine row .encode P)) (engine-lawful row pos .right (length a) P stands)) c k
         ∙ ap (λ Q. carried row a (engine row .encode P) (plan row Q c)) (engine-lawful row pos .says P w)
-        ∙ carried-whole row a (engine row .encode P) (plan row P c) (plan-kept row pos P w a g c .whole))
+        ∙ carried-whole row a (engine row .encode P) (plan row P c) (plan-kept row pos (whole-units row (length a) h) P w a g c .whole))
 
   -- ---- one run
 
@@ -78,7 +78,8 @@ module _ (row : ℕ) (pos : 0 < row) where
       let m : Formed row P (p .pool) = plan-formed row pos P c w in
       let g₁ : Agrees (cells row P) b = engine-keeps row pos P w a b (t .0) g in
       let h₁ : T (arenaRight row (length b)) = subst (λ n. T (arenaRight row n)) (sym (t .0 .long)) h in
-      let g₂ : Agrees (cells row (p .pool)) x = plan-kept row pos P w b g₁ c .agrees in
+      let d : Kept row pos P c b p = plan-kept row pos (whole-units row (length a) h) P w b g₁ c in
+      let g₂ : Agrees (cells row (p .pool)) x = d .agrees in
       let l : length b ≡ length x =
       arena-length row pos P w b g₁ ∙ ap (λ n. row * n) (sym (m .long)) ∙ sym (arena-length row pos (p .pool) (m .formed) x g₂) in
       let e : call row b (engine row .encode P) c ≡ applied (engine row) b p = call-follows P w k b h₁ g₁ c in
@@ -91,7 +92,7 @@ module _ (row : ℕ) (pos : 0 < row) where
           tables = ap (λ (z : Result). ran row (z .arena) (z .room) us .room .tables) e ∙ r .modelled .tables;
           kept = ap (λ (z : Result). ran row (z .arena) (z .room) us .room .totals) e ∙ r .modelled .kept;
           counted = ap (λ (z : Result). reported row (ran row (z .arena) (z .room) us)) e ∙ r .modelled .counted;
-          cleared = rw e (plan-kept row pos P w b g₁ c .cleared, r .modelled .cleared);
+          cleared = rw e (d .cleared, r .modelled .cleared);
         };
         formed = r .formed;
         agrees =

@@ -12,13 +12,14 @@ use Rattle.claims.proofs.Demand1.{demand1}
 use Rattle.claims.proofs.Demand2.{releases-exactly, measures-exactly, grants-exactly, grants-as-said, never-shared, leaves-sound}
 use Rattle.claims.proofs.AsSaid.{never-at-zero, sets-up-as-said, reads-only, reports-as-said, releases-as-said}
 use Rattle.claims.proofs.Boundaries.{on-boundaries, serves-ordinary}
-use Rattle.claims.proofs.Stays.{alignment-stays}
+use Rattle.claims.proofs.Stays.{others-stay}
 use Rattle.claims.proofs.Kept.{resizes-keep-alignment}
 use Rattle.claims.proofs.Aligned.{aligned-ordinary, aligned-exactly, aligned-as-said}
 use Rattle.claims.proofs.Guards.{guards-as-said}
 use Rattle.claims.proofs.Resizes.{resizes-as-said}
 use Rattle.claims.proofs.Demand3.{steers-nothing, stores-admitted, room-follows}
 use Rattle.claims.proofs.History.{history}
+use Rattle.claims.proofs.Stale.{starts-cleared, counts-step, stale-refused}
 use Rattle.claims.proofs.Flips.{flips-refused}
 use Rattle.claims.proofs.Record.{sound-exactly, keeps-record}
 use Rattle.claims.proofs.Lists.{plans-as-said, lists-as-grants, lists-exactly}
@@ -52,7 +53,10 @@ demands = record {
   lists-exactly = lists-exactly rowBytes some-bytes;
   on-boundaries = on-boundaries rowBytes;
   resizes-keep-alignment = resizes-keep-alignment rowBytes some-bytes;
-  alignment-stays = alignment-stays rowBytes some-bytes;
+  others-stay = others-stay rowBytes some-bytes;
+  starts-cleared = starts-cleared rowBytes;
+  counts-step = counts-step rowBytes some-bytes;
+  stale-refused = stale-refused rowBytes some-bytes;
   steers-nothing = steers-nothing rowBytes some-bytes;
   stores-admitted = stores-admitted rowBytes;
   room-follows = room-follows rowBytes;

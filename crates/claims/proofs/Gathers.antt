@@ -1,11 +1,11 @@
 -- What a list of grants does to the arena: it leaves the requested bytes of live blocks, and those of its own blocks are zero when it ends.
-use Rattle.mem.proofs.Prelude.{_∙_, _≡_, sym, ap, subst, ⊎-elim, inl, inr, some, List, _∷_, _++_, append-assoc, map, _+_, ℕ, _<_, _≤_, _*_, refl, arith, T}
+use Rattle.mem.proofs.Prelude.{_∙_, _≡_, sym, ap, subst, ⊎-elim, inl, inr, some, List, _∷_, _++_, append-assoc, map, _+_, ℕ, _<_, _≤_, _*_, _%_, refl, arith, T}
 use Rattle.mem.proofs.Prelude.{length, getD, length-append}
 use Rattle.mem.specs.Bytes.{zeros, put}
 use Rattle.mem.proofs.Laws.{zeros-length, zeros-put, put-before, put-past}
 use Rattle.classes.specs.Classes.{slotBytes}
 use Rattle.classes.specs.Alignments.{ordinary, Askable}
-use Rattle.model.specs.State.{Pool, Place, isLive, disp, size, wellFormed, poolOf, slotNumber, owned, start}
+use Rattle.model.specs.State.{Pool, Place, isLive, disp, size, wellFormed, poolOf, slotNumber, owned, start, handle}
 use Rattle.model.specs.Blocks.{reserved, header, spare, frame}
 use Rattle.model.specs.Plans.{reserve, enframe, reserveAll}
 use Rattle.model.specs.Calls.{write, written}
@@ -15,6 +15,7 @@ use Rattle.model.proofs.Blocks.{header-length, frame-length}
 use Rattle.model.proofs.Moves.{Old, old, old-apart, stays-start}
 use Rattle.model.proofs.Lists.{small, by-grants}
 use Rattle.claims.specs.Demand3.{GainsEach}
+use Rattle.claims.proofs.Handles.{start-cleared}
 use Rattle.claims.proofs.Cases.{reserve-live}
 
 module _ (row : ℕ) where
@@ -60,19 +61,20 @@ module _ (row : ℕ) where
           k (o .place) (o .pool) (o .live) (write a (enframe row q)) i (omega (arith, b, h₁)) (omega (arith, b, c, h₂)) ∙ grant-leaves p e t a i h₁ h₂
 
     abbrev Clears : Pool → List ℕ → List Place → Type 0
-    Clears P ns qs = Leaves P qs × ((a : List ℕ) (i : ℕ) → GainsEach row (map (start row) qs) ns i → getD (written a (map (enframe row) qs)) i 0 ≡ 0)
+    Clears P ns qs = Leaves P qs × ((a : List ℕ) (i : ℕ) → GainsEach row (map (handle row) qs) ns i → getD (written a (map (enframe row) qs)) i 0 ≡ 0)
 
-    clears-more : (P : Pool) (n : ℕ) (ns : List ℕ) (q : Place) (qs : List Place) → T (wellFormed P) → reserve row P ordinary n ≡ some q
-        → Clears (poolOf q) ns qs → (a : List ℕ) (i : ℕ) → GainsEach row (map (start row) (q ∷ qs)) (n ∷ ns) i
+    clears-more : row % 16 ≡ 0 → (P : Pool) (n : ℕ) (ns : List ℕ) (q : Place) (qs : List Place) → T (wellFormed P) → reserve row P ordinary n ≡ some q
+        → Clears (poolOf q) ns qs → (a : List ℕ) (i : ℕ) → GainsEach row (map (handle row) (q ∷ qs)) (n ∷ ns) i
         → getD (written a (map (enframe row) (q ∷ qs))) i 0 ≡ 0
-    clears-more P n ns q qs w r k a i (inl g) =
+    clears-more u P n ns q qs w r k a i (inl g) =
         let z : size (q .state) ≡ n = reserve-size row P ordinary n q w r in
-        k .0 q refl (reserve-live row P ordinary n q (served row P ordinary n q w r)) (write a (enframe row q)) i (g .0) (omega (arith, g .1, z))
-        ∙ framed q a i (g .0) (omega (arith, g .1, z))
-    clears-more P n ns q qs w r k a i (inr g) = k .1 (write a (enframe row q)) i g
+        let (from, to) = subst (λ s. (s ≤ i) × (i < s + n)) (start-cleared row u q) g in
+        k .0 q refl (reserve-live row P ordinary n q (served row P ordinary n q w r)) (write a (enframe row q)) i from (omega (arith, to, z))
+        ∙ framed q a i from (omega (arith, to, z))
+    clears-more u P n ns q qs w r k a i (inr g) = k .1 (write a (enframe row q)) i g
 
-    pub list-clears : (P : Pool) (ns : List ℕ) (qs : List Place) → T (wellFormed P) → T (small ns) → reserveAll row P ns ≡ some qs
-        → (a : List ℕ) (i : ℕ) → GainsEach row (map (start row) qs) ns i → getD (written a (map (enframe row) qs)) i 0 ≡ 0
-    list-clears P ns qs w h e =
+    pub list-clears : row % 16 ≡ 0 → (P : Pool) (ns : List ℕ) (qs : List Place) → T (wellFormed P) → T (small ns) → reserveAll row P ns ≡ some qs
+        → (a : List ℕ) (i : ℕ) → GainsEach row (map (handle row) qs) ns i → getD (written a (map (enframe row) qs)) i 0 ≡ 0
+    list-clears u P ns qs w h e =
         by-grants row Clears (λ P. ((λ p e t a i h₁ h₂. refl), λ a i g. absurd g))
-        (λ P n ns q qs w s r k. (leaves-more P ordinary n q w (plain s) r qs (k .0), clears-more P n ns q qs w r k)) P ns qs w h e .1
+        (λ P n ns q qs w s r k. (leaves-more P ordinary n q w (plain s) r qs (k .0), clears-more u P n ns q qs w r k)) P ns qs w h e .1

@@ -1,7 +1,7 @@
 -- The history of report: what the tables count to is what the calls since the last set up come to.
 use Rattle.mem.proofs.Prelude.{_∙_, _≡_, sym, ap, refl, ap₂, subst, true, Bool, false, _&&_, not, true≢false, some, List, [], _∷_, _++_, append-assoc, map, _+_}
-use Rattle.mem.proofs.Prelude.{ℕ, _<_, _≤_, _*_, suc, _/_, zero, add-zero, zero-add, add-assoc, mul-div-cancel-left, arith, eqb-false, eqb-true, T, eqb, eqb→eq}
-use Rattle.mem.proofs.Prelude.{eqb-refl, lit≤, length, length-append, replicate}
+use Rattle.mem.proofs.Prelude.{ℕ, _<_, _≤_, _*_, suc, _/_, _%_, zero, add-zero, zero-add, add-assoc, mul-div-cancel-left, arith, eqb-false, eqb-true, T, eqb}
+use Rattle.mem.proofs.Prelude.{eqb→eq, eqb-refl, lit≤, length, length-append, replicate}
 use Rattle.mem.specs.Lists.{choose, any, sum}
 use Rattle.mem.specs.Bytes.{bit}
 use Rattle.mem.proofs.Tests.{T-true, true-T, choose-true, choose-case, and-right, eq→eqb}
@@ -11,39 +11,40 @@ use Rattle.model.specs.declared.Slot.{Slot}
 use Rattle.model.specs.declared.Slot.the-variants.{Fresh, Idle, Live}
 use Rattle.model.specs.declared.Refusal.{Refusal}
 use Rattle.model.specs.State.{Span, Pool, Place, free, group, isLive, isReady, disp, size, wellFormed, poolOf, become, slotNumber, rowsIn, rows, beginning}
-use Rattle.model.specs.State.{start, count, align}
-use Rattle.model.specs.Plans.{Plan, turnReady, refill, reserve, vacant, releaseAt, freshPool, refused, release, resizeInPlace, moveTo, measureAt, measure}
+use Rattle.model.specs.State.{handle, count, align, useBits}
+use Rattle.model.specs.Plans.{Plan, turnReady, refill, reserve, vacant, releaseAt, freshPool, refused, release, discard, resizeInPlace, moveTo, measureAt}
 use Rattle.model.specs.Plans.{slotSum, totals, report, Call, setsUp, grants, grantsAligned, releases, resizes, measures, reports, grantsList, plan}
-use Rattle.model.specs.Plans.{reserveAll, poolAfter}
+use Rattle.model.specs.Plans.{measure, reserveAll, poolAfter}
 use Rattle.model.proofs.Lists.{small, by-grants, on-list}
 use Rattle.model.specs.Tables.{view, roomBytes}
 use Rattle.model.specs.Calls.{KeptBytes, Result, Stands, engine, soundKept, call, setUp, setUpRight, callBy, setUpRightBy}
 use Rattle.model.proofs.Rooms.{rows-append}
 use Rattle.model.proofs.Counts.{held-free}
-use Rattle.model.proofs.Fresh.{fresh-rows, fresh-formed, whole-rows, set-up-lawful, set-up-done, set-up-sound}
-use Rattle.model.proofs.Lookup.{placed, groupOf, place-unique, lookup-found}
+use Rattle.model.proofs.Fresh.{fresh-rows, fresh-formed, whole-rows, whole-units, set-up-lawful, set-up-done, set-up-sound}
+use Rattle.model.proofs.Lookup.{placed, groupOf, place-unique}
 use Rattle.model.proofs.Reserve.{Served, served, reserve-size}
 use Rattle.model.proofs.Formed.{any-middle, plan-formed}
 use Rattle.model.proofs.Tables.{masks-laws, encode-length}
 use Rattle.model.proofs.Kept.{engine-lawful, kept-totals}
 use Rattle.model.proofs.Calls.{Asks}
-use Rattle.model.proofs.Moves.{Old, old, old-released, stays-start}
+use Rattle.model.proofs.Moves.{Old, old, old-released}
 use Rattle.claims.specs.History.{Entry, Ledger, opening, without, enteredGrant, enteredEach, entered, Asked, booked, kept, Counts, Tells, History}
+use Rattle.claims.proofs.Handles.{same-start, stays-handle}
 use Rattle.claims.proofs.Cases.{reserve-live, taken-same, refuses, by-call, Named, on-named, on-grant, on-aligned, on-resize}
 use Rattle.claims.proofs.Demand1.{demand1}
 use Rattle.claims.proofs.Demand2.{Accepted, accepted, set-up-accepted, sound-leaves}
 use Rattle.claims.proofs.AsSaid.{reports-as-said}
 
--- ---- What a pool weighs: each live block as much as f says of its start and size. That the blocks of a ledger and of a pool are the same,
+-- ---- What a pool weighs: each live block as much as f says of its handle and size. That the blocks of a ledger and of a pool are the same,
 -- in whatever order, is said so: whatever f says, they weigh the same.
 
 -- a slot that begins at b
 unfoldable weight : (Entry → ℕ) → ℕ → Slot → ℕ
-weight f b x = choose (isLive x) (f (record { start = b + 16 * disp x; size = size x })) 0
+weight f b x = choose (isLive x) (f (record { handle = b + 16 * disp x + useBits (count x); size = size x })) 0
 
 -- a live block
 abbrev entry : ℕ → Place → Entry
-entry row p = record { start = start row p; size = size (p .state) }
+entry row p = record { handle = handle row p; size = size (p .state) }
 
 ready-weight : (f : Entry → ℕ) (b : ℕ) (x : Slot) → T (isReady x) → weight f b x ≡ 0
 unfolding weight choose
@@ -159,7 +160,7 @@ module _ (row : ℕ) (f : Entry → ℕ) where
 
   -- the slot that a grant takes
   reserve-weigh : (P : Pool) (k n : ℕ) (q : Place) → T (wellFormed P) → reserve row P k n ≡ some q
-      → weigh 0 (poolOf q) ≡ f (record { start = start row q; size = n }) + weigh 0 P
+      → weigh 0 (poolOf q) ≡ f (record { handle = handle row q; size = n }) + weigh 0 P
   unfolding rest
   reserve-weigh P k n q w e =
       let v : Served row P k n q = served row P k n q w e in
@@ -167,7 +168,7 @@ module _ (row : ℕ) (f : Entry → ℕ) where
       omega (
         arith,
         live-weigh q (reserve-live row P k n q v),
-        ap (λ m. f (record { start = start row q; size = m })) (reserve-size row P k n q w e),
+        ap (λ m. f (record { handle = handle row q; size = m })) (reserve-size row P k n q w e),
         place-weigh (become q x),
         ready-weight f (beginning row q) x (v .taken .ready),
         taken-same row (weigh 0)
@@ -209,21 +210,21 @@ module _ (row : ℕ) (f : Entry → ℕ) where
 -- ---- a block struck from a ledger
 
 module _ (b : Entry) where
-  -- a block at the same start, and one of another size
+  -- a block of the same handle, and one of another size
   abbrev meets : Entry → ℕ
-  meets e = bit (eqb (e .start) (b .start))
+  meets e = bit (eqb (e .handle) (b .handle))
 
   abbrev strays : Entry → ℕ
-  strays e = bit (eqb (e .start) (b .start) && not (eqb (e .size) (b .size)))
+  strays e = bit (eqb (e .handle) (b .handle) && not (eqb (e .size) (b .size)))
 
-  without-sum : (f : Entry → ℕ) (es : List Entry) → sum strays es ≡ 0 → 1 ≤ sum meets es → sum f (without (b .start) es) + f b ≡ sum f es
+  without-sum : (f : Entry → ℕ) (es : List Entry) → sum strays es ≡ 0 → 1 ≤ sum meets es → sum f (without (b .handle) es) + f b ≡ sum f es
   without-sum f [] h k = absurd (omega arith)
   without-sum f (e ∷ es) h k =
-      choose-case (λ l. sum f l + f b ≡ f e + sum f es) (eqb (e .start) (b .start)) es (e ∷ without (b .start) es)
+      choose-case (λ l. sum f l + f b ≡ f e + sum f es) (eqb (e .handle) (b .handle)) es (e ∷ without (b .handle) es)
       (λ q.
       let m : e .size ≡ b .size = same (eqb (e .size) (b .size)) refl (rw q at h) in
-      let n : e .start ≡ b .start = eqb-true (e .start) (b .start) q in
-      omega (arith, ap₂ (λ x y. f (record { start = x; size = y })) n m))
+      let n : e .handle ≡ b .handle = eqb-true (e .handle) (b .handle) q in
+      omega (arith, ap₂ (λ x y. f (record { handle = x; size = y })) n m))
       (λ q. omega (arith, without-sum f es (omega (arith, rw q at h)) (omega (arith, rw q at k))))
     where
       same : (c : Bool) → eqb (e .size) (b .size) ≡ c → bit (not c) + sum strays es ≡ 0 → e .size ≡ b .size
@@ -243,39 +244,39 @@ module _ (row : ℕ) where
 
   -- a grant, with whatever alignment
   grant-tallies : (P : Pool) (k n : ℕ) (q : Place) → T (wellFormed P) → reserve row P k n ≡ some q → (l : Ledger) → Tallies l P
-      → Tallies (enteredGrant l (start row q) n) (poolOf q)
+      → Tallies (enteredGrant l (handle row q) n) (poolOf q)
   grant-tallies P k n q w r l t = record { sums = λ f. omega (arith, t .sums f, reserve-weigh row f P k n q w r); count = omega (arith, t .count) }
 
   -- each entry of a list is a grant
   list-tallies : (P : Pool) (ns : List ℕ) (qs : List Place) → T (wellFormed P) → T (small ns) → reserveAll row P ns ≡ some qs
-      → (l : Ledger) → Tallies l P → Tallies (enteredEach l (map (start row) qs) ns) (poolAfter P qs)
+      → (l : Ledger) → Tallies l P → Tallies (enteredEach l (map (handle row) qs) ns) (poolAfter P qs)
   list-tallies =
-      by-grants row (λ P ns qs. (l : Ledger) → Tallies l P → Tallies (enteredEach l (map (start row) qs) ns) (poolAfter P qs)) (λ P l t. t)
+      by-grants row (λ P ns qs. (l : Ledger) → Tallies l P → Tallies (enteredEach l (map (handle row) qs) ns) (poolAfter P qs)) (λ P l t. t)
       (λ P n ns q qs w h r k l t. k _ (grant-tallies P ordinary n q w r l t))
 
-  module _ (pos : 0 < row) (P : Pool) (w : T (wellFormed P)) (l : Ledger) (t : Tallies l P) where
-    -- the ledger's block that starts where a live block of the pool does is that one
-    struck : (p : Place) (o : ℕ) → Named row P o p → (f : Entry → ℕ) → sum f (without o (l .blocks)) + f (entry row p) ≡ sum f (l .blocks)
-    struck p o n f =
-        subst (λ k. sum f (without k (l .blocks)) + f b ≡ sum f (l .blocks)) (lookup-found row pos P o p (n .found) .2)
-        (without-sum b f (l .blocks) (t .sums (strays b) ∙ weigh-zero row (strays b) [] P (λ q i _. one q i (eqb (start row q) (start row p)) refl))
+  module _ (pos : 0 < row) (u : row % 16 ≡ 0) (P : Pool) (w : T (wellFormed P)) (l : Ledger) (t : Tallies l P) where
+    -- the ledger's block that has the handle of a live block of the pool is that one
+    struck : (p : Place) (h : ℕ) → Named row P h p → (f : Entry → ℕ) → sum f (without h (l .blocks)) + f (entry row p) ≡ sum f (l .blocks)
+    struck p h n f =
+        subst (λ k. sum f (without k (l .blocks)) + f b ≡ sum f (l .blocks)) (n .present)
+        (without-sum b f (l .blocks) (t .sums (strays b) ∙ weigh-zero row (strays b) [] P (λ q i _. one q i (eqb (handle row q) (handle row p)) refl))
         (omega (
           arith,
           t .sums (meets b),
           ap (weigh row (meets b) 0) (n .pool),
           live-weigh row (meets b) p (n .live),
-          ap bit (T-true (eqb (start row p) (start row p)) (eqb-refl (start row p))),
+          ap bit (T-true (eqb (handle row p) (handle row p)) (eqb-refl (handle row p))),
         )))
       where
         b : Entry
         b = entry row p
 
-        one : (q : Place) → poolOf q ≡ P → (c : Bool) → eqb (start row q) (start row p) ≡ c → bit (c && not (eqb (size (q .state)) (size (p .state)))) ≡ 0
-        one q i true h =
+        one : (q : Place) → poolOf q ≡ P → (c : Bool) → eqb (handle row q) (handle row p) ≡ c → bit (c && not (eqb (size (q .state)) (size (p .state)))) ≡ 0
+        one q i true e =
             let w′ : T (wellFormed (poolOf p)) = subst (λ Q. T (wellFormed Q)) (sym (n .pool)) w in
-            let z : q ≡ p = place-unique row pos p q w′ (i ∙ sym (n .pool)) (eqb-true (start row q) (start row p) h) in
+            let z : q ≡ p = place-unique row pos p q w′ (i ∙ sym (n .pool)) (same-start row u p q (eqb-true (handle row q) (handle row p) e)) in
             ap (λ c. bit (not c)) (T-true (eqb (size (q .state)) (size (p .state))) (eq→eqb _ _ (ap (λ r. size (r .state)) z)))
-        one q i false h = refl
+        one q i false e = refl
 
     -- the ledger after an accepted plan
     abbrev Enters : Call → Plan → Type 0
@@ -284,45 +285,45 @@ module _ (row : ℕ) where
     refused-enters : (c : Call) (r : Refusal) → Enters c (refused r P)
     refused-enters c r z = absurd (refuses r z)
 
-    release-enters : (o : ℕ) (p : Place) → Named row P o p → Enters (releases o) (releaseAt row p)
-    release-enters o p n z =
+    release-enters : (h : ℕ) (p : Place) → Named row P h p → Enters (releases h) (releaseAt row p)
+    release-enters h p n z =
         record {
-          sums = λ g. omega (arith, struck p o n g, t .sums g, ap (weigh row g 0) (n .pool), live-weigh row g p (n .live), released-weigh row g p);
-          count = omega (arith, struck p o n (λ e. 1), t .count);
+          sums = λ g. omega (arith, struck p h n g, t .sums g, ap (weigh row g 0) (n .pool), live-weigh row g p (n .live), released-weigh row g p);
+          count = omega (arith, struck p h n (λ e. 1), t .count);
         }
 
-    in-place-enters : (o m : ℕ) (p : Place) → Named row P o p → Enters (resizes o m) (resizeInPlace row p m)
+    in-place-enters : (h m : ℕ) (p : Place) → Named row P h p → Enters (resizes h m) (resizeInPlace row p m)
     unfolding resizeInPlace rest
-    in-place-enters o m p n z =
+    in-place-enters h m p n z =
         let q : Place = become p (Live (record { count = count (p .state); disp = disp (p .state); size = m; align = align (p .state) })) in
         record {
-          sums = λ g. omega (arith, struck p o n g, t .sums g, ap (weigh row g 0) (n .pool), live-weigh row g p (n .live), live-weigh row g q tt);
-          count = omega (arith, struck p o n (λ e. 1), t .count);
+          sums = λ g. omega (arith, struck p h n g, t .sums g, ap (weigh row g 0) (n .pool), live-weigh row g p (n .live), live-weigh row g q tt);
+          count = omega (arith, struck p h n (λ e. 1), t .count);
         }
 
     -- the old block is where it was when the new one has been granted
-    moved-enters : (o m : ℕ) (p q : Place) → Named row P o p → Askable (align (p .state)) m → reserve row P (align (p .state)) m ≡ some q
-        → Enters (resizes o m) (moveTo row P p m (some q))
-    moved-enters o m p q n s e z =
+    moved-enters : (h m : ℕ) (p q : Place) → Named row P h p → Askable (align (p .state)) m → reserve row P (align (p .state)) m ≡ some q
+        → Enters (resizes h m) (moveTo row P p m (some q))
+    moved-enters h m p q n s e z =
         let k : ℕ = align (p .state) in
         let y : Old row pos P w k m s q e p (n .pool) (n .live) = old row pos P w k m s q e p (n .pool) (n .live) in
         let p′ : Place = y .place in
-        let i : start row p′ ≡ start row p = stays-start row p p′ (y .stays) in
-        let u : release row (poolOf q) (start row p) ≡ releaseAt row p′ = old-released row pos P w k m s q e p (n .pool) (n .live) in
+        let i : handle row p′ ≡ handle row p = stays-handle row p p′ (y .stays) in
+        let d : discard row (poolOf q) p ≡ releaseAt row p′ = old-released row pos P w k m s q e p (n .pool) (n .live) in
         record {
           sums = λ g.
               omega (
                 arith,
-                struck p o n g,
+                struck p h n g,
                 t .sums g,
                 reserve-weigh row g P k m q w e,
                 ap (weigh row g 0) (y .pool),
                 live-weigh row g p′ (y .live),
-                ap₂ (λ x y. g (record { start = x; size = y })) i (ap size (y .stays .state)),
+                ap₂ (λ x y. g (record { handle = x; size = y })) i (ap size (y .stays .state)),
                 released-weigh row g p′,
-                ap (λ (r : Plan). weigh row g 0 (r .pool)) u,
+                ap (λ (r : Plan). weigh row g 0 (r .pool)) d,
               );
-          count = omega (arith, struck p o n (λ e. 1), t .count);
+          count = omega (arith, struck p h n (λ e. 1), t .count);
         }
 
     plan-enters : (c : Call) → Enters c (plan row P c)
@@ -333,12 +334,12 @@ module _ (row : ℕ) where
         (λ q h e z. grant-tallies P ordinary m q w e l t)
     plan-enters (grantsAligned m b) =
         on-aligned row pos P (Enters (grantsAligned m b)) (refused-enters (grantsAligned m b)) m b (λ q h e z. grant-tallies P (codeOf b) m q w e l t)
-    plan-enters (releases o) =
-        on-named row pos P (Enters (releases o)) (refused-enters (releases o)) o (releaseAt row) (λ p n. release-enters o p n)
-    plan-enters (resizes o m) =
-        on-resize row pos P (Enters (resizes o m)) (refused-enters (resizes o m)) w o m (λ p n i. in-place-enters o m p n)
-        (λ p n z. absurd (omega arith)) (λ p q n s e. moved-enters o m p q n s e)
-    plan-enters (measures o) = on-named row pos P (Enters (measures o)) (refused-enters (measures o)) o (measureAt row P) (λ p n z. t)
+    plan-enters (releases h) =
+        on-named row pos P (Enters (releases h)) (refused-enters (releases h)) h (releaseAt row) (λ p n. release-enters h p n)
+    plan-enters (resizes h m) =
+        on-resize row pos P (Enters (resizes h m)) (refused-enters (resizes h m)) w h m (λ p n i. in-place-enters h m p n)
+        (λ p n z. absurd (omega arith)) (λ p q n s e. moved-enters h m p q n s e)
+    plan-enters (measures h) = on-named row pos P (Enters (measures h)) (refused-enters (measures h)) h (measureAt row P) (λ p n z. t)
     plan-enters reports = λ z. t
     plan-enters (grantsList total cap places ns) =
         let c : Call = grantsList total cap places ns in
@@ -413,7 +414,8 @@ module _ (row : ℕ) (pos : 0 < row) (n : ℕ) where
               subst (λ (r : Result). Tallies row (entered l c (r .answer)) (view row (r .room .tables))) (sym (y .left))
               (subst (Tallies row (entered l c (p .answer)))
               (sym (engine-lawful row pos .says (p .pool) (plan-formed row pos P c (s .formed) .formed)))
-              (plan-enters row pos P (s .formed) l (k .tallies) c (ap (λ (r : Result). r .answer .number) (sym (y .left)) ∙ z)));
+              (plan-enters row pos (whole-units row n (s .lawful)) P (s .formed) l (k .tallies) c
+              (ap (λ (r : Result). r .answer .number) (sym (y .left)) ∙ z)));
         }
 
     -- a set up too, since the room's size tells the arena's

@@ -1,12 +1,14 @@
 pub mod Codes
 pub mod Tables
 pub mod Bench
+pub mod Handles
 pub mod Cases
 pub mod Meets
 pub mod Demand1
 pub mod Demand2
 pub mod Boundaries
 pub mod Stays
+pub mod Slots
 pub mod Kept
 pub mod Aligned
 pub mod AsSaid
@@ -18,6 +20,7 @@ pub mod Steps
 pub mod Requested
 pub mod Demand3
 pub mod History
+pub mod Stale
 pub mod Record
 pub mod Lists
 pub mod Alike

@@ -9,7 +9,7 @@ use Rattle.mem.proofs.Laws.{put-length}
 use Rattle.classes.specs.Classes.{tooLarge}
 use Rattle.classes.specs.Alignments.{ordinary}
 use Rattle.model.specs.declared.Refusal.the-variants.{NoRoom, TooLong}
-use Rattle.model.specs.State.{Pool, Place, disp, size, poolOf, slotNumber, rows, owned, start}
+use Rattle.model.specs.State.{Pool, Place, disp, size, poolOf, slotNumber, rows, owned, handle}
 use Rattle.model.specs.Blocks.{frame}
 use Rattle.model.specs.Answers.{Answer, done, listDone, refusal}
 use Rattle.model.specs.Proposals.{entries, accepts, plannable, fullCaps, planned}
@@ -54,7 +54,7 @@ plans-as-said total cap = record {
 abbrev eight : Answer → Bool
 eight r = eqb (r .number) 8
 
-none-eight : (vs : List ℕ) → T (any eight (map (λ s. done (s ∷ [])) vs)) → ⊥
+none-eight : (vs : List ℕ) → T (any eight (map (λ h. done (h ∷ [])) vs)) → ⊥
 none-eight [] t = t
 none-eight (v ∷ vs) t = none-eight vs t
 
@@ -63,7 +63,7 @@ module _ (row : ℕ) where
   abbrev Granting : Pool → List ℕ → KeptBytes → List ℕ → Option (List Place) → Type 0
   Granting P a t ns none = T (any eight (granting row a t ns .answers))
   Granting P a t ns (some qs) =
-      (granting row a t ns .answers ≡ map (λ s. done (s ∷ [])) (map (start row) qs))
+      (granting row a t ns .answers ≡ map (λ h. done (h ∷ [])) (map (handle row) qs))
       × (granting row a t ns .arena ≡ written a (map (enframe row) qs)) × (granting row a t ns .room ≡ engine row .encode (poolAfter P qs))
 
   module _ (a : List ℕ) (t : KeptBytes) (n : ℕ) (s : soundKept row (length a) t ≡ true) (h : n < tooLarge) where
@@ -101,7 +101,7 @@ module _ (row : ℕ) where
         lift q c none k =
             subst (λ (r : Result). T (eight (r .answer) || any eight (granting row (r .arena) (r .room) ns .answers))) (sym c) k
         lift q c (some qs) k = (
-          ap (λ (r : Result). r .answer ∷ granting row (r .arena) (r .room) ns .answers) c ∙ ap (λ l. done (start row q ∷ []) ∷ l) (k .0),
+          ap (λ (r : Result). r .answer ∷ granting row (r .arena) (r .room) ns .answers) c ∙ ap (λ l. done (handle row q ∷ []) ∷ l) (k .0),
           ap (λ (r : Result). granting row (r .arena) (r .room) ns .arena) c ∙ k .1,
           ap (λ (r : Result). granting row (r .arena) (r .room) ns .room) c ∙ k .2,
         )
@@ -145,7 +145,7 @@ module _ (row : ℕ) where
         let w = engine-lawful row pos .only (length a) t (y .sound-tables) .0 .formed in
         record {
           entries = ap (λ k. k ∷ []) (places-counted row (view row (t .tables)) ns qs w h e);
-          starts = g .0;
+          handles = g .0;
           arena = sym (g .1);
           room = sym (g .2);
         })
@@ -176,4 +176,4 @@ module _ (row : ℕ) where
         by-places (some qs) e =
             let n = ap (λ (r : Result). r .answer .number) (whole (some qs) e ∙ carried-whole row a t (grantAllAt row P (some qs)) refl) in
             let g = subst (Granting P a t ns) e (grantings P a t ns refl (T-true (soundKept row (length a) t) s) (accepts-small total cap ns k)) in
-            ((λ x. absurd (omega (arith, n, x))), λ x. absurd (none-eight (map (start row) qs) (subst (λ l. T (any eight l)) (g .0) x)))
+            ((λ x. absurd (omega (arith, n, x))), λ x. absurd (none-eight (map (handle row) qs) (subst (λ l. T (any eight l)) (g .0) x)))

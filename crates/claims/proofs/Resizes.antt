@@ -12,10 +12,10 @@ use Rattle.classes.specs.Classes.{slotBytes, classOf, tooLarge, ownClass}
 use Rattle.classes.specs.Alignments.{alignOf, codeOf, enlarged, Askable}
 use Rattle.model.specs.declared.Refusal.the-variants.{NoRoom}
 use Rattle.model.specs.declared.Damage.the-variants.{Intact}
-use Rattle.model.specs.State.{Pool, Place, isLive, disp, size, align, wellFormed, aligned, poolOf, slotNumber, rows, owned, start}
+use Rattle.model.specs.State.{Pool, Place, disp, size, align, wellFormed, aligned, startOf, poolOf, slotNumber, rows, owned, start, handle}
 use Rattle.model.specs.Blocks.{reserved, header, guard, firstSpare, spare, headerRight, guardRight, damageIn, damage, frame}
-use Rattle.model.specs.Plans.{Plan, Call, grantsAligned, releases, resizes, plan, lookup, newSize, onBlock, releaseAt, release, inPlace, resizeInPlace}
-use Rattle.model.specs.Plans.{resizeMove, moveTo, resizeAt, resize, reserve, grantAt, grantAs, grantAligned, enframe}
+use Rattle.model.specs.Plans.{Plan, Call, grantsAligned, releases, resizes, plan, lookup, newSize, onHandle, releaseAt, release, discard, inPlace}
+use Rattle.model.specs.Plans.{resizeInPlace, resizeMove, moveTo, resizeAt, resize, reserve, grantAt, grantAs, grantAligned, enframe}
 use Rattle.model.specs.Tables.{view, arenaRight}
 use Rattle.model.specs.Calls.{KeptBytes, Stands, Result, engine, soundKept, applied, written, damaged, carried, call}
 use Rattle.model.proofs.Kept.{engine-lawful}
@@ -25,15 +25,17 @@ use Rattle.model.proofs.Lookup.{Fits, fits, disp-inside, owned-inside, Owns, ou
 use Rattle.model.proofs.Reserve.{Granted, reserve-formed, reserve-size, served}
 use Rattle.model.proofs.Formed.{resize-in-place-formed, resizable}
 use Rattle.model.proofs.Calls.{call-sound, carried-whole}
-use Rattle.model.proofs.Moves.{Old, old, old-released, old-apart, stays-owned}
+use Rattle.model.proofs.Moves.{Old, old, old-released, old-apart, slot-owned, stays-start}
 use Rattle.claims.specs.Demand1.{order, headerDue, guardDue, Due}
 use Rattle.claims.specs.Demand2 as demand2
-use Rattle.claims.specs.AsSaid.{Waits, Goes, Near, Serves, sized, stay, InPlace, MovedBy, ResizesAsSaid}
+use Rattle.claims.specs.AsSaid.{Waits, Goes, Near, Serves, sized, stay, InPlace, Moved, MovedBy, ResizesAsSaid}
+use Rattle.claims.proofs.Handles.{start-cleared, stays-handle, on-present}
 use Rattle.claims.proofs.Cases.{release-parts, reserve-live}
 use Rattle.claims.proofs.Codes.{code-align, enlarged-align}
 use Rattle.claims.proofs.Demand1.{demand1, starts-found, resize-large}
 use Rattle.claims.proofs.Demand2.{Accepted, accepted, none-due, found-intact}
 use Rattle.claims.proofs.AsSaid.{released-as-said, on-intact, place-formed}
+use Rattle.claims.proofs.Stays.{live-at}
 
 -- ---- what serves in place
 
@@ -173,16 +175,17 @@ module _ (row : ℕ) (pos : 0 < row) (a : List ℕ) (n : ℕ) (p : Place) (w : T
       bare : (x s h o k n r m : ℕ) → h ≤ r → r ≤ s → k ≤ n → o + n + r ≡ x + s → m ≡ n - k + (r - h) → x + (s - h) ≡ o + k + m
       bare x s h o k n r m j b i e f = omega arith
 
-  in-place-as-said : (z : Result) → T (isLive (p .state)) → z ≡ applied (engine row) a (resizeInPlace row p n) → InPlace row a o n p z
+  in-place-as-said : (P : Pool) (h : ℕ) → demand2.Intact row a P h p → (z : Result) → z ≡ applied (engine row) a (resizeInPlace row p n)
+      → InPlace row a h n p z
   unfolding resizeInPlace
-  in-place-as-said z v e =
+  in-place-as-said P h b z e =
       let x : z .arena ≡ reframed = ap (λ (r : Result). r .arena) e in
       let y : view row (z .room .tables) ≡ poolOf (sized p n) =
       ap (λ (r : Result). view row (r .room .tables)) e
-      ∙ engine-lawful row pos .says (poolOf (sized p n)) (resize-in-place-formed row p n w v (asked .small) t .formed) in
+      ∙ engine-lawful row pos .says (poolOf (sized p n)) (resize-in-place-formed row p n w (b .live .live) (asked .small) t .formed) in
       record {
         serves = serves;
-        value = ap (λ (r : Result). r .answer .values) e;
+        value = ap (λ (r : Result). r .answer .values) e ∙ ap (λ v. v ∷ []) (b .present);
         pool = y;
         long = ap length x ∙ put-length (o + k) tail headed ∙ put-length (o - 4) head a;
         kept = λ i b.
@@ -192,7 +195,8 @@ module _ (row : ℕ) (pos : 0 < row) (a : List ℕ) (n : ℕ) (p : Place) (w : T
             ap (λ b. getD b i 0) x ∙ ap (λ vs. getD (put (o + k) vs headed) i 0) tail-parts
             ∙ zeros-put (o + k) [] (n - k + (r - length g)) g headed i (omega arith) (omega (arith, u, whole, guard-fits r));
         due = record {
-          live = record { here = record { slotted = record { pool = sym y; granted-once = tt }; starts = refl }; live = tt };
+          live = record { here = record { slotted = record { pool = sym y; granted-once = tt }; starts = b .live .here .starts }; live = tt };
+          present = b .present;
           header = subst (λ b. T (headerRight c (slotNumber p) d n (part (owned row p) (slotBytes c) b))) (sym x) header-there;
           guard = subst (λ b. T (guardRight c d n (part (owned row p) (slotBytes c) b))) (sym x) guard-there;
         };
@@ -209,7 +213,7 @@ module _ (row : ℕ) (pos : 0 < row) (a : List ℕ) (n : ℕ) (p : Place) (w : T
 -- the old block p and the new block q, which has its alignment, in an arena as long as the pool
 module _ (row : ℕ) (pos : 0 < row) (P : Pool) (w : T (wellFormed P)) (a : List ℕ) (long : length a ≡ row * rows row P) (n : ℕ) (p : Place)
     (asked : Askable (align (p .state)) n) (q : Place) (found : reserve row P (align (p .state)) n ≡ some q)
-    (i : demand2.Intact row a P (start row p) p) where
+    (h : ℕ) (i : demand2.Intact row a P h p) where
   abbrev code : ℕ
   code = align (p .state)
 
@@ -217,7 +221,7 @@ module _ (row : ℕ) (pos : 0 < row) (P : Pool) (w : T (wellFormed P)) (a : List
   there = i .live .here .slotted .pool
 
   formed-p : T (wellFormed (poolOf p))
-  formed-p = place-formed row pos P w a (start row p) p i
+  formed-p = place-formed row pos P w a h p i
 
   made : Granted row P code n q
   made = reserve-formed row P code n q w asked found
@@ -225,9 +229,19 @@ module _ (row : ℕ) (pos : 0 < row) (P : Pool) (w : T (wellFormed P)) (a : List
   beside : Old row pos P w code n asked q found p there (i .live .live)
   beside = old row pos P w code n asked q found p there (i .live .live)
 
-  released-old : release row (poolOf q) (start row p) ≡ releaseAt row (beside .place)
+  discarded-old : discard row (poolOf q) p ≡ releaseAt row (beside .place)
   unfolding beside
-  released-old = old-released row pos P w code n asked q found p there (i .live .live)
+  discarded-old = old-released row pos P w code n asked q found p there (i .live .live)
+
+  -- by the handle that it has, it is released the same
+  released-old : release row (poolOf q) h ≡ releaseAt row (beside .place)
+  unfolding release
+  released-old =
+      let o : Place = beside .place in
+      let s : start row o ≡ startOf h = stays-start row p o (beside .stays) ∙ i .live .here .starts in
+      on-present row pos (poolOf q) h (releaseAt row) o
+      (starts-found row pos (poolOf q) (startOf h) o (made .formed) (live-at row (poolOf q) (startOf h) o (beside .pool) (beside .live) s .here))
+      (beside .live) (stays-handle row p o (beside .stays) ∙ i .present)
 
   apart : (owned row p + slotBytes (p .cls) ≤ owned row q) ⊎ (owned row q + slotBytes (q .cls) ≤ owned row p)
   apart = old-apart row pos P w code n asked q found p there (i .live .live)
@@ -283,25 +297,25 @@ module _ (row : ℕ) (pos : 0 < row) (P : Pool) (w : T (wellFormed P)) (a : List
       let s = beside .stays in
       let e : damage row copy (beside .place)
       ≡ damageIn (p .cls) (slotNumber p) (disp (p .state)) (size (p .state)) (part (owned row p) (slotBytes (p .cls)) copy) =
-      rw (s .first, s .cls, s .number, s .state) in
+      rw (s .slot .first, s .slot .cls, s .slot .number, s .state) in
       e ∙ rw (old-bytes, T-true (headerDue row a p) (i .header), T-true (guardDue row a p) (i .guard))
 
   -- the release over the copy
   release-done : T (arenaRight row (length a)) → T (aligned row P)
-      → call row copy (engine row .encode (poolOf q)) (releases (start row p)) ≡ applied (engine row) copy (releaseAt row (beside .place))
-  unfolding plan release
-  release-done h b =
+      → call row copy (engine row .encode (poolOf q)) (releases h) ≡ applied (engine row) copy (releaseAt row (beside .place))
+  unfolding plan
+  release-done m b =
       let u : KeptBytes = engine row .encode (poolOf q) in
       let x : T (soundKept row (length copy) u) =
       engine-lawful row pos .right (length copy) (poolOf q) (record {
-        lawful = subst (λ m. T (arenaRight row m)) (sym copy-length) h;
+        lawful = subst (λ m. T (arenaRight row m)) (sym copy-length) m;
         long = copy-length ∙ long ∙ ap (λ m. row * m) (sym (made .long));
         formed = made .formed;
-        bounds = made .bounds (whole-units row (length a) h) b;
+        bounds = made .bounds (whole-units row (length a) m) b;
       }) in
-      call-sound row copy u (T-true (soundKept row (length copy) u) x) (releases (start row p)) tt
+      call-sound row copy u (T-true (soundKept row (length copy) u) x) (releases h) tt
       ∙ ap (carried row copy u)
-      (ap (λ Q. release row Q (start row p)) (engine-lawful row pos .says (poolOf q) (made .formed)) ∙ released-old)
+      (ap (λ Q. release row Q h) (engine-lawful row pos .says (poolOf q) (made .formed)) ∙ released-old)
       ∙ carried-whole row copy u (releaseAt row (beside .place)) (ap (damaged row copy) (release-parts row (beside .place) .0) ∙ old-whole)
 
   new-owns : (j : ℕ) → j < stay p n → Owns row q (start row q + j)
@@ -311,8 +325,8 @@ module _ (row : ℕ) (pos : 0 < row) (P : Pool) (w : T (wellFormed P)) (a : List
   new-kept : (r : Result) → Waits row copy (beside .place) r ⊎ Goes row copy (beside .place) r → (j : ℕ) → Owns row q j
       → getD (r .arena) j 0 ≡ getD copy j 0
   new-kept r (inl v) j o =
-      let e : owned row (beside .place) ≡ owned row p = stays-owned row p (beside .place) (beside .stays) in
-      let f : slotBytes (beside .place .cls) ≡ slotBytes (p .cls) = ap slotBytes (beside .stays .cls) in
+      let e : owned row (beside .place) ≡ owned row p = slot-owned row p (beside .place) (beside .stays .slot) in
+      let f : slotBytes (beside .place .cls) ≡ slotBytes (p .cls) = ap slotBytes (beside .stays .slot .cls) in
       v .bytes .others j (⊎-elim (λ x. inr (omega (arith, x, o .from))) (λ x. inl (omega (arith, x, o .to))) apart)
   new-kept r (inr g) j o =
       g .bytes .others j
@@ -332,25 +346,28 @@ module _ (row : ℕ) (pos : 0 < row) (P : Pool) (w : T (wellFormed P)) (a : List
 
   -- the grant, the copy and the release make the move
   moved : (g z : Result) → g ≡ applied (engine row) a (grantAt row P (some q)) → T (arenaRight row (length a)) → T (aligned row P)
-      → inPlace p n ≡ false → z ≡ applied (engine row) a (moveTo row P p n (some q)) → MovedBy row a (start row p) n p g z
+      → inPlace p n ≡ false → z ≡ applied (engine row) a (moveTo row P p n (some q)) → MovedBy row a h n p g z
   unfolding enframe
-  moved g z e h b f l =
-      let r : Result = call row copy (engine row .encode (poolOf q)) (releases (start row p)) in
-      let x : r ≡ applied (engine row) copy (releaseAt row (beside .place)) = release-done h b in
+  moved g z e m b f l =
+      let r : Result = call row copy (engine row .encode (poolOf q)) (releases h) in
+      let x : r ≡ applied (engine row) copy (releaseAt row (beside .place)) = release-done m b in
+      let v : startOf (handle row q) ≡ start row q = start-cleared row (whole-units row (length a) m) q in
+      let G : Result = applied (engine row) a (grantAt row P (some q)) in
       let y : z .arena ≡ r .arena =
-      ap (λ (r : Result). r .arena) l ∙ ap (λ (d : Plan). written copy (d .changes)) released-old ∙ sym (ap (λ (r : Result). r .arena) x) in
-      subst (λ (g : Result). MovedBy row a (start row p) n p g z) (sym e) (record {
+      ap (λ (r : Result). r .arena) l ∙ ap (λ (d : Plan). written copy (d .changes)) discarded-old ∙ sym (ap (λ (r : Result). r .arena) x) in
+      subst (λ (g : Result). MovedBy row a h n p g z) (sym e)
+      (subst (λ s. Moved row a h n p G (handle row q) (put s first laid) z) (sym v) (record {
         serves-not = λ v. subst T f (in-place-serves p n (asked .some-code) .1 v);
         granted = refl;
         answer = ap (λ (r : Result). r .answer) l;
         released = ap (λ (r : Result). r .answer .number) x ∙ ap (λ r. r .number) (release-parts row (beside .place) .1);
         arena = y;
-        room = ap (λ (r : Result). r .room) l ∙ ap (λ (d : Plan). engine row .encode (d .pool)) released-old ∙ sym (ap (λ (r : Result). r .room) x);
+        room = ap (λ (r : Result). r .room) l ∙ ap (λ (d : Plan). engine row .encode (d .pool)) discarded-old ∙ sym (ap (λ (r : Result). r .room) x);
         kept = λ j k.
-            ap (λ b. getD b (start row q + j) 0) y
+            ap (λ s. getD (z .arena) (s + j) 0) v ∙ ap (λ b. getD b (start row q + j) 0) y
             ∙ new-kept r (released-as-said row pos copy (beside .place) (beside .formed) (beside .live) r x) (start row q + j) (new-owns j k)
             ∙ copy-there j k;
-      })
+      }))
 
 -- ---- every accepted resize
 
@@ -361,13 +378,13 @@ aligned-as row P k n s l =
     let e : codeOf (alignOf k) ≡ k = code-align k s l in
     choose-true (ltb 0 (codeOf (alignOf k))) _ _ (lt-ltb 0 (codeOf (alignOf k)) (omega (arith, e))) ∙ ap (λ j. grantAs row P j n) e
 
-module _ (row : ℕ) (pos : 0 < row) (a : List ℕ) (t : KeptBytes) (h : T (soundKept row (length a) t)) (n : ℕ) (p : Place)
+module _ (row : ℕ) (pos : 0 < row) (a : List ℕ) (t : KeptBytes) (sound : T (soundKept row (length a) t)) (n : ℕ) (p : Place)
     (asked : Askable (align (p .state)) n) where
   abbrev P : Pool
   P = view row (t .tables)
 
   s : Stands row (length a) P
-  s = engine-lawful row pos .only (length a) t h .0
+  s = engine-lawful row pos .only (length a) t sound .0
 
   -- the grant of a move
   abbrev asks : Call
@@ -377,63 +394,51 @@ module _ (row : ℕ) (pos : 0 < row) (a : List ℕ) (t : KeptBytes) (h : T (soun
   unfolding plan grantAs
   grant-done q e =
       let k : ℕ = align (p .state) in
-      call-sound row a t (T-true (soundKept row (length a) t) h) asks tt
+      call-sound row a t (T-true (soundKept row (length a) t) sound) asks tt
       ∙ ap (carried row a t) (aligned-as row P k n (asked .some-code) (asked .last-code)
       ∙ choose-false (leb tooLarge (enlarged k n)) _ (grantAt row P (reserve row P k n)) (lt-leb tooLarge (enlarged k n) (asked .small))
       ∙ ap (grantAt row P) e)
       ∙ carried-whole row a t (grantAt row P (some q)) refl
 
   -- a resize that was done, of the block p
-  resized-as-said : demand2.Intact row a P (start row p) p → (z : Result) → z .answer .number ≡ 0
-      → z ≡ applied (engine row) a (resizeAt row P n p)
-      → InPlace row a (start row p) n p z ⊎ MovedBy row a (start row p) n p (call row a t asks) z
+  resized-as-said : (h : ℕ) → demand2.Intact row a P h p → (z : Result) → z .answer .number ≡ 0
+      → z ≡ applied (engine row) a (resizeAt row P n p) → InPlace row a h n p z ⊎ MovedBy row a h n p (call row a t asks) z
   unfolding resizeAt resizeMove
-  resized-as-said i z d l =
-      choose-case (λ (r : Plan). z ≡ applied (engine row) a r → InPlace row a (start row p) n p z ⊎ M) (inPlace p n) (resizeInPlace row p n)
+  resized-as-said h i z d l =
+      choose-case (λ (r : Plan). z ≡ applied (engine row) a r → InPlace row a h n p z ⊎ M) (inPlace p n) (resizeInPlace row p n)
       (resizeMove row P p n)
-      (λ e l. inl (in-place-as-said row pos a n p (place-formed row pos P (s .formed) a (start row p) p i)
-      (s .long ∙ ap (λ Q. row * rows row Q) (sym (i .live .here .slotted .pool))) asked (true-T (inPlace p n) e) z (i .live .live) l))
+      (λ e l. inl (in-place-as-said row pos a n p (place-formed row pos P (s .formed) a h p i)
+      (s .long ∙ ap (λ Q. row * rows row Q) (sym (i .live .here .slotted .pool))) asked (true-T (inPlace p n) e) P h i z l))
       (λ e l. inr (go e (reserve row P (align (p .state)) n) refl l)) l
     where
       M : Type 0
-      M = MovedBy row a (start row p) n p (call row a t asks) z
+      M = MovedBy row a h n p (call row a t asks) z
 
       go : inPlace p n ≡ false → (r : Option Place) → reserve row P (align (p .state)) n ≡ r → z ≡ applied (engine row) a (moveTo row P p n r) → M
       go e none f l = absurd (omega (arith, d, ap (λ (r : Result). r .answer .number) l))
       go e (some q) f l =
-          moved row pos P (s .formed) a (s .long) n p asked q f i (call row a t asks) z (grant-done q f) (s .lawful) (s .bounds) e l
+          moved row pos P (s .formed) a (s .long) n p asked q f h i (call row a t asks) z (grant-done q f) (s .lawful) (s .bounds) e l
 
 pub resizes-as-said : (row : ℕ) → 0 < row → ResizesAsSaid row
 unfolding plan resize
-resizes-as-said row pos a t o n z =
-    let c : Call = resizes o n in
+resizes-as-said row pos a t h n z =
+    let c : Call = resizes h n in
+    let o : ℕ = startOf h in
     let y : Accepted row pos a t c = accepted row pos a t c tt z in
     let P : Pool = view row (t .tables) in
     let w : T (wellFormed P) = engine-lawful row pos .only (length a) t (y .sound-tables) .0 .formed in
     let (_, (n₃, m)) = none-due (Due row a t c) (order c) _ (demand1 row pos a t c .number) z in
     let x : ℕ = newSize (lookup row P o) n in
-    let h : x < tooLarge = not-large x (λ g. n₃ (resize-large row pos P o n w .0 g)) in
+    let s : x < tooLarge = not-large x (λ g. n₃ (resize-large row pos P h n w .0 g)) in
     let (p, i) = found-intact row pos a t (y .sound-tables) c (NoRoom ∷ []) m in
     let k : Askable (align (p .state)) n =
-    resizable row pos P o n w p (starts-found row pos P o p w (i .live .here)) (i .live .here .slotted .pool) (i .live .live) h in
+    resizable row pos P o n w p (starts-found row pos P o p w (i .live .here)) (i .live .here .slotted .pool) (i .live .live) s in
     let l : call row a t c ≡ applied (engine row) a (resizeAt row P n p) =
     y .left
     ∙ ap (applied (engine row) a)
-    (choose-false (leb tooLarge x) _ (onBlock P (resizeAt row P n) (lookup row P o)) (lt-leb tooLarge x h)
-    ∙ on-intact row pos P w a o p i (resizeAt row P n)) in
-    let e : start row p ≡ o = i .live .here .starts in (
-      p,
-      record {
-        block = i;
-        done = subst (λ o. Done o p) e
-            (resized-as-said row pos a t (y .sound-tables) n p k (subst (λ o. demand2.Intact row a P o p) (sym e) i) (call row a t c) z l);
-      },
-    )
+    (choose-false (leb tooLarge x) _ (onHandle row P h (resizeAt row P n)) (lt-leb tooLarge x s)
+    ∙ on-intact row pos P w a h p i (resizeAt row P n)) in
+    (p, record { block = i; done = resized-as-said row pos a t (y .sound-tables) n p k h i (call row a t c) z l })
   where
     not-large : (x : ℕ) → (tooLarge ≤ x → ⊥) → x < tooLarge
     not-large x f = omega (arith, f)
-
-    Done : ℕ → Place → Type 0
-    Done s p =
-        InPlace row a s n p (call row a t (resizes o n))
-        ⊎ MovedBy row a s n p (call row a t (grantsAligned n (alignOf (align (p .state))))) (call row a t (resizes o n))

@@ -1,4 +1,4 @@
--- A live block that a call does not name is where it was after it, in the same state: so its alignment stays.
+-- A live block that a call does not name is where it was after it, in the same state: so its handle stays.
 use Rattle.mem.proofs.Prelude.{_∙_, _≡_, sym, ap, refl, subst, Bool, not, ⊎-elim, inl, inr, _⊎_, some, List, [], _∷_, _++_, append-assoc, append-nil}
 use Rattle.mem.proofs.Prelude.{ℕ, _<_, arith, T, T-not, length, length-append, add-zero, lit≤}
 use Rattle.mem.specs.Lists.{any, every}
@@ -7,8 +7,8 @@ use Rattle.mem.proofs.Splits.{Before, Within, Behind, splits}
 use Rattle.classes.specs.Classes.{rowsOf}
 use Rattle.classes.specs.Alignments.{ordinary, codeOf}
 use Rattle.model.specs.declared.Slot.{Slot}
-use Rattle.model.specs.State.{Pool, Place, group, isLive, align, wellFormed, poolOf, become, rows, start}
-use Rattle.model.specs.Plans.{Plan, reserve, reserveAll, poolAfter, vacant, releaseAt, release}
+use Rattle.model.specs.State.{Pool, Place, group, isLive, align, wellFormed, startOf, poolOf, become, rows, start, handle}
+use Rattle.model.specs.Plans.{Plan, reserve, reserveAll, poolAfter, vacant, releaseAt, release, discard}
 use Rattle.model.specs.Plans.{resizeInPlace, moveTo, resize, measureAt, measure, report, freshPool, plan}
 use Rattle.model.specs.Plans.{Call, setsUp, grants, grantsAligned, releases, resizes, measures, reports, grantsList}
 use Rattle.model.specs.Tables.{view}
@@ -20,9 +20,10 @@ use Rattle.model.proofs.Lookup.{placed, same-placed, groupOf, lookup-found}
 use Rattle.model.proofs.Stays.{Stays, reserve-keeps, stays-before, stays-behind}
 use Rattle.model.proofs.Moves.{live-granted, stays-start}
 use Rattle.model.proofs.Lists.{small, by-grants, on-list}
-use Rattle.model.proofs.Formed.{plan-formed}
+use Rattle.model.proofs.Formed.{on-block, plan-formed}
 use Rattle.claims.specs.Demand1.{LiveAt}
-use Rattle.claims.specs.Alignment.{Names, AlignmentStays}
+use Rattle.claims.specs.Alignment.{Names, OthersStay}
+use Rattle.claims.proofs.Handles.{stays-handle}
 use Rattle.claims.proofs.Cases.{by-call, Named, on-named, on-grant, on-aligned, on-resize}
 use Rattle.claims.proofs.Demand2.{Accepted, accepted}
 
@@ -84,11 +85,14 @@ module _ (row : ℕ) where
 
   -- in the pool as it is
   as-it-is : (P : Pool) (p : Place) → poolOf p ≡ P → KeptIn P p
-  as-it-is P p e = (p, e, record { first = refl; cls = refl; number = refl; state = refl })
+  as-it-is P p e = (p, e, record { slot = record { first = refl; cls = refl; number = refl }; state = refl })
 
   -- one change after another
   stays-twice : (p q r : Place) → Stays row p q → Stays row q r → Stays row p r
-  stays-twice p q r s u = record { first = u .first ∙ s .first; cls = u .cls ∙ s .cls; number = u .number ∙ s .number; state = u .state ∙ s .state }
+  stays-twice p q r s u = record {
+    slot = record { first = u .slot .first ∙ s .slot .first; cls = u .slot .cls ∙ s .slot .cls; number = u .slot .number ∙ s .slot .number };
+    state = u .state ∙ s .state;
+  }
 
   -- ---- one slot changes, or one group's rows become free
 
@@ -100,7 +104,7 @@ module _ (row : ℕ) where
       kept us vs e l = (
         placed (p .before) (p .cls) us (q .state) vs (p .after),
         ap (λ s. p .before ++ (group (p .cls) s ∷ p .after)) e,
-        record { first = ap (rows row) (sym (t .before)); cls = sym (t .cls); number = l; state = refl },
+        record { slot = record { first = ap (rows row) (sym (t .before)); cls = sym (t .cls); number = l }; state = refl },
       )
 
       low : Before (p .lower) (p .state ∷ []) (p .upper) (q .lower) (q .state) (q .upper) → KeptIn (poolOf (become p x)) q
@@ -113,7 +117,7 @@ module _ (row : ℕ) where
           (omega (arith, ap length a, length-append (p .lower) (x ∷ R), length-append (p .lower) (p .state ∷ R)))
 
   -- any other slot of the pool
-  become-keeps : (p : Place) (x : Slot) (q : Place) → poolOf q ≡ poolOf p → (q ≡ p → ⊥) → KeptIn (poolOf (become p x)) q
+  pub become-keeps : (p : Place) (x : Slot) (q : Place) → poolOf q ≡ poolOf p → (q ≡ p → ⊥) → KeptIn (poolOf (become p x)) q
   become-keeps p x q e other =
       ⊎-elim (stays-before row (p .before) (groupOf p ∷ []) (groupOf (become p x) ∷ []) (p .after) refl q)
       (⊎-elim (beside-kept p x q) (stays-behind row (p .before) (groupOf p ∷ []) (groupOf (become p x) ∷ []) (p .after) refl q))
@@ -148,16 +152,26 @@ module _ (row : ℕ) where
   -- ---- calls
 
   module _ (pos : 0 < row) where
-    -- a live block at another start than the one that is released
-    pub release-keeps : (P : Pool) (o : ℕ) (q : Place) → poolOf q ≡ P → T (isLive (q .state)) → (start row q ≡ o → ⊥) → KeptIn (release row P o .pool) q
-    unfolding release releaseAt
-    release-keeps P o q e l other =
-        on-named row pos P (λ (r : Plan). KeptIn (r .pool) q) (λ _. as-it-is P q e) o (releaseAt row)
-        (λ p b.
-        let d : q ≡ p → ⊥ = λ z. other (ap (start row) z ∙ lookup-found row pos P o p (b .found) .2) in
-        choose-case (λ (r : Plan). KeptIn (r .pool) q) (any isLive (p .lower ++ p .upper)) _ _
-        (λ _. become-keeps p (vacant p) q (e ∙ sym (b .pool)) d)
-        (λ n. freed-keeps p q (e ∙ sym (b .pool)) d (every-not isLive (p .lower ++ p .upper) n) l))
+    -- a live block at another start than the one that is given back
+    given-back : (p q : Place) → poolOf q ≡ poolOf p → T (isLive (q .state)) → (start row q ≡ start row p → ⊥) → KeptIn (releaseAt row p .pool) q
+    unfolding releaseAt
+    given-back p q e l other =
+        let d : q ≡ p → ⊥ = λ z. other (ap (start row) z) in
+        choose-case (λ (r : Plan). KeptIn (r .pool) q) (any isLive (p .lower ++ p .upper)) _ _ (λ _. become-keeps p (vacant p) q e d)
+        (λ n. freed-keeps p q e d (every-not isLive (p .lower ++ p .upper) n) l)
+
+    pub discard-keeps : (P : Pool) (o q : Place) → poolOf q ≡ P → T (isLive (q .state)) → (start row q ≡ start row o → ⊥)
+        → KeptIn (discard row P o .pool) q
+    unfolding discard
+    discard-keeps P o q e l other =
+        on-block row pos (λ (r : Plan). KeptIn (r .pool) q) P (start row o) (releaseAt row) (as-it-is P q e) (as-it-is P q e)
+        (λ p f i _. given-back p q (e ∙ sym i) l (λ z. other (z ∙ lookup-found row pos P (start row o) p f .2)))
+
+    release-keeps : (P : Pool) (h : ℕ) (q : Place) → poolOf q ≡ P → T (isLive (q .state)) → (start row q ≡ startOf h → ⊥) → KeptIn (release row P h .pool) q
+    unfolding release
+    release-keeps P h q e l other =
+        on-named row pos P (λ (r : Plan). KeptIn (r .pool) q) (λ _. as-it-is P q e) h (releaseAt row)
+        (λ p b. given-back p q (e ∙ sym (b .pool)) l (λ z. other (z ∙ b .starts)))
 
     module _ (P : Pool) (w : T (wellFormed P)) (p : Place) (e : poolOf p ≡ P) (l : T (isLive (p .state))) where
       -- what is kept of a plan
@@ -170,18 +184,18 @@ module _ (row : ℕ) where
       move-keeps old q n other f =
           let (p′, a, s) = reserve-keeps row P (align (old .state)) n q w f p e l in
           let (p″, b, u) =
-          release-keeps (poolOf q) (start row old) p′ a (subst (λ x. T (isLive x)) (sym (s .state)) l) (λ z. other (sym (stays-start row p p′ s) ∙ z)) in
+          discard-keeps (poolOf q) old p′ a (subst (λ x. T (isLive x)) (sym (s .state)) l) (λ z. other (sym (stays-start row p p′ s) ∙ z)) in
           (p″, b, stays-twice p p′ p″ s u)
 
       -- in place another slot changes, else another block moves
-      resize-keeps : (o n : ℕ) → (start row p ≡ o → ⊥) → Keeps (resize row P o n)
+      resize-keeps : (h n : ℕ) → (start row p ≡ startOf h → ⊥) → Keeps (resize row P h n)
       unfolding resizeInPlace
-      resize-keeps o n other =
-          on-resize row pos P Keeps (λ _. as-it-is P p e) w o n (λ old b _. become-keeps old _ p (e ∙ sym (b .pool)) (λ z. apart-from old b (ap (start row) z)))
+      resize-keeps h n other =
+          on-resize row pos P Keeps (λ _. as-it-is P p e) w h n (λ old b _. become-keeps old _ p (e ∙ sym (b .pool)) (λ z. apart-from old b (ap (start row) z)))
           (λ _ _. as-it-is P p e) (λ old q b _ f. move-keeps old q n (apart-from old b) f)
         where
-          apart-from : (old : Place) → Named row P o old → start row p ≡ start row old → ⊥
-          apart-from old b z = other (z ∙ lookup-found row pos P o old (b .found) .2)
+          apart-from : (old : Place) → Named row P h old → start row p ≡ start row old → ⊥
+          apart-from old b z = other (z ∙ b .starts)
 
     -- grants, one after the other
     list-keeps : (P : Pool) (ns : List ℕ) (qs : List Place) → T (wellFormed P) → T (small ns) → reserveAll row P ns ≡ some qs → (p : Place) → poolOf p ≡ P
@@ -202,10 +216,10 @@ module _ (row : ℕ) where
         on-grant row pos P (Keeps P w p e l) (λ _. as-it-is P p e) ordinary n (lit≤ tt) (lit≤ tt) (λ q _ f. reserve-keeps row P ordinary n q w f p e l)
     plan-keeps P w p e l (grantsAligned n b) other =
         on-aligned row pos P (Keeps P w p e l) (λ _. as-it-is P p e) n b (λ q _ f. reserve-keeps row P (codeOf b) n q w f p e l)
-    plan-keeps P w p e l (releases o) other = release-keeps P o p e l (λ z. other (sym z))
-    plan-keeps P w p e l (resizes o n) other = resize-keeps P w p e l o n (λ z. other (sym z))
-    plan-keeps P w p e l (measures o) other =
-        on-named row pos P (Keeps P w p e l) (λ _. as-it-is P p e) o (measureAt row P) (λ _ _. as-it-is P p e)
+    plan-keeps P w p e l (releases h) other = release-keeps P h p e l (λ z. other (sym z))
+    plan-keeps P w p e l (resizes h n) other = resize-keeps P w p e l h n (λ z. other (sym z))
+    plan-keeps P w p e l (measures h) other =
+        on-named row pos P (Keeps P w p e l) (λ _. as-it-is P p e) h (measureAt row P) (λ _ _. as-it-is P p e)
     plan-keeps P w p e l reports other = as-it-is P p e
     plan-keeps P w p e l (grantsList total cap places ns) other =
         on-list row (Keeps P w p e l) P total cap places ns (λ _. as-it-is P p e) (λ qs h f. list-keeps P ns qs w h f p e l)
@@ -232,7 +246,7 @@ module _ (row : ℕ) (pos : 0 < row) (a : List ℕ) (t : KeptBytes) where
 
   -- a live block that an accepted call does not name, in the tables that it leaves
   stays : (c : Call) → Asks c → call row a t c .answer .number ≡ 0 → (o : ℕ) (p : Place) → LiveAt row (view row (t .tables)) o p → (Names c o → ⊥)
-      → (q : Place) × LiveAt row (view row (call row a t c .room .tables)) o q × (align (q .state) ≡ align (p .state))
+      → (q : Place) × LiveAt row (view row (call row a t c .room .tables)) o q × (handle row q ≡ handle row p) × (q .state ≡ p .state)
   stays c k z o p l other =
       let y : Accepted row pos a t c = accepted row pos a t c k z in
       let (q, e, s) =
@@ -240,12 +254,13 @@ module _ (row : ℕ) (pos : 0 < row) (a : List ℕ) (t : KeptBytes) where
       (subst (λ i. Names c i → ⊥) (sym (l .here .starts)) other) in (
         q,
         live-at row _ o q (e ∙ sym (accepted-pool c y)) (subst (λ x. T (isLive x)) (sym (s .state)) (l .live)) (stays-start row p q s ∙ l .here .starts),
-        ap align (s .state),
+        stays-handle row p q s,
+        s .state,
       )
 
 -- a set up names every block
-pub alignment-stays : (row : ℕ) → 0 < row → AlignmentStays row
-alignment-stays row pos a t c o p z l other =
+pub others-stay : (row : ℕ) → 0 < row → OthersStay row
+others-stay row pos a t c o p z l other =
     by-call (λ c. call row a t c .answer .number ≡ 0 → (Names c o → ⊥)
-    → (q : Place) × LiveAt row (view row (call row a t c .room .tables)) o q × (align (q .state) ≡ align (p .state)))
+    → (q : Place) × LiveAt row (view row (call row a t c .room .tables)) o q × (handle row q ≡ handle row p) × (q .state ≡ p .state))
     (λ _ other. absurd (other tt)) (λ c k z other. stays row pos a t c k z o p l other) c z other

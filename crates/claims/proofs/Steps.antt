@@ -1,5 +1,5 @@
 -- Every call keeps tables and arena in agreement, finds no damage, and leaves zeros where a block gains bytes.
-use Rattle.mem.proofs.Prelude.{_∙_, _≡_, sym, ap, refl, subst, some, List, [], _∷_, _++_, map, _+_, ℕ, _<_, _≤_, _*_, _-_, suc, zero, min, arith}
+use Rattle.mem.proofs.Prelude.{_∙_, _≡_, sym, ap, refl, subst, some, List, [], _∷_, _++_, map, _+_, ℕ, _<_, _≤_, _*_, _-_, _%_, suc, zero, min, arith}
 use Rattle.mem.proofs.Prelude.{T, leb, leb→le, lit≤, length, drop, getD, replicate}
 use native.Mathlib.Nat.{zero-mul}
 use lib.ListN.{length-take}
@@ -14,18 +14,20 @@ use Rattle.model.specs.declared.Slot.{Slot}
 use Rattle.model.specs.declared.Slot.the-variants.{Fresh, Idle, Live}
 use Rattle.model.specs.declared.Refusal.{Refusal}
 use Rattle.model.specs.declared.Damage.the-variants.{Intact}
-use Rattle.model.specs.State.{Pool, Place, group, isLive, disp, size, align, slotSound, wellFormed, poolOf, become, slotNumber, rows, base, start, owned}
+use Rattle.model.specs.State.{Pool, Place, group, isLive, disp, size, align, slotSound, wellFormed, startOf, poolOf, become, slotNumber, rows, base, start}
+use Rattle.model.specs.State.{owned, handle}
 use Rattle.model.specs.Blocks.{reserved, header, spare}
 use Rattle.model.specs.Answers.{done}
-use Rattle.model.specs.Plans.{Plan, refused, turnReady, refill, grantIn, reserve, enframe, vacant, releaseAt, release, inPlace, resizeInPlace, moveTo}
+use Rattle.model.specs.Plans.{Plan, refused, turnReady, refill, grantIn, reserve, enframe, vacant, releaseAt, release, discard, inPlace, resizeInPlace, moveTo}
 use Rattle.model.specs.Plans.{measureAt, measure, report, freshPool, Call, setsUp, grants, grantsAligned, releases, resizes, measures, reports, grantsList}
 use Rattle.model.specs.Plans.{plan, lookup, grantAt, reserveAll, poolAfter}
 use Rattle.model.proofs.Lists.{small, by-grants, on-list}
 use Rattle.model.specs.Calls.{write, written, damaged}
 use Rattle.model.proofs.Lookup.{Fits, fits, disp-inside}
 use Rattle.model.proofs.Reserve.{plain, Served, served, reserve-formed, refill-sound, reserve-size}
-use Rattle.model.proofs.Formed.{become-fits, vacant-sound}
+use Rattle.model.proofs.Formed.{on-block, become-fits, vacant-sound}
 use Rattle.claims.specs.Demand3.{sizeAt, Gains, Cleared}
+use Rattle.claims.proofs.Handles.{start-cleared}
 use Rattle.claims.proofs.Cases.{release-parts, Named, on-named, on-grant, on-aligned, on-resize, reserve-live, taken-same, refuses}
 use Rattle.claims.proofs.Gathers.{framed, list-clears}
 use Rattle.claims.proofs.Cells.{due, slotCells, slotsCells, pad, spanCells, cells, cells-append, cells-length, group-length, fresh-pool-cells, zeros-due}
@@ -109,15 +111,23 @@ module _ (row : ℕ) (pos : 0 < row) where
           (cells-append row (p .before) (group (p .cls) ss ∷ p .after)) (simp (cells-append, fresh-pool-cells))
           (cells-length row pos (p .before) (f .before)) (zeros-due n ∙ sym (group-length row pos (p .cls) ss (f .class) (f .slots) t)) (agrees-due (zeros n)) g
 
+  -- the old block of a move
+  discarded : (P : Pool) (o : Place) (a : List ℕ) → T (wellFormed P) → Agrees (cells row P) a
+      → Agrees (cells row (discard row P o .pool)) (written a (discard row P o .changes))
+  unfolding discard
+  discarded P o a w g =
+      on-block row pos (λ (r : Plan). Agrees (cells row (r .pool)) (written a (r .changes))) P (start row o) (releaseAt row) g g
+      (λ p e i l. released p a (fits p (subst (λ Q. T (wellFormed Q)) (sym i) w)) l (subst (λ Q. Agrees (cells row Q) a) (sym i) g))
+
   -- ---- what each write leaves where a block gains bytes
 
-  -- a release writes zeros only
-  release-zero : (P : Pool) (o : ℕ) (a : List ℕ) (j : ℕ) → getD a j 0 ≡ 0 → getD (written a (release row P o .changes)) j 0 ≡ 0
-  unfolding release releaseAt
-  release-zero P o a j e =
+  -- a block given back writes zeros only
+  discard-zero : (P : Pool) (o : Place) (a : List ℕ) (j : ℕ) → getD a j 0 ≡ 0 → getD (written a (discard row P o .changes)) j 0 ≡ 0
+  unfolding discard releaseAt
+  discard-zero P o a j e =
       let M : Plan → Type 0 = λ r. getD (written a (r .changes)) j 0 ≡ 0 in
-      on-named row pos P M (λ r. e) o (releaseAt row)
-      (λ p b. choose-case M (any isLive (p .lower ++ p .upper)) _ _ (λ t. zero-put (owned row p) (slotBytes (p .cls)) a j e)
+      on-block row pos M P (start row o) (releaseAt row) e e
+      (λ p _ _ _. choose-case M (any isLive (p .lower ++ p .upper)) _ _ (λ t. zero-put (owned row p) (slotBytes (p .cls)) a j e)
       (λ t. zero-put (base row p) (row * rowsOf row (p .cls)) a j e))
 
   -- ---- every call
@@ -138,38 +148,40 @@ module _ (row : ℕ) (pos : 0 < row) where
     refused-kept c r = record { agrees = g; whole = refl; cleared = λ z. absurd (refuses r z) }
 
     -- a live block of the pool
-    block-fits : (p : Place) (o : ℕ) → Named row P o p → Fits p
-    block-fits p o b = fits p (subst (λ Q. T (wellFormed Q)) (sym (b .pool)) w)
+    block-fits : (p : Place) (h : ℕ) → Named row P h p → Fits p
+    block-fits p h b = fits p (subst (λ Q. T (wellFormed Q)) (sym (b .pool)) w)
 
-    block-agrees : (p : Place) (o : ℕ) → Named row P o p → Agrees (cells row (poolOf p)) a
-    block-agrees p o b = subst (λ Q. Agrees (cells row Q) a) (sym (b .pool)) g
+    block-agrees : (p : Place) (h : ℕ) → Named row P h p → Agrees (cells row (poolOf p)) a
+    block-agrees p h b = subst (λ Q. Agrees (cells row Q) a) (sym (b .pool)) g
 
-    block-whole : (p : Place) (o : ℕ) → Named row P o p → damaged row a (some p) ≡ Intact
-    block-whole p o b = undamaged row pos p (block-fits p o b) a (b .live) (block-agrees p o b)
+    block-whole : (p : Place) (h : ℕ) → Named row P h p → damaged row a (some p) ≡ Intact
+    block-whole p h b = undamaged row pos p (block-fits p h b) a (b .live) (block-agrees p h b)
 
-    release-kept : (o : ℕ) → Kept P (releases o) a (release row P o)
+    release-kept : (h : ℕ) → Kept P (releases h) a (release row P h)
     unfolding release Cleared
-    release-kept o =
-        on-named row pos P (Kept P (releases o) a) (refused-kept (releases o)) o (releaseAt row)
+    release-kept h =
+        on-named row pos P (Kept P (releases h) a) (refused-kept (releases h)) h (releaseAt row)
         (λ p b. record {
-          agrees = released p a (block-fits p o b) (b .live) (block-agrees p o b);
-          whole = ap (damaged row a) (release-parts row p .0) ∙ block-whole p o b;
+          agrees = released p a (block-fits p h b) (b .live) (block-agrees p h b);
+          whole = ap (damaged row a) (release-parts row p .0) ∙ block-whole p h b;
           cleared = λ z i g. absurd g;
         })
 
-    in-place-kept : (p : Place) (o n : ℕ) → Named row P o p → T (inPlace p n) → Kept P (resizes o n) a (resizeInPlace row p n)
+    in-place-kept : (p : Place) (h n : ℕ) → Named row P h p → T (inPlace p n) → Kept P (resizes h n) a (resizeInPlace row p n)
     unfolding resizeInPlace inPlace Cleared
-    in-place-kept p o n b t =
-        let f : Fits p = block-fits p o b in
+    in-place-kept p h n b t =
+        let f : Fits p = block-fits p h b in
         let l : n ≤ slotBytes (p .cls) - 4 - 16 * disp (p .state) = leb→le _ _ (and-left (leb n (slotBytes (p .cls) - 4 - 16 * disp (p .state))) _ t) in
-        let e : sizeAt row (lookup row P o) ≡ size (p .state) = ap (sizeAt row) (b .found) in
+        let e : sizeAt row (lookup row P (startOf h)) ≡ size (p .state) = ap (sizeAt row) (b .found) in
+        let s : startOf (handle row p) ≡ start row p = ap startOf (b .present) ∙ sym (b .starts) in
         let k : ℕ = min (size (p .state)) n in
         let x : List ℕ = put (start row p - 4) (header (p .cls) (slotNumber p) (disp (p .state)) n) a in
         record {
-          agrees = resized row pos p f (b .live) a n (omega (arith, disp-inside (p .cls) (p .state) (f .class) (f .state))) (block-agrees p o b);
-          whole = block-whole p o b;
+          agrees = resized row pos p f (b .live) a n (omega (arith, disp-inside (p .cls) (p .state) (f .class) (f .state))) (block-agrees p h b);
+          whole = block-whole p h b;
           cleared = λ z i g.
-              zeros-put (start row p + k) [] (n - k) (spare (reserved (p .cls) (disp (p .state)) n)) x i (omega (arith, g .0)) (omega (arith, g .1));
+              let (from, to) = subst (λ j. (j + min (sizeAt row (lookup row P (startOf h))) n ≤ i) × (i < j + n)) s g in
+              zeros-put (start row p + k) [] (n - k) (spare (reserved (p .cls) (disp (p .state)) n)) x i (omega (arith, from)) (omega (arith, to));
         }
 
     pub arena-length : length a ≡ row * rows row P
@@ -178,38 +190,43 @@ module _ (row : ℕ) (pos : 0 < row) where
     pub set-up-zero : put 0 (zeros (row * rows row P)) a ≡ zeros (row * rows row P)
     set-up-zero = put-all (zeros (row * rows row P)) a (zeros-length (row * rows row P) ∙ sym arena-length)
 
-  module _ (P : Pool) (w : T (wellFormed P)) (a : List ℕ) (g : Agrees (cells row P) a) where
+  -- in an arena of whole units, where a handle tells the start
+  module _ (u : row % 16 ≡ 0) (P : Pool) (w : T (wellFormed P)) (a : List ℕ) (g : Agrees (cells row P) a) where
     -- "a grant of n is made while the old block is live, that many bytes are copied, then the old is released"
-    moved-kept : (p q : Place) (o n : ℕ) → Named row P o p → Askable (align (p .state)) n → reserve row P (align (p .state)) n ≡ some q
-        → Kept P (resizes o n) a (moveTo row P p n (some q))
+    moved-kept : (p q : Place) (h n : ℕ) → Named row P h p → Askable (align (p .state)) n → reserve row P (align (p .state)) n ≡ some q
+        → Kept P (resizes h n) a (moveTo row P p n (some q))
     unfolding Cleared
-    moved-kept p q o n b h r =
+    moved-kept p q h n b s r =
         let m : ℕ = align (p .state) in
         let k : ℕ = min (size (p .state)) n in
         let x : List ℕ = write a (enframe row q) in
         let bs : List ℕ = part (start row p) k x in
         let z : size (q .state) ≡ n = reserve-size row P m n q w r in
-        let e : sizeAt row (lookup row P o) ≡ size (p .state) = ap (sizeAt row) (b .found) in
+        let e : sizeAt row (lookup row P (startOf h)) ≡ size (p .state) = ap (sizeAt row) (b .found) in
         let j : length bs ≤ k = omega (arith, length-take k (drop (start row p) x)) in
-        let w′ : T (wellFormed (poolOf q)) = reserve-formed row P m n q w h r .formed in
+        let w′ : T (wellFormed (poolOf q)) = reserve-formed row P m n q w s r .formed in
         let y : Agrees (cells row (poolOf q)) (put (start row q) bs x) =
-        copied row pos q (fits q w′) (reserve-live row P m n q (served row P m n q w r)) x bs (omega arith) (reserve-agrees P m n q w h r a g) in
+        copied row pos q (fits q w′) (reserve-live row P m n q (served row P m n q w r)) x bs (omega arith) (reserve-agrees P m n q w s r a g) in
         record {
-          agrees = release-kept (poolOf q) w′ (put (start row q) bs x) y (start row p) .agrees;
-          whole = block-whole P w a g p o b;
+          agrees = discarded (poolOf q) p (put (start row q) bs x) w′ y;
+          whole = block-whole P w a g p h b;
           cleared = λ _ i g.
-              release-zero (poolOf q) (start row p) (put (start row q) bs x) i
-              (put-past (start row q) bs x i 0 (omega (arith, g .0)) ∙ framed row q a i (omega (arith, g .0)) (omega (arith, g .1)));
+              let (from, to) = subst (λ v. (v + min (sizeAt row (lookup row P (startOf h))) n ≤ i) × (i < v + n)) (start-cleared row u q) g in
+              discard-zero (poolOf q) p (put (start row q) bs x) i
+              (put-past (start row q) bs x i 0 (omega (arith, from)) ∙ framed row q a i (omega (arith, from)) (omega (arith, to)));
         }
 
     -- a call that grants a block, whose bytes it gains
     granted-kept : (c : Call) (k n : ℕ) (q : Place) → Askable k n → reserve row P k n ≡ some q
-        → ((i : ℕ) → Gains row P c (done (start row q ∷ [])) i → (start row q ≤ i) × (i < start row q + n)) → Kept P c a (grantAt row P (some q))
+        → ((i : ℕ) → Gains row P c (done (handle row q ∷ [])) i → (startOf (handle row q) ≤ i) × (i < startOf (handle row q) + n))
+        → Kept P c a (grantAt row P (some q))
     unfolding Cleared
     granted-kept c k n q h e gains = record {
       agrees = reserve-agrees P k n q w h e a g;
       whole = refl;
-      cleared = λ z i x. framed row q a i (gains i x .0) (omega (arith, gains i x .1, reserve-size row P k n q w e));
+      cleared = λ z i x.
+          let (from, to) = subst (λ v. (v ≤ i) × (i < v + n)) (start-cleared row u q) (gains i x) in
+          framed row q a i from (omega (arith, to, reserve-size row P k n q w e));
     }
 
     pub plan-kept : (c : Call) → Kept P c a (plan row P c)
@@ -225,15 +242,15 @@ module _ (row : ℕ) (pos : 0 < row) where
     plan-kept (grantsAligned n b) =
         on-aligned row pos P (Kept P (grantsAligned n b) a) (refused-kept P w a g (grantsAligned n b)) n b
         (λ q h e. granted-kept (grantsAligned n b) (codeOf b) n q h e (λ i x. x))
-    plan-kept (releases o) = release-kept P w a g o
-    plan-kept (resizes o n) =
-        on-resize row pos P (Kept P (resizes o n) a) (refused-kept P w a g (resizes o n)) w o n (λ p b t. in-place-kept P w a g p o n b t)
-        (λ p b. record { agrees = g; whole = block-whole P w a g p o b; cleared = λ z. absurd (omega arith) }) (λ p q b h e. moved-kept p q o n b h e)
-    plan-kept (measures o) =
-        on-named row pos P (Kept P (measures o) a) (refused-kept P w a g (measures o)) o (measureAt row P)
-        (λ p b. record { agrees = g; whole = block-whole P w a g p o b; cleared = λ z i g. absurd g })
+    plan-kept (releases h) = release-kept P w a g h
+    plan-kept (resizes h n) =
+        on-resize row pos P (Kept P (resizes h n) a) (refused-kept P w a g (resizes h n)) w h n (λ p b t. in-place-kept P w a g p h n b t)
+        (λ p b. record { agrees = g; whole = block-whole P w a g p h b; cleared = λ z. absurd (omega arith) }) (λ p q b s e. moved-kept p q h n b s e)
+    plan-kept (measures h) =
+        on-named row pos P (Kept P (measures h) a) (refused-kept P w a g (measures h)) h (measureAt row P)
+        (λ p b. record { agrees = g; whole = block-whole P w a g p h b; cleared = λ z i g. absurd g })
     plan-kept reports = record { agrees = g; whole = refl; cleared = λ z i g. absurd g }
     plan-kept (grantsList total cap places ns) =
         let c : Call = grantsList total cap places ns in
         on-list row (Kept P c a) P total cap places ns (refused-kept P w a g c)
-        (λ qs h e. record { agrees = list-agrees P ns qs w h e a g; whole = refl; cleared = λ z i x. list-clears row pos P ns qs w h e a i x })
+        (λ qs h e. record { agrees = list-agrees P ns qs w h e a g; whole = refl; cleared = λ z i x. list-clears row pos u P ns qs w h e a i x })

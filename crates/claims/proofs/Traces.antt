@@ -60,7 +60,7 @@ module _ (row : ℕ) (pos : 0 < row) (n : ℕ) (h : T (arenaRight row n)) where
         let p : Plan = plan row P c in
         let m : Formed row P (p .pool) = plan-formed row pos P c (r .formed) in
         let x : List ℕ = written a (p .changes) in
-        let g : Agrees (cells row (p .pool)) x = plan-kept row pos P (r .formed) a (r .agrees) c .agrees in
+        let g : Agrees (cells row (p .pool)) x = plan-kept row pos (whole-units row n h) P (r .formed) a (r .agrees) c .agrees in
         let l : length x ≡ n =
         arena-length row pos (p .pool) (m .formed) x g ∙ ap (λ k. row * k) (m .long) ∙ sym (arena-length row pos P (r .formed) a (r .agrees)) ∙ r .long in
         let e : call row a t c ≡ applied (engine row) a p =
@@ -76,9 +76,9 @@ module _ (row : ℕ) (pos : 0 < row) (n : ℕ) (h : T (arenaRight row n)) where
     acted : (x : Operation) → Lies row P x → Follows row n (performed row a t x) (steps row n P x)
     unfolding performed steps
     acted (grant k) s = call-follows-plan (grants k)
-    acted (release o) s = call-follows-plan (releases o)
-    acted (resize o k) s = call-follows-plan (resizes o k)
-    acted (measure o) s = call-follows-plan (measures o)
+    acted (release h) s = call-follows-plan (releases h)
+    acted (resize h k) s = call-follows-plan (resizes h k)
+    acted (measure h) s = call-follows-plan (measures h)
     acted (store o bs) s =
         let after : Holds row n P (put o bs a) t = record {
           formed = r .formed;
@@ -124,9 +124,9 @@ module _ (row n : ℕ) where
   -- what is so of records that are the same to the model is so of a record without its bytes beside the record
   on-blank {ℓ} : (M : Item → Item → Type ℓ) → ((x y : Operation) → Like x y → M (does x) (does y)) → M Item.bad Item.bad → (x : Item) → M (blank x) x
   on-blank M f b (does (grant k)) = f _ _ (itself (grant k))
-  on-blank M f b (does (release o)) = f _ _ (itself (release o))
-  on-blank M f b (does (resize o k)) = f _ _ (itself (resize o k))
-  on-blank M f b (does (measure o)) = f _ _ (itself (measure o))
+  on-blank M f b (does (release h)) = f _ _ (itself (release h))
+  on-blank M f b (does (resize h k)) = f _ _ (itself (resize h k))
+  on-blank M f b (does (measure h)) = f _ _ (itself (measure h))
   on-blank M f b (does (store o bs)) = f _ _ (store-like o (zeros (length bs)) bs (zeros-length (length bs)))
   on-blank M f b (does report) = f _ _ (itself report)
   on-blank M f b Item.bad = b

@@ -1,24 +1,24 @@
 -- Aligned blocks (02 §6): in sound tables every live block starts on a multiple of its alignment; a grant gives the alignment asked for
--- (`GrantedAligned`), every accepted resize keeps it, and no other call changes it.
+-- (`GrantedAligned`), every accepted resize keeps it, and no other call changes the block.
 use Prim.Native.Nat.{ℕ, _%_}
 use mathlib.Core.Path.{_≡_}
 use mathlib.Core.List.{List, [], _∷_}
 use lib.Dec.{T}
 use Rattle.classes.specs.Alignments.{alignOf}
-use Rattle.model.specs.State.{Place, align}
+use Rattle.model.specs.State.{Place, align, startOf, handle}
 use Rattle.model.specs.Plans.{Call, setsUp, grants, grantsAligned, releases, resizes, measures, reports, grantsList}
 use Rattle.model.specs.Tables.{view, sound}
 use Rattle.model.specs.Calls.{KeptBytes, call}
 use Rattle.claims.specs.Demand1.{LiveAt}
 
--- a call that ends the block at an offset, or changes it: a set up ends every block
+-- a call that ends the block at a start, or changes it: a set up ends every block
 abbrev pub Names : Call → ℕ → Type 0
 Names setsUp o = Unit {0}
 Names (grants n) o = ⊥
 Names (grantsAligned n b) o = ⊥
-Names (releases k) o = k ≡ o
-Names (resizes k n) o = k ≡ o
-Names (measures k) o = ⊥
+Names (releases h) o = startOf h ≡ o
+Names (resizes h n) o = startOf h ≡ o
+Names (measures h) o = ⊥
 Names reports o = ⊥
 Names (grantsList total cap places ns) o = ⊥
 
@@ -27,21 +27,21 @@ module _ (row : ℕ) where
   abbrev pub OnBoundaries : Type 0
   OnBoundaries = (n : ℕ) (t : List ℕ) (o : ℕ) (p : Place) → T (sound row n t) → LiveAt row (view row t) o p → o % alignOf (align (p .state)) ≡ 0
 
-  -- "Resize of an aligned block keeps the boundary": the block at the offset before it, and the one at its value after it
-  pub record KeepsBoundary (a : List ℕ) (t : KeptBytes) (o n : ℕ) : Type 0 where
+  -- "Resize of an aligned block keeps the boundary": the block of the handle before it, and the one of its value after it
+  pub record KeepsBoundary (a : List ℕ) (t : KeptBytes) (h n : ℕ) : Type 0 where
     pub old : Place
-    pub was : LiveAt row (view row (t .tables)) o old
+    pub was : LiveAt row (view row (t .tables)) (startOf h) old
     pub new : Place
-    pub start : ℕ
-    pub value : call row a t (resizes o n) .answer .values ≡ start ∷ []
-    pub is : LiveAt row (view row (call row a t (resizes o n) .room .tables)) start new
+    pub given : ℕ
+    pub value : call row a t (resizes h n) .answer .values ≡ given ∷ []
+    pub is : LiveAt row (view row (call row a t (resizes h n) .room .tables)) (startOf given) new
     pub same : align (new .state) ≡ align (old .state)
 
   abbrev pub ResizesKeepAlignment : Type 0
-  ResizesKeepAlignment = (a : List ℕ) (t : KeptBytes) (o n : ℕ) → call row a t (resizes o n) .answer .number ≡ 0 → KeepsBoundary a t o n
+  ResizesKeepAlignment = (a : List ℕ) (t : KeptBytes) (h n : ℕ) → call row a t (resizes h n) .answer .number ≡ 0 → KeepsBoundary a t h n
 
-  -- a block that a call does not name is where it was, with its alignment; a refused call changes nothing (demand 1)
-  abbrev pub AlignmentStays : Type 0
-  AlignmentStays = (a : List ℕ) (t : KeptBytes) (c : Call) (o : ℕ) (p : Place) → call row a t c .answer .number ≡ 0
+  -- a block that a call does not name is where it was, with its handle, size and alignment; a refused call changes nothing (demand 1)
+  abbrev pub OthersStay : Type 0
+  OthersStay = (a : List ℕ) (t : KeptBytes) (c : Call) (o : ℕ) (p : Place) → call row a t c .answer .number ≡ 0
       → LiveAt row (view row (t .tables)) o p → (Names c o → ⊥)
-      → (q : Place) × LiveAt row (view row (call row a t c .room .tables)) o q × (align (q .state) ≡ align (p .state))
+      → (q : Place) × LiveAt row (view row (call row a t c .room .tables)) o q × (handle row q ≡ handle row p) × (q .state ≡ p .state)

@@ -12,7 +12,7 @@ use Rattle.mem.specs.Bytes.{low, part}
 use Rattle.classes.specs.Classes.{slotBytes, classOf, rowsOf}
 use Rattle.classes.specs.Alignments.{alignOf}
 use Rattle.model.specs.declared.Slot.the-variants.{Idle, Live}
-use Rattle.model.specs.State.{Pool, Place, isLive, count, disp, size, align, poolOf, become, base, beginning, owned, start}
+use Rattle.model.specs.State.{Pool, Place, isLive, count, disp, size, align, startOf, poolOf, become, base, beginning, owned, start}
 use Rattle.model.specs.Blocks.{reserved, guard}
 use Rattle.model.specs.Answers.{done, listed}
 use Rattle.model.specs.Plans.{copies, Call, setsUp, grantsAligned, releases, resizes, measures, reports, freshPool, totals}
@@ -95,7 +95,7 @@ module _ (row : ℕ) where
 
   -- over any bytes, refused or not
   pub record ReadsOnly : Type 0 where
-    pub measured : (a : List ℕ) (t : KeptBytes) (o : ℕ) → Unchanged a t (measures o)
+    pub measured : (a : List ℕ) (t : KeptBytes) (h : ℕ) → Unchanged a t (measures h)
     pub reported : (a : List ℕ) (t : KeptBytes) → Unchanged a t reports
 
   -- "Report gives, in this order: live blocks, their requested bytes, rows held, rows free, ready slots, waiting slots"; 02 §4: "report reads
@@ -118,51 +118,52 @@ module _ (row : ℕ) where
     pub pool : view row (r .room .tables) ≡ p .before ++ (freshPool (rowsOf row (p .cls)) ++ p .after)
     pub bytes : ZeroedOnly a (r .arena) (base row p) (row * rowsOf row (p .cls))
 
-  pub record Released (a : List ℕ) (t : KeptBytes) (o : ℕ) (p : Place) : Type 0 where
-    pub block : Intact row a (view row (t .tables)) o p
-    pub value : call row a t (releases o) .answer .values ≡ 0 ∷ []
-    pub left : Waits a p (call row a t (releases o)) ⊎ Goes a p (call row a t (releases o))
+  pub record Released (a : List ℕ) (t : KeptBytes) (h : ℕ) (p : Place) : Type 0 where
+    pub block : Intact row a (view row (t .tables)) h p
+    pub value : call row a t (releases h) .answer .values ≡ 0 ∷ []
+    pub left : Waits a p (call row a t (releases h)) ⊎ Goes a p (call row a t (releases h))
 
   abbrev pub ReleasesAsSaid : Type 0
-  ReleasesAsSaid = (a : List ℕ) (t : KeptBytes) (o : ℕ) → call row a t (releases o) .answer .number ≡ 0 → (p : Place) × Released a t o p
+  ReleasesAsSaid = (a : List ℕ) (t : KeptBytes) (h : ℕ) → call row a t (releases h) .answer .number ≡ 0 → (p : Place) × Released a t h p
 
   -- RESIZE
 
-  pub record InPlace (a : List ℕ) (o n : ℕ) (p : Place) (r : Result) : Type 0 where
+  pub record InPlace (a : List ℕ) (h n : ℕ) (p : Place) (r : Result) : Type 0 where
     pub serves : Serves p n
-    pub value : r .answer .values ≡ o ∷ []
+    -- 02 §7: "Resize in place keeps the handle."
+    pub value : r .answer .values ≡ h ∷ []
     pub pool : view row (r .room .tables) ≡ poolOf (sized p n)
     pub long : length (r .arena) ≡ length a
     -- "the first bytes, as many as the lesser of old and new n, stay"
-    pub kept : (i : ℕ) → i < stay p n → getD (r .arena) (o + i) 0 ≡ getD a (o + i) 0
+    pub kept : (i : ℕ) → i < stay p n → getD (r .arena) (start row p + i) 0 ≡ getD a (start row p + i) 0
     -- "all from there to the end become zero", but the guard
-    pub zero : (i : ℕ) → o + stay p n ≤ i → i + length (guard (reserved (p .cls) (disp (p .state)) n)) < owned row p + slotBytes (p .cls)
+    pub zero : (i : ℕ) → start row p + stay p n ≤ i → i + length (guard (reserved (p .cls) (disp (p .state)) n)) < owned row p + slotBytes (p .cls)
         → getD (r .arena) i 0 ≡ 0
     -- "header and guard are written anew"
-    pub due : Intact row (r .arena) (view row (r .room .tables)) o (sized p n)
+    pub due : Intact row (r .arena) (view row (r .room .tables)) h (sized p n)
     -- no byte before the header or behind the block changes
-    pub others : (i : ℕ) → (i + 4 < o) ⊎ (owned row p + slotBytes (p .cls) ≤ i) → getD (r .arena) i 0 ≡ getD a i 0
+    pub others : (i : ℕ) → (i + 4 < start row p) ⊎ (owned row p + slotBytes (p .cls) ≤ i) → getD (r .arena) i 0 ≡ getD a i 0
 
   -- "Otherwise a grant of n is made while the old block is live, that many bytes are copied, then the old is released". 02 §6: "Resize of an
   -- aligned block keeps the boundary": the grant is one of the block's alignment, which for an ordinary block is a plain one. g is what it
-  -- leaves, v the new start, b the arena after the copy
-  pub record Moved (a : List ℕ) (o n : ℕ) (p : Place) (g : Result) (v : ℕ) (b : List ℕ) (r : Result) : Type 0 where
+  -- leaves, v the new handle, b the arena after the copy
+  pub record Moved (a : List ℕ) (h n : ℕ) (p : Place) (g : Result) (v : ℕ) (b : List ℕ) (r : Result) : Type 0 where
     pub serves-not : Serves p n → ⊥
     pub granted : g .answer .number ≡ 0
     pub answer : r .answer ≡ g .answer
-    pub released : call row b (g .room) (releases o) .answer .number ≡ 0
-    pub arena : r .arena ≡ call row b (g .room) (releases o) .arena
-    pub room : r .room ≡ call row b (g .room) (releases o) .room
+    pub released : call row b (g .room) (releases h) .answer .number ≡ 0
+    pub arena : r .arena ≡ call row b (g .room) (releases h) .arena
+    pub room : r .room ≡ call row b (g .room) (releases h) .room
     -- the block has the bytes that it had
-    pub kept : (i : ℕ) → i < stay p n → getD (r .arena) (v + i) 0 ≡ getD a (o + i) 0
+    pub kept : (i : ℕ) → i < stay p n → getD (r .arena) (startOf v + i) 0 ≡ getD a (start row p + i) 0
 
   abbrev pub MovedBy : List ℕ → ℕ → ℕ → Place → Result → Result → Type 0
-  MovedBy a o n p g r = let v = getD (g .answer .values) 0 0 in Moved a o n p g v (write (g .arena) (copies o v (stay p n))) r
+  MovedBy a h n p g r = let v = getD (g .answer .values) 0 0 in Moved a h n p g v (write (g .arena) (copies (start row p) (startOf v) (stay p n))) r
 
-  pub record Resized (a : List ℕ) (t : KeptBytes) (o n : ℕ) (p : Place) : Type 0 where
-    pub block : Intact row a (view row (t .tables)) o p
-    pub done : InPlace a o n p (call row a t (resizes o n)) ⊎ MovedBy a o n p (call row a t (grantsAligned n (alignOf (align (p .state)))))
-        (call row a t (resizes o n))
+  pub record Resized (a : List ℕ) (t : KeptBytes) (h n : ℕ) (p : Place) : Type 0 where
+    pub block : Intact row a (view row (t .tables)) h p
+    pub done : InPlace a h n p (call row a t (resizes h n)) ⊎ MovedBy a h n p (call row a t (grantsAligned n (alignOf (align (p .state)))))
+        (call row a t (resizes h n))
 
   abbrev pub ResizesAsSaid : Type 0
-  ResizesAsSaid = (a : List ℕ) (t : KeptBytes) (o n : ℕ) → call row a t (resizes o n) .answer .number ≡ 0 → (p : Place) × Resized a t o n p
+  ResizesAsSaid = (a : List ℕ) (t : KeptBytes) (h n : ℕ) → call row a t (resizes h n) .answer .number ≡ 0 → (p : Place) × Resized a t h n p

@@ -11,9 +11,9 @@ use lib.ListN.{length}
 use Rattle.classes.specs.Classes.{classOf, tooLarge}
 use Rattle.classes.specs.Alignments.{alignOf}
 use Rattle.model.specs.declared.Refusal.{Refusal}
-use Rattle.model.specs.declared.Refusal.the-variants.{BadArena, Unsound, TooLarge, NoSuchBlock, AlreadyFree, HeaderDamaged, Overrun, NoRoom, TooLong}
-use Rattle.model.specs.declared.Refusal.the-variants.{BadProposal, BadAlignment}
-use Rattle.model.specs.State.{Pool, Place, isLive, granted, disp, size, align, poolOf, slotNumber, start}
+use Rattle.model.specs.declared.Refusal.the-variants.{BadArena, Unsound, TooLarge, NoSuchBlock, AlreadyFree, Stale, HeaderDamaged, Overrun, NoRoom}
+use Rattle.model.specs.declared.Refusal.the-variants.{TooLong, BadProposal, BadAlignment}
+use Rattle.model.specs.State.{Pool, Place, isLive, granted, disp, size, align, startOf, poolOf, slotNumber, start, handle}
 use Rattle.model.specs.Blocks.{headerRight, guardRight, ownedBytes}
 use Rattle.model.specs.Answers.{numberOf}
 use Rattle.model.specs.Proposals.{entries, accepts}
@@ -22,27 +22,27 @@ use Rattle.model.specs.Tables.{view}
 use Rattle.model.specs.Calls.{KeptBytes, soundKept, call, setUpRight}
 
 -- "They are tested in this order, each where it applies: grant 2, 3, 8; release and measure 2, 4, 5, 6, 7; resize all of 2 to 8;
--- report 2." 02 §3: "Order: 2, 9, 17, 8." 02 §6: "answer 13, tested between 2 and 3"
+-- report 2." 02 §3: "Order: 2, 9, 17, 8." 02 §6: "answer 13, tested between 2 and 3". 02 §7: "Order: 2, 3, 4, 5, 10, 6, 7, 8"
 abbrev pub order : Call → List Refusal
 order setsUp = BadArena ∷ []
 order (grants n) = Unsound ∷ TooLarge ∷ NoRoom ∷ []
 order (grantsAligned n b) = Unsound ∷ BadAlignment ∷ TooLarge ∷ NoRoom ∷ []
-order (releases o) = Unsound ∷ NoSuchBlock ∷ AlreadyFree ∷ HeaderDamaged ∷ Overrun ∷ []
-order (resizes o n) = Unsound ∷ TooLarge ∷ NoSuchBlock ∷ AlreadyFree ∷ HeaderDamaged ∷ Overrun ∷ NoRoom ∷ []
-order (measures o) = Unsound ∷ NoSuchBlock ∷ AlreadyFree ∷ HeaderDamaged ∷ Overrun ∷ []
+order (releases h) = Unsound ∷ NoSuchBlock ∷ AlreadyFree ∷ Stale ∷ HeaderDamaged ∷ Overrun ∷ []
+order (resizes h n) = Unsound ∷ TooLarge ∷ NoSuchBlock ∷ AlreadyFree ∷ Stale ∷ HeaderDamaged ∷ Overrun ∷ NoRoom ∷ []
+order (measures h) = Unsound ∷ NoSuchBlock ∷ AlreadyFree ∷ Stale ∷ HeaderDamaged ∷ Overrun ∷ []
 order reports = Unsound ∷ []
 order (grantsList total cap places ns) = Unsound ∷ TooLong ∷ BadProposal ∷ NoRoom ∷ []
 
--- the offset that a call names
-abbrev pub offsetIn : Call → ℕ
-offsetIn setsUp = 0
-offsetIn (grants n) = 0
-offsetIn (grantsAligned n b) = 0
-offsetIn (releases o) = o
-offsetIn (resizes o n) = o
-offsetIn (measures o) = o
-offsetIn reports = 0
-offsetIn (grantsList total cap places ns) = 0
+-- the handle that a call names
+abbrev pub handleIn : Call → ℕ
+handleIn setsUp = 0
+handleIn (grants n) = 0
+handleIn (grantsAligned n b) = 0
+handleIn (releases h) = h
+handleIn (resizes h n) = h
+handleIn (measures h) = h
+handleIn reports = 0
+handleIn (grantsList total cap places ns) = 0
 
 -- k is the number of the first reason of a list that is due, or 0 if none is
 abbrev pub FirstDue : (Refusal → Type 0) → List Refusal → ℕ → Type 0
@@ -54,9 +54,9 @@ abbrev pub refusedValues : Call → List ℕ
 refusedValues setsUp = 0 ∷ []
 refusedValues (grants n) = 0 ∷ []
 refusedValues (grantsAligned n b) = 0 ∷ []
-refusedValues (releases o) = 0 ∷ []
-refusedValues (resizes o n) = 0 ∷ []
-refusedValues (measures o) = 0 ∷ []
+refusedValues (releases h) = 0 ∷ []
+refusedValues (resizes h n) = 0 ∷ []
+refusedValues (measures h) = 0 ∷ []
 refusedValues reports = 0 ∷ 0 ∷ 0 ∷ 0 ∷ 0 ∷ 0 ∷ []
 refusedValues (grantsList total cap places ns) = 0 ∷ []
 
@@ -73,9 +73,9 @@ abbrev pub OfList : ((total cap places : ℕ) → List ℕ → Type 0) → Call 
 OfList M setsUp = ⊥
 OfList M (grants n) = ⊥
 OfList M (grantsAligned n b) = ⊥
-OfList M (releases o) = ⊥
-OfList M (resizes o n) = ⊥
-OfList M (measures o) = ⊥
+OfList M (releases h) = ⊥
+OfList M (resizes h n) = ⊥
+OfList M (measures h) = ⊥
 OfList M reports = ⊥
 OfList M (grantsList total cap places ns) = M total cap places ns
 
@@ -88,9 +88,9 @@ abbrev pub OfAlignment : (ℕ → Type 0) → Call → Type 0
 OfAlignment M setsUp = ⊥
 OfAlignment M (grants n) = ⊥
 OfAlignment M (grantsAligned n b) = M b
-OfAlignment M (releases o) = ⊥
-OfAlignment M (resizes o n) = ⊥
-OfAlignment M (measures o) = ⊥
+OfAlignment M (releases h) = ⊥
+OfAlignment M (resizes h n) = ⊥
+OfAlignment M (measures h) = ⊥
 OfAlignment M reports = ⊥
 OfAlignment M (grantsList total cap places ns) = ⊥
 
@@ -127,14 +127,14 @@ module _ (row : ℕ) where
     pub no-place : NoPlace row (poolAfter P places) (classOf size)
 
   -- "too large: n is 131,052 or more". 02 §6: "an enlarged size of 131,052 or more is 3", which is n + align − 16, or n up to an alignment of
-  -- 16; "Resize .. : answer 3 reads the enlarged new size where the offset starts such a live block"
+  -- 16; "Resize .. : answer 3 reads the enlarged new size where the offset starts such a live block"; 02 §7: "by the start, whatever the bits"
   abbrev pub TooLargeFor : Pool → Call → Type 0
   TooLargeFor P setsUp = ⊥
   TooLargeFor P (grants n) = tooLarge ≤ n
   TooLargeFor P (grantsAligned n b) = tooLarge ≤ n + (b - 16)
-  TooLargeFor P (releases o) = ⊥
-  TooLargeFor P (resizes o n) = (tooLarge ≤ n) ⊎ ((p : Place) × LiveAt P o p × (tooLarge ≤ n + (alignOf (align (p .state)) - 16)))
-  TooLargeFor P (measures o) = ⊥
+  TooLargeFor P (releases h) = ⊥
+  TooLargeFor P (resizes h n) = (tooLarge ≤ n) ⊎ ((p : Place) × LiveAt P (startOf h) p × (tooLarge ≤ n + (alignOf (align (p .state)) - 16)))
+  TooLargeFor P (measures h) = ⊥
   TooLargeFor P reports = ⊥
   TooLargeFor P (grantsList total cap places ns) = ⊥
 
@@ -143,10 +143,10 @@ module _ (row : ℕ) where
   NoRoomFor P setsUp = ⊥
   NoRoomFor P (grants n) = NoPlace row P (classOf n)
   NoRoomFor P (grantsAligned n b) = NoPlace row P (classOf (n + (b - 16)))
-  NoRoomFor P (releases o) = ⊥
-  NoRoomFor P (resizes o n) =
-      (p : Place) × LiveAt P o p × T (not (inPlace p n)) × NoPlace row P (classOf (n + (alignOf (align (p .state)) - 16)))
-  NoRoomFor P (measures o) = ⊥
+  NoRoomFor P (releases h) = ⊥
+  NoRoomFor P (resizes h n) =
+      (p : Place) × LiveAt P (startOf h) p × T (not (inPlace p n)) × NoPlace row P (classOf (n + (alignOf (align (p .state)) - 16)))
+  NoRoomFor P (measures h) = ⊥
   NoRoomFor P reports = ⊥
   NoRoomFor P (grantsList total cap places ns) = Meets P ns
 
@@ -155,10 +155,12 @@ module _ (row : ℕ) where
   Due a t c BadArena = T (not (setUpRight row a t))
   Due a t c Unsound = T (not (soundKept row (length a) t))
   Due a t c TooLarge = TooLargeFor (view row (t .tables)) c
-  Due a t c NoSuchBlock = (p : Place) → StartsAt (view row (t .tables)) (offsetIn c) p → ⊥
-  Due a t c AlreadyFree = (p : Place) × StartsAt (view row (t .tables)) (offsetIn c) p × T (not (isLive (p .state)))
-  Due a t c HeaderDamaged = (p : Place) × LiveAt (view row (t .tables)) (offsetIn c) p × T (not (headerDue a p))
-  Due a t c Overrun = (p : Place) × LiveAt (view row (t .tables)) (offsetIn c) p × T (headerDue a p) × T (not (guardDue a p))
+  Due a t c NoSuchBlock = (p : Place) → StartsAt (view row (t .tables)) (startOf (handleIn c)) p → ⊥
+  Due a t c AlreadyFree = (p : Place) × StartsAt (view row (t .tables)) (startOf (handleIn c)) p × T (not (isLive (p .state)))
+  -- 02 §7: "Answer 10, stale, is given exactly if the start is live and the bits differ": the handle is not the block's present one
+  Due a t c Stale = (p : Place) × LiveAt (view row (t .tables)) (startOf (handleIn c)) p × (handle row p ≡ handleIn c → ⊥)
+  Due a t c HeaderDamaged = (p : Place) × LiveAt (view row (t .tables)) (startOf (handleIn c)) p × T (not (headerDue a p))
+  Due a t c Overrun = (p : Place) × LiveAt (view row (t .tables)) (startOf (handleIn c)) p × T (headerDue a p) × T (not (guardDue a p))
   Due a t c NoRoom = NoRoomFor (view row (t .tables)) c
   Due a t c TooLong = OfList (λ total cap places ns. TooLongList total cap places) c
   -- 02 §3: "Answer 17, bad proposal, exactly if the check refuses it."

@@ -1,7 +1,7 @@
 -- Demand 2: "Every call does what document 01 says after mallocng: class, slot, start, header, guard. With sound tables, release
--- accepts an offset exactly if it starts a live block whose header and guard are intact. A grant is refused exactly if the size is
--- 131,052 or more, the tables are unsound, or neither a free slot of its class nor a long enough run of free rows exists. Live blocks
--- never share a byte."
+-- accepts an offset exactly if it starts a live block whose header and guard are intact." (02 §7: "Demand 2's release takes the live block's
+-- present handle.") "A grant is refused exactly if the size is 131,052 or more, the tables are unsound, or neither a free slot of its class nor a
+-- long enough run of free rows exists. Live blocks never share a byte."
 use Prim.Native.Nat.{ℕ, _+_, _*_, _-_, _%_, _^_, _≤_, _<_, max}
 use mathlib.Core.Path.{_≡_}
 use mathlib.Core.Bool.{not}
@@ -15,7 +15,8 @@ use Rattle.classes.specs.Classes.{slotBytes, classOf, slotsOf, rowsOf, tooLarge
 use Rattle.classes.specs.Alignments.{ordinary, alignOf, codeOf}
 use Rattle.model.specs.declared.Slot.{Slot}
 use Rattle.model.specs.declared.Slot.the-variants.{Fresh}
-use Rattle.model.specs.State.{Pool, Place, group, isLive, isReady, disp, size, align, poolOf, slotNumber, rows, beginning, owned, start}
+use Rattle.model.specs.State.{Pool, Place, group, isLive, isReady, count, disp, size, align, startOf, poolOf, slotNumber, rows, beginning, owned, start}
+use Rattle.model.specs.State.{handle}
 use Rattle.model.specs.Blocks.{frame}
 use Rattle.model.specs.Plans.{Call, grants, grantsAligned, releases, measures, refill, grantSlot, freshPool, AllLive, NoPlace}
 use Rattle.model.specs.Tables.{sound, view}
@@ -23,22 +24,24 @@ use Rattle.model.specs.Calls.{KeptBytes, soundKept, call}
 use Rattle.claims.specs.Demand1.{NoAlignment, LiveAt, headerDue, guardDue}
 
 module _ (row : ℕ) where
-  -- a live block of a pool at an offset, whose 4 header bytes and guard bytes are those due
-  pub record Intact (a : List ℕ) (P : Pool) (o : ℕ) (p : Place) : Type 0 where
-    pub live : LiveAt row P o p
+  -- a live block of a pool by its present handle, whose 4 header bytes and guard bytes are those due
+  pub record Intact (a : List ℕ) (P : Pool) (h : ℕ) (p : Place) : Type 0 where
+    pub live : LiveAt row P (startOf h) p
+    pub present : handle row p ≡ h
     pub header : T (headerDue row a p)
     pub guard : T (guardDue row a p)
 
-  -- "With sound tables, release accepts an offset exactly if it starts a live block whose header and guard are intact."
+  -- "With sound tables, release accepts an offset exactly if it starts a live block whose header and guard are intact." 02 §7: "Demand 2's release
+  -- takes the live block's present handle."
   abbrev pub ReleasesExactly : Type 0
-  ReleasesExactly = (a : List ℕ) (t : KeptBytes) (o : ℕ) → T (soundKept row (length a) t)
-      → (call row a t (releases o) .answer .number ≡ 0) ↔ ((p : Place) × Intact a (view row (t .tables)) o p)
+  ReleasesExactly = (a : List ℕ) (t : KeptBytes) (h : ℕ) → T (soundKept row (length a) t)
+      → (call row a t (releases h) .answer .number ≡ 0) ↔ ((p : Place) × Intact a (view row (t .tables)) h p)
 
   -- measure likewise, and "Measure gives n."
   abbrev pub MeasuresExactly : Type 0
-  MeasuresExactly = (a : List ℕ) (t : KeptBytes) (o : ℕ) → T (soundKept row (length a) t)
-      → ((call row a t (measures o) .answer .number ≡ 0) ↔ ((p : Place) × Intact a (view row (t .tables)) o p))
-      × ((p : Place) → Intact a (view row (t .tables)) o p → call row a t (measures o) .answer .values ≡ size (p .state) ∷ [])
+  MeasuresExactly = (a : List ℕ) (t : KeptBytes) (h : ℕ) → T (soundKept row (length a) t)
+      → ((call row a t (measures h) .answer .number ≡ 0) ↔ ((p : Place) × Intact a (view row (t .tables)) h p))
+      × ((p : Place) → Intact a (view row (t .tables)) h p → call row a t (measures h) .answer .values ≡ size (p .state) ∷ [])
 
   -- "A grant is refused exactly if .."
   abbrev pub GrantsExactly : Type 0
@@ -75,11 +78,14 @@ module _ (row : ℕ) where
     pub refilled : refill slots ≡ p .lower ++ (old ∷ p .upper)
     pub ready : T (isReady old)
     pub lowest : T (every (λ x. not (isReady x)) (p .lower))
-    -- displacement and count, class, requested size, start
+    -- displacement and count, class, requested size, handle
     pub state : p .state ≡ grantSlot c code n (beginning row p) old
     pub cls : p .cls ≡ c
     pub bytes : size (p .state) ≡ n
-    pub value : call row a t asks .answer .values ≡ start row p ∷ []
+    pub value : call row a t asks .answer .values ≡ handle row p ∷ []
+    -- 02 §7: "the value from a grant now carries in its low four bits the slot's use count before that grant, modulo 16"
+    pub bits : handle row p ≡ start row p + count old % 16
+    pub cleared : startOf (handle row p) ≡ start row p
     -- the tables, and the slot's bytes with header and guard; "no other arena byte changes"
     pub pool : view row (call row a t asks .room .tables) ≡ poolOf p
     pub arena : call row a t asks .arena ≡ put (owned row p) (frame (p .cls) (slotNumber p) (disp (p .state)) n) a

@@ -10,7 +10,7 @@ use mathlib.Core.List.{List, [], _∷_, map}
 use lib.Dec.{T, leb, ltb}
 use lib.ListN.{length, getD, set}
 use Rattle.mem.specs.Lists.{any}
-use Rattle.model.specs.State.{Pool, Place, isLive, size, places, start}
+use Rattle.model.specs.State.{Pool, Place, isLive, size, startOf, places, start}
 use Rattle.model.specs.Answers.{Answer, done, listed}
 use Rattle.model.specs.Plans.{Call, setsUp, grants, grantsAligned, releases, resizes, measures, reports, grantsList}
 use Rattle.model.specs.Plans.{plan, lookup, totals, freshPool}
@@ -90,27 +90,27 @@ module _ (row : ℕ) where
       SameOutside P a (u .arena)
       × EngineOnly (plan row P (u .asks) .pool) (call row (u .arena) t (u .asks) .arena) (call row (u .arena) t (u .asks) .room) us
 
-  -- the bytes that a block gains in an accepted call that answers r: a moved block gains those past its old size, and of a list each entry is
-  -- a grant
+  -- the bytes that a block gains in an accepted call that answers r, from the start of the handle that it gives: a moved block gains those past
+  -- its old size, and of a list each entry is a grant
   abbrev pub sizeAt : Option Place → ℕ
   sizeAt none = 0
   sizeAt (some p) = size (p .state)
 
-  abbrev pub value : Answer → ℕ
-  value r = getD (r .values) 0 0
+  abbrev pub given : Answer → ℕ
+  given r = startOf (getD (r .values) 0 0)
 
   abbrev pub GainsEach : List ℕ → List ℕ → ℕ → Type 0
   GainsEach [] ns i = ⊥
   GainsEach (v ∷ vs) [] i = ⊥
-  GainsEach (v ∷ vs) (n ∷ ns) i = ((v ≤ i) × (i < v + n)) ⊎ GainsEach vs ns i
+  GainsEach (v ∷ vs) (n ∷ ns) i = ((startOf v ≤ i) × (i < startOf v + n)) ⊎ GainsEach vs ns i
 
   abbrev pub Gains : Pool → Call → Answer → ℕ → Type 0
   Gains P setsUp r i = ⊥
-  Gains P (grants n) r i = (value r ≤ i) × (i < value r + n)
-  Gains P (grantsAligned n b) r i = (value r ≤ i) × (i < value r + n)
-  Gains P (releases o) r i = ⊥
-  Gains P (resizes o n) r i = (value r + min (sizeAt (lookup row P o)) n ≤ i) × (i < value r + n)
-  Gains P (measures o) r i = ⊥
+  Gains P (grants n) r i = (given r ≤ i) × (i < given r + n)
+  Gains P (grantsAligned n b) r i = (given r ≤ i) × (i < given r + n)
+  Gains P (releases h) r i = ⊥
+  Gains P (resizes h n) r i = (given r + min (sizeAt (lookup row P (startOf h))) n ≤ i) × (i < given r + n)
+  Gains P (measures h) r i = ⊥
   Gains P reports r i = ⊥
   Gains P (grantsList total cap places ns) r i = GainsEach (r .lent) ns i
 

@@ -14,7 +14,8 @@ use Rattle.claims.specs.Demand2.{ReleasesExactly, MeasuresExactly, Grant
 use Rattle.claims.specs.Demand2.{NeverShared}
 use Rattle.claims.specs.Demand2.{LeavesSound}
 use Rattle.claims.specs.AsSaid.{ServesOrdinary, NeverAtZero, GuardsAsSaid, SetsUpAsSaid, ReadsOnly, ReportsAsSaid, ReleasesAsSaid, ResizesAsSaid}
-use Rattle.claims.specs.Alignment.{OnBoundaries, ResizesKeepAlignment, AlignmentStays}
+use Rattle.claims.specs.Alignment.{OnBoundaries, ResizesKeepAlignment, OthersStay}
+use Rattle.claims.specs.Stale.{StartsCleared, CountsStep, StaleRefused}
 use Rattle.claims.specs.Demand3.{RoomFollows, SteersNothing, StoresAdmitted}
 use Rattle.claims.specs.Lists.{PlansAsSaid, ListsAsGrants, ListsExactly}
 use Rattle.claims.specs.History.{History}
@@ -45,10 +46,14 @@ pub record Demands (row : ℕ) : Type 0 where
   pub plans-as-said : PlansAsSaid
   pub lists-as-grants : ListsAsGrants row
   pub lists-exactly : ListsExactly row
-  -- aligned blocks are on their boundaries, and calls keep alignments
+  -- aligned blocks are on their boundaries, calls keep alignments, and leave the blocks that they do not name
   pub on-boundaries : OnBoundaries row
   pub resizes-keep-alignment : ResizesKeepAlignment row
-  pub alignment-stays : AlignmentStays row
+  pub others-stay : OthersStay row
+  -- old handles are refused, while their group stays and their slot was granted again fewer than sixteen times
+  pub starts-cleared : StartsCleared row
+  pub counts-step : CountsStep row
+  pub stale-refused : StaleRefused row
   -- 3: packet contents steer nothing
   pub steers-nothing : SteersNothing row
   pub stores-admitted : StoresAdmitted row

@@ -17,9 +17,9 @@ pub record Asked : Type 0 where
   pub arena : List ℕ
   pub asks : Call
 
--- a block granted and not released: its start and its latest size
+-- a block granted and not released: its handle and its latest size
 pub record Entry : Type 0 where
-  pub start : ℕ
+  pub handle : ℕ
   pub size : ℕ
 
 -- what the calls since the last set up that was done have come to: accepted grants and releases, and the blocks
@@ -31,14 +31,14 @@ pub record Ledger : Type 0 where
 abbrev pub opening : Ledger
 opening = record { granted = 0; released = 0; blocks = [] }
 
--- the blocks without the one that starts at an offset
+-- the blocks without the one of a handle
 abbrev pub without : ℕ → List Entry → List Entry
-without o [] = []
-without o (e ∷ es) = let rest : List Entry = e ∷ without o es in choose (eqb (e .start) o) es rest
+without h [] = []
+without h (e ∷ es) = let rest : List Entry = e ∷ without h es in choose (eqb (e .handle) h) es rest
 
 -- the ledger with one accepted grant more
-abbrev pub enteredGrant : Ledger → (start n : ℕ) → Ledger
-enteredGrant l v n = record { granted = suc (l .granted); released = l .released; blocks = record { start = v; size = n } ∷ l .blocks }
+abbrev pub enteredGrant : Ledger → (handle n : ℕ) → Ledger
+enteredGrant l v n = record { granted = suc (l .granted); released = l .released; blocks = record { handle = v; size = n } ∷ l .blocks }
 
 -- 02 §3: "in 01's history each entry is a grant"
 abbrev pub enteredEach : Ledger → List ℕ → List ℕ → Ledger
@@ -51,10 +51,10 @@ abbrev pub entered : Ledger → Call → Answer → Ledger
 entered l setsUp r = opening
 entered l (grants n) r = enteredGrant l (getD (r .values) 0 0) n
 entered l (grantsAligned n b) r = enteredGrant l (getD (r .values) 0 0) n
-entered l (releases o) r = record { granted = l .granted; released = suc (l .released); blocks = without o (l .blocks) }
-entered l (resizes o n) r =
-    record { granted = l .granted; released = l .released; blocks = record { start = getD (r .values) 0 0; size = n } ∷ without o (l .blocks) }
-entered l (measures o) r = l
+entered l (releases h) r = record { granted = l .granted; released = suc (l .released); blocks = without h (l .blocks) }
+entered l (resizes h n) r =
+    record { granted = l .granted; released = l .released; blocks = record { handle = getD (r .values) 0 0; size = n } ∷ without h (l .blocks) }
+entered l (measures h) r = l
 entered l reports r = l
 entered l (grantsList total cap places ns) r = enteredEach l (r .lent) ns
 

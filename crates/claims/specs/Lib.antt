@@ -10,4 +10,5 @@ pub mod History
 pub mod Record
 pub mod Alike
 pub mod Traces
+pub mod Stale
 pub mod Demands

@@ -36,10 +36,10 @@ module _ (row : ℕ) where
       record { answers = r .answer ∷ g .answers; arena = g .arena; room = g .room }
 
   -- "grants its sizes in order, writes the starts to the front of a lent list .. and gives the number of entries": a list that is done
-  -- leaves what the grants leave, and its starts are theirs
+  -- leaves what the grants leave, and its handles are theirs
   pub record AsGrants (ns : List ℕ) (r : Result) (g : Ended) : Type 0 where
     pub entries : r .answer .values ≡ length ns ∷ []
-    pub starts : g .answers ≡ map (λ s. done (s ∷ [])) (r .answer .lent)
+    pub handles : g .answers ≡ map (λ h. done (h ∷ [])) (r .answer .lent)
     pub arena : r .arena ≡ g .arena
     pub room : r .room ≡ g .room
 

@@ -20,9 +20,9 @@ use Rattle.claims.specs.Demand3.{fed, requested}
 -- a record without the bytes that it stores: as many zeros stand for them
 abbrev pub blank : Item → Item
 blank (does (grant n)) = does (grant n)
-blank (does (release o)) = does (release o)
-blank (does (resize o n)) = does (resize o n)
-blank (does (measure o)) = does (measure o)
+blank (does (release h)) = does (release h)
+blank (does (resize h n)) = does (resize h n)
+blank (does (measure h)) = does (measure h)
 blank (does (store o bs)) = does (store o (zeros (length bs)))
 blank (does report) = does report
 blank Item.bad = Item.bad
@@ -44,9 +44,9 @@ module _ (row : ℕ) where
   -- in an arena of n bytes; of the bytes that are stored it is told how many they are
   unfoldable pub steps : ℕ → Pool → Operation → Stepped
   steps n P (grant k) = stepped (plan row P (grants k))
-  steps n P (release o) = stepped (plan row P (releases o))
-  steps n P (resize o k) = stepped (plan row P (resizes o k))
-  steps n P (measure o) = stepped (plan row P (measures o))
+  steps n P (release h) = stepped (plan row P (releases h))
+  steps n P (resize h k) = stepped (plan row P (resizes h k))
+  steps n P (measure h) = stepped (plan row P (measures h))
   steps n P (store o bs) =
       choose (leb (o + length bs) n) (record { tells = some (done (0 ∷ [])); pool = P }) (record { tells = none; pool = P })
   steps n P report = stepped (plan row P reports)
@@ -60,9 +60,9 @@ module _ (row : ℕ) where
   -- the bytes of a store are requested bytes of live blocks
   abbrev pub Lies : Pool → Operation → Type 0
   Lies P (grant k) = Unit {0}
-  Lies P (release o) = Unit {0}
-  Lies P (resize o k) = Unit {0}
-  Lies P (measure o) = Unit {0}
+  Lies P (release h) = Unit {0}
+  Lies P (resize h k) = Unit {0}
+  Lies P (measure h) = Unit {0}
   Lies P (store o bs) = (i : ℕ) → o ≤ i → i < o + length bs → T (requested row P i)
   Lies P report = Unit {0}
 

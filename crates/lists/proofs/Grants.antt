@@ -8,7 +8,7 @@ use Rattle.mem.proofs.Laws.{put-nil, put-cons}
 use Rattle.classes.specs.Classes.{classOf, tooLarge}
 use Rattle.classes.specs.Alignments.{ordinary}
 use Rattle.model.specs.declared.Totals.{Totals}
-use Rattle.model.specs.State.{Pool, Place, group, poolOf, start}
+use Rattle.model.specs.State.{Pool, Place, group, poolOf, handle}
 use Rattle.model.specs.Blocks.{frame}
 use Rattle.model.specs.Plans.{openFrom, reserve, enframe, placed, placedBy, reserveAll, poolAfter, totals}
 use Rattle.model.specs.Tables.{byMasks, encode, view}
@@ -18,20 +18,20 @@ use Rattle.model.proofs.Reserve.{plain, reserve-formed}
 use Rattle.model.proofs.Lowest.{pass-shut, grant-shut}
 use Rattle.model.proofs.Lists.{small, small-at, all-placed, next-placed}
 use Rattle.rows.specs.declared.Block.{Block}
-use Rattle.rows.specs.Rows.{Lent, ownedAt, startAt}
+use Rattle.rows.specs.Rows.{Lent, ownedAt, handleAt}
 use Rattle.rows.proofs.Rooms.{facts}
 use Rattle.search.specs.Found.{Passed}
 use Rattle.search.proofs.Steps.{open-start}
 use Rattle.ops.specs.declared.Reserved.the-variants.{Taken}
 use Rattle.ops.specs.Blocks.{Standing, reservedAs, roomAfter}
 use Rattle.ops.proofs.Moves.{reserve-leaves, reserved-place}
-use Rattle.lists.specs.Grants.{granted, startOr, firstOr, totalsOr, arenaAfter}
+use Rattle.lists.specs.Grants.{granted, handleOr, firstOr, totalsOr, arenaAfter}
 
 -- one grant
 module _ {row len : ℕ} {t : List ℕ} (r : Lent byMasks row len t) (n : ℕ) (h : n < tooLarge) where
   pub record GrantedOne (a : List ℕ) (s : Totals) (b : Block) (z : Totals) : Type 0 where
     pub stands : Standing row len b
-    pub start : startAt row b ≡ startOr row (reserve row (view row t) ordinary n)
+    pub handed : handleAt row b ≡ handleOr row (reserve row (view row t) ordinary n)
     pub first : b .first ≡ firstOr row (reserve row (view row t) ordinary n)
     pub counts : z ≡ totalsOr row s (reserve row (view row t) ordinary n)
     pub arena : put (ownedAt row b) (frame (b .class) (b .slot) (b .alloc .disp) (b .alloc .size)) a ≡ arenaAfter row a (reserve row (view row t) ordinary n)
@@ -42,7 +42,7 @@ module _ {row len : ℕ} {t : List ℕ} (r : Lent byMasks row len t) (n : ℕ) (
       let (q, f, k, y) = reserved-place row (reserve row (view row t) ordinary n) b z e in
       subst (λ b. GrantedOne a s b z) k (record {
         stands = reserve-leaves r ordinary n (plain h) q f .stands;
-        start = sym (ap (startOr row) f);
+        handed = sym (ap (handleOr row) f);
         first = sym (ap (firstOr row) f);
         counts = sym y ∙ sym (ap (totalsOr row s) f);
         arena = sym (ap (arenaAfter row a) f);
@@ -65,7 +65,7 @@ module _ (row : ℕ) (ns A : List ℕ) (Q : Pool) (L : List ℕ) where
     pub fits : isSome (reserveAll row (view row t) (drop i ns)) ≡ true
     pub arena : written a (map (enframe row) (granted (reserveAll row (view row t) (drop i ns)))) ≡ A
     pub pool : poolAfter (view row t) (granted (reserveAll row (view row t) (drop i ns))) ≡ Q
-    pub list : put i (map (start row) (granted (reserveAll row (view row t) (drop i ns)))) l ≡ L
+    pub list : put i (map (handle row) (granted (reserveAll row (view row t) (drop i ns)))) l ≡ L
 
   -- nothing is left
   pub all-done : (i : ℕ) (a t l : List ℕ) → length ns ≤ i → ToGo i a t l → (a ≡ A) × (t ≡ encode row Q) × (l ≡ L) × (view row t ≡ Q)
@@ -74,13 +74,13 @@ module _ (row : ℕ) (ns A : List ℕ) (Q : Pool) (L : List ℕ) where
       let v : view row t ≡ Q = sym (ap (λ o. poolAfter (view row t) (granted o)) e) ∙ g .pool in (
         sym (ap (λ o. written a (map (enframe row) (granted o))) e) ∙ g .arena,
         facts (g .lent) .form ∙ ap (encode row) v,
-        sym (put-nil i l) ∙ sym (ap (λ o. put i (map (start row) (granted o)) l) e) ∙ g .list,
+        sym (put-nil i l) ∙ sym (ap (λ o. put i (map (handle row) (granted o)) l) e) ∙ g .list,
         v,
       )
 
   -- one grant further; the search for its class goes on where its group is
   pub one-further : small ns ≡ true → (i : ℕ) (a t l : List ℕ) → i < length ns → ToGo i a t l → (b u : List ℕ) (k : ℕ)
-      → k ≡ startOr row (reserve row (view row t) ordinary (getD ns i 0)) → b ≡ arenaAfter row a (reserve row (view row t) ordinary (getD ns i 0))
+      → k ≡ handleOr row (reserve row (view row t) ordinary (getD ns i 0)) → b ≡ arenaAfter row a (reserve row (view row t) ordinary (getD ns i 0))
       → u ≡ roomAfter row t (reserve row (view row t) ordinary (getD ns i 0)) → length b ≡ length a
       → (f : ℕ) → f ≡ firstOr row (reserve row (view row t) ordinary (getD ns i 0))
       → (y z : Totals) → z ≡ totalsOr row y (reserve row (view row t) ordinary (getD ns i 0))
@@ -120,9 +120,9 @@ module _ (row : ℕ) (ns A : List ℕ) (Q : Pool) (L : List ℕ) where
               pool = rw says (sym (ap (λ z. poolAfter (view row t) z) (m .0)) ∙ g .pool);
               list =
                   rw says
-                  (ap (λ z. put z (map (start row) qs) (set l i k)) (add-one i)
-                  ∙ ap (λ z. put (suc i) (map (start row) qs) (set l i z)) (ek ∙ ap (startOr row) r)
-                  ∙ sym (put-cons i (start row q) (map (start row) qs) l) ∙ sym (ap (λ z. put i (map (start row) z) l) (m .0)) ∙ g .list);
+                  (ap (λ z. put z (map (handle row) qs) (set l i k)) (add-one i)
+                  ∙ ap (λ z. put (suc i) (map (handle row) qs) (set l i z)) (ek ∙ ap (handleOr row) r)
+                  ∙ sym (put-cons i (handle row q) (map (handle row) qs) l) ∙ sym (ap (λ z. put i (map (handle row) z) l) (m .0)) ∙ g .list);
             },
             record {
               before = q .before;

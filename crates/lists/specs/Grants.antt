@@ -3,7 +3,7 @@ use Prim.Native.Nat.{ℕ}
 use mathlib.Core.Option.{Option, none, some}
 use mathlib.Core.List.{List, []}
 use Rattle.model.specs.declared.Totals.{Totals}
-use Rattle.model.specs.State.{Place, poolOf, start, rows}
+use Rattle.model.specs.State.{Place, poolOf, rows, handle}
 use Rattle.model.specs.Plans.{enframe, totals}
 use Rattle.model.specs.Calls.{write}
 
@@ -13,10 +13,10 @@ granted none = []
 granted (some qs) = qs
 
 module _ (row : ℕ) where
-  -- one grant: its start, its group's first row, the totals and the arena after it
-  abbrev pub startOr : Option Place → ℕ
-  startOr none = 0
-  startOr (some q) = start row q
+  -- one grant: its handle, its group's first row, the totals and the arena after it
+  abbrev pub handleOr : Option Place → ℕ
+  handleOr none = 0
+  handleOr (some q) = handle row q
 
   abbrev pub firstOr : Option Place → ℕ
   firstOr none = 0

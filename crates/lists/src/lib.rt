@@ -9,20 +9,20 @@ ghost use Rattle.mem.specs.Lists.{choose, every, isSome};
 ghost use Rattle.mem.specs.Bytes.{put};
 ghost use Rattle.classes.specs.Classes.{Lawful, classOf, tooLarge};
 ghost use Rattle.classes.specs.Alignments.{ordinary};
-ghost use Rattle.model.specs.State.{start};
+ghost use Rattle.model.specs.State.{handle};
 ghost use Rattle.model.specs.Plans.{reserve, enframe, reserveAll, poolAfter, totals};
 ghost use Rattle.model.specs.Tables.{sound, view, encode};
 ghost use Rattle.model.specs.Calls.{written};
 ghost use Rattle.search.specs.Found.{Passed};
 ghost use Rattle.ops.specs.Blocks.{roomAfter};
-ghost use Rattle.lists.specs.Grants.{granted, startOr, firstOr, totalsOr, arenaAfter};
+ghost use Rattle.lists.specs.Grants.{granted, handleOr, firstOr, totalsOr, arenaAfter};
 use classes::Sized;
 use model::Totals;
 use ops::Reserved;
 
-// Where a granted block is: its start, and the first row of its group; and the totals with it.
+// Where a granted block is: its handle, and the first row of its group; and the totals with it.
 pub struct Placed {
-    pub start: usize,
+    pub handle: usize,
     pub first: usize,
     pub totals: Totals,
 }
@@ -40,7 +40,7 @@ fn grant_one(
     requires { ⌜ (s .size < tooLarge) × (s .class ≡ classOf (s .size)) × (s .class < 48) × Passed row (now room) (s .class) from
         × (t ≡ totals row (view row (now room))) ⌝ }
     requires { ⌜ Lawful row ⌝ }
-    ensures { λ r. ⌜ (r .start ≡ startOr row (reserve row (view row (now (room .entry))) ordinary (s .size)))
+    ensures { λ r. ⌜ (r .handle ≡ handleOr row (reserve row (view row (now (room .entry))) ordinary (s .size)))
         × (r .first ≡ firstOr row (reserve row (view row (now (room .entry))) ordinary (s .size)))
         × (r .totals ≡ totalsOr row t (reserve row (view row (now (room .entry))) ordinary (s .size))) ⌝ }
     ensures { λ r. ⌜ now (arena .exit) ≡ arenaAfter row (now (arena .entry)) (reserve row (view row (now (room .entry))) ordinary (s .size)) ⌝ }
@@ -57,14 +57,14 @@ fn grant_one(
         from,
     ) else {
         return Placed {
-            start: 0,
+            handle: 0,
             first: 0,
             totals: t,
         };
     };
-    let start = ops::lay_out(row, arena, b);
+    let handle = ops::lay_out(row, arena, b);
     Placed {
-        start: start,
+        handle: handle,
         first: b.first,
         totals: taken,
     }
@@ -77,25 +77,25 @@ fn begin(c: usize, last: usize, from: usize) -> usize
     if c == last { from } else { 0 }
 }
 
-// Grants sizes that fit, and writes the starts to the front of a list. Gives the totals after them.
+// Grants sizes that fit, and writes the handles to the front of a list. Gives the totals after them.
 pub fn grant_all(
     row: usize,
     arena: &mut [u8],
     room: &mut [u8],
     t: Totals,
     sizes: &[usize],
-    starts: &mut [usize],
+    handles: &mut [usize],
 ) -> Totals
     requires { ⌜ sound row (length (now arena)) (now room) ≡ true ⌝ }
-    requires { ⌜ (every (λ n. ltb n tooLarge) (now sizes) ≡ true) × (length (now sizes) ≤ length (now starts)) ⌝ }
+    requires { ⌜ (every (λ n. ltb n tooLarge) (now sizes) ≡ true) × (length (now sizes) ≤ length (now handles)) ⌝ }
     requires { ⌜ (isSome (reserveAll row (view row (now room)) (now sizes)) ≡ true) × (t ≡ totals row (view row (now room))) ⌝ }
     requires { ⌜ Lawful row ⌝ }
     ensures { λ _. ⌜ now (arena .exit)
         ≡ written (now (arena .entry)) (map (enframe row) (granted (reserveAll row (view row (now (room .entry))) (now (sizes .entry))))) ⌝ }
     ensures { λ _. ⌜ now (room .exit)
         ≡ encode row (poolAfter (view row (now (room .entry))) (granted (reserveAll row (view row (now (room .entry))) (now (sizes .entry))))) ⌝ }
-    ensures { λ _. ⌜ now (starts .exit)
-        ≡ put 0 (map (start row) (granted (reserveAll row (view row (now (room .entry))) (now (sizes .entry))))) (now (starts .entry)) ⌝ }
+    ensures { λ _. ⌜ now (handles .exit)
+        ≡ put 0 (map (handle row) (granted (reserveAll row (view row (now (room .entry))) (now (sizes .entry))))) (now (handles .entry)) ⌝ }
     ensures { λ r. ⌜ r
         ≡ totals row (poolAfter (view row (now (room .entry))) (granted (reserveAll row (view row (now (room .entry))) (now (sizes .entry))))) ⌝ }
 {
@@ -106,7 +106,7 @@ pub fn grant_all(
     while i < sizes.len() {
         let s = classes::with_class(sizes[i], last);
         let p = grant_one(row, arena, room, kept, s, begin(s.class, last.class, from));
-        starts[i] = p.start;
+        handles[i] = p.handle;
         from = p.first;
         kept = p.totals;
         last = s;

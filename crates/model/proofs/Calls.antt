@@ -1,13 +1,13 @@
 -- What a call is, case by case: unsound tables, a refusal, a grant, a block that is named.
-use Rattle.mem.proofs.Prelude.{_∙_, _≡_, ap, refl, Bool, true, false, Option, some, none, List, [], ℕ, T, length}
+use Rattle.mem.proofs.Prelude.{_∙_, _≡_, ap, refl, Bool, true, false, Option, some, none, List, [], ℕ, _%_, T, eqb, length}
 use Rattle.mem.proofs.Tests.{choose-true, choose-false, choose-case, T-true}
 use Rattle.model.specs.declared.Refusal.{Refusal}
 use Rattle.model.specs.declared.Damage.{Damage}
 use Rattle.model.specs.declared.Damage.the-variants.{Intact, Damaged}
-use Rattle.model.specs.State.{Pool, Place, isLive}
+use Rattle.model.specs.State.{Pool, Place, isLive, count, useBits, startOf}
 use Rattle.model.specs.Answers.{refusal}
 use Rattle.model.specs.Plans.{Plan, Call, setsUp, grants, grantsAligned, releases, resizes, measures, reports, grantsList}
-use Rattle.model.specs.Plans.{plan, onBlock, lookup, measureAt}
+use Rattle.model.specs.Plans.{plan, onBlock, byHandle, onHandle, lookup, measureAt}
 use Rattle.model.specs.Plans.{measure, report}
 use Rattle.model.specs.Tables.{view}
 use Rattle.model.specs.Calls.{KeptBytes, Result, engine, soundKept, call, checked, carried, applied, damaged, keeps, unsound, callBy, carriedBy}
@@ -60,7 +60,7 @@ module _ (row : ℕ) (a : List ℕ) (t : KeptBytes) (p : Plan) where
   unfolding carriedBy unless
   carried-damaged r e = ap (λ d. unless d (applied (engine row) a p) (λ r. keeps (refusal r) a t)) e
 
--- a call on the block at an offset, by what is looked up
+-- a call on the block at a start, by what is looked up
 pub on-live : (P : Pool) (f : Place → Plan) (p : Place) → T (isLive (p .state)) → onBlock P f (some p) ≡ f p
 on-live P f p l = choose-true (isLive (p .state)) _ _ (T-true (isLive (p .state)) l)
 
@@ -93,14 +93,18 @@ module _ (row : ℕ) (a : List ℕ) (t : KeptBytes) where
       sounds true s = carries s (damaged row a (p .checks)) refl
       sounds false s = kept (keeps (unsound c) a t) (refl, refl) (call-unsound row a t c k s)
 
-  pub measure-keeps : (o : ℕ) → LeftAsIs a t (call row a t (measures o))
-  unfolding plan measure
-  measure-keeps o = left-as-is (measures o) tt (nothing (view row (t .tables)) (lookup row (view row (t .tables)) o))
+  pub measure-keeps : (h : ℕ) → LeftAsIs a t (call row a t (measures h))
+  unfolding plan measure onHandle
+  measure-keeps h = left-as-is (measures h) tt (nothing (view row (t .tables)) (lookup row (view row (t .tables)) (startOf h)))
     where
-      nothing : (P : Pool) (x : Option Place) → (onBlock P (measureAt row P) x .changes ≡ []) × (onBlock P (measureAt row P) x .pool ≡ P)
+      M : Pool → Plan → Type 0
+      M P l = (l .changes ≡ []) × (l .pool ≡ P)
+
+      nothing : (P : Pool) (x : Option Place) → M P (onBlock P (byHandle P h (measureAt row P)) x)
       nothing P none = (refl, refl)
       nothing P (some p) =
-          choose-case (λ (l : Plan). (l .changes ≡ []) × (l .pool ≡ P)) (isLive (p .state)) _ _ (λ _. (refl, refl)) (λ _. (refl, refl))
+          choose-case (M P) (isLive (p .state)) _ _
+          (λ _. choose-case (M P) (eqb (h % 16) (useBits (count (p .state)))) _ _ (λ _. (refl, refl)) (λ _. (refl, refl))) (λ _. (refl, refl))
 
   pub report-keeps : LeftAsIs a t (call row a t reports)
   unfolding plan report

@@ -1,6 +1,6 @@
 -- What a call leaves: a well-formed pool of as many rows; and where it refuses, the pool as it was, and nothing written.
 use Rattle.mem.proofs.Prelude.{_∙_, _≡_, sym, ap, refl, subst, true, Bool, false, _||_, some, none, Option, List, [], _∷_, _++_, _+_, ℕ, _<_, _≤_}
-use Rattle.mem.proofs.Prelude.{_*_, _-_, arith, leb-false, T, eqb, leb, ltb, leb→le, ltb→lt, lt→ltb, le→leb, length, length-append, lit≤, _%_}
+use Rattle.mem.proofs.Prelude.{_*_, _-_, arith, leb-false, T, eqb, eqb-true, leb, ltb, leb→le, ltb→lt, lt→ltb, le→leb, length, length-append, lit≤, _%_}
 use Rattle.mem.specs.Lists.{every, any}
 use Rattle.mem.proofs.Tests.{and-left, and-right, and-both, every-append, choose-case, true-T, eq→eqb}
 use Rattle.classes.specs.Classes.{slotBytes, slotsOf, rowsOf, tooLarge, ownClass}
@@ -8,10 +8,12 @@ use Rattle.classes.specs.Alignments.{ordinary, codeOf, enlarged, Askable}
 use Rattle.classes.proofs.Alignments.{code-most}
 use Rattle.model.specs.declared.Slot.{Slot}
 use Rattle.model.specs.declared.Slot.the-variants.{Fresh, Idle, Live}
-use Rattle.model.specs.declared.Refusal.the-variants.{NoSuchBlock, AlreadyFree}
+use Rattle.model.specs.declared.Refusal.{Refusal}
+use Rattle.model.specs.declared.Refusal.the-variants.{NoSuchBlock, AlreadyFree, Stale}
 use Rattle.model.specs.State.{Pool, Place, group, isLive, count, disp, align, slotSound, spanSound, wellFormed, poolOf, become, rows, start}
-use Rattle.model.specs.State.{slotAligned, aligned, beginning}
-use Rattle.model.specs.Plans.{Plan, refused, reserve, grantAt, grantAs, grantAligned, lookup, vacant, onBlock, releaseAt, release, inPlace}
+use Rattle.model.specs.State.{slotAligned, aligned, beginning, useBits, startOf, handle}
+use Rattle.model.specs.Plans.{Plan, refused, reserve, grantAt, grantAs, grantAligned, lookup, vacant, onBlock, byHandle, onHandle, releaseAt, release}
+use Rattle.model.specs.Plans.{discard, inPlace}
 use Rattle.model.specs.Plans.{resizeInPlace, newSize, moveTo, resizeMove, resizeAt, resize}
 use Rattle.model.specs.Plans.{measure, measureAt, report, freshPool, Call, setsUp, grants, grantsAligned, releases, resizes, measures, reports, plan}
 use Rattle.model.specs.Plans.{grantsList}
@@ -159,7 +161,7 @@ resizable row pos P o n w p f q l h =
     record { some-code = k .0; last-code = k .1; small = subst (λ r. newSize r n < tooLarge) f h }
 
 module _ (row : ℕ) (pos : 0 < row) where
-  -- what a call on a block does, by what is found at its offset
+  -- what a call on a block does, by what is found at its start
   pub on-block : (M : Plan → Type 0) (P : Pool) (o : ℕ) (f : Place → Plan) → M (refused NoSuchBlock P) → M (refused AlreadyFree P)
       → ((p : Place) → lookup row P o ≡ some p → poolOf p ≡ P → T (isLive (p .state)) → M (f p)) → M (onBlock P f (lookup row P o))
   on-block M P o f none-there idle-there live-there = go (lookup row P o) refl
@@ -169,6 +171,16 @@ module _ (row : ℕ) (pos : 0 < row) where
       go (some p) e =
           choose-case M (isLive (p .state)) (f p) (refused AlreadyFree P)
           (λ l. live-there p e (lookup-found row pos P o p e .0) (true-T (isLive (p .state)) l)) (λ l. idle-there)
+
+  -- what a call on the block of a handle does, by what is found at the handle's start
+  pub on-handle : (M : Plan → Type 0) (P : Pool) (h : ℕ) (f : Place → Plan) → ((r : Refusal) → M (refused r P))
+      → ((p : Place) → lookup row P (startOf h) ≡ some p → poolOf p ≡ P → T (isLive (p .state)) → handle row p ≡ h → M (f p)) → M (onHandle row P h f)
+  unfolding onHandle
+  on-handle M P h f not-so live-there =
+      on-block M P (startOf h) (byHandle P h f) (not-so NoSuchBlock) (not-so AlreadyFree)
+      (λ p e q l. choose-case M (eqb (h % 16) (useBits (count (p .state)))) (f p) (refused Stale P)
+      (λ b. live-there p e q l (omega (arith, lookup-found row pos P (startOf h) p e .2, eqb-true (h % 16) (useBits (count (p .state))) b)))
+      (λ _. not-so Stale))
 
   -- ---- calls
 
@@ -192,11 +204,19 @@ module _ (row : ℕ) (pos : 0 < row) where
       choose-case (λ (r : Plan). Formed row P (r .pool)) (ltb 0 (codeOf a)) _ _
       (λ e. grant-formed P (codeOf a) n (ltb→lt 0 (codeOf a) (true-T (ltb 0 (codeOf a)) e)) (code-most a) w) (λ _. unchanged row P w)
 
-  pub release-plan-formed : (P : Pool) (o : ℕ) → T (wellFormed P) → Formed row P (release row P o .pool)
+  -- a block given back
+  given-back : (P : Pool) (p : Place) → T (wellFormed P) → poolOf p ≡ P → T (isLive (p .state)) → Formed row P (releaseAt row p .pool)
+  given-back P p w e l = subst (λ Q. Formed row Q (releaseAt row p .pool)) e (release-formed row p (subst (λ Q. T (wellFormed Q)) (sym e) w) l)
+
+  discard-formed : (P : Pool) (o : Place) → T (wellFormed P) → Formed row P (discard row P o .pool)
+  unfolding discard
+  discard-formed P o w =
+      on-block (λ (r : Plan). Formed row P (r .pool)) P (start row o) (releaseAt row) (unchanged row P w) (unchanged row P w) (λ p f e l. given-back P p w e l)
+
+  release-plan-formed : (P : Pool) (h : ℕ) → T (wellFormed P) → Formed row P (release row P h .pool)
   unfolding release
-  release-plan-formed P o w =
-      on-block (λ (r : Plan). Formed row P (r .pool)) P o (releaseAt row) (unchanged row P w) (unchanged row P w)
-      (λ p f e l. subst (λ Q. Formed row Q (releaseAt row p .pool)) e (release-formed row p (subst (λ Q. T (wellFormed Q)) (sym e) w) l))
+  release-plan-formed P h w =
+      on-handle (λ (r : Plan). Formed row P (r .pool)) P h (releaseAt row) (λ r. unchanged row P w) (λ p f e l b. given-back P p w e l)
 
   pub resize-move-formed : (P : Pool) (p : Place) (n : ℕ) → T (wellFormed P) → Askable (align (p .state)) n → Formed row P (resizeMove row P p n .pool)
   unfolding resizeMove
@@ -206,15 +226,16 @@ module _ (row : ℕ) (pos : 0 < row) where
       go none e = unchanged row P w
       go (some q) e =
           let g : Granted row P (align (p .state)) n q = reserve-formed row P (align (p .state)) n q w h e in
-          granted-formed (align (p .state)) n q g (release-plan-formed (poolOf q) (start row p) (g .formed))
+          granted-formed (align (p .state)) n q g (discard-formed (poolOf q) p (g .formed))
 
-  pub resize-formed : (P : Pool) (o n : ℕ) → T (wellFormed P) → Formed row P (resize row P o n .pool)
+  pub resize-formed : (P : Pool) (h n : ℕ) → T (wellFormed P) → Formed row P (resize row P h n .pool)
   unfolding resize resizeAt
-  resize-formed P o n w =
+  resize-formed P h n w =
       let M : Plan → Type 0 = λ r. Formed row P (r .pool) in
+      let o : ℕ = startOf h in
       choose-case M (leb tooLarge (newSize (lookup row P o) n)) _ _ (λ e. unchanged row P w)
-      (λ e. on-block M P o (resizeAt row P n) (unchanged row P w) (unchanged row P w)
-      (λ p f q l.
+      (λ e. on-handle M P h (resizeAt row P n) (λ r. unchanged row P w)
+      (λ p f q l b.
       let h : Askable (align (p .state)) n = resizable row pos P o n w p f q l (leb-false tooLarge (newSize (lookup row P o) n) e) in
       choose-case M (inPlace p n) (resizeInPlace row p n) (resizeMove row P p n)
       (λ t. subst (λ Q. Formed row Q (resizeInPlace row p n .pool)) q
@@ -235,7 +256,7 @@ module _ (row : ℕ) (pos : 0 < row) where
   measure-formed : (P : Pool) (o : ℕ) → T (wellFormed P) → Formed row P (measure row P o .pool)
   unfolding measure
   measure-formed P o w =
-      on-block (λ (r : Plan). Formed row P (r .pool)) P o (measureAt row P) (unchanged row P w) (unchanged row P w) (λ p f e l. unchanged row P w)
+      on-handle (λ (r : Plan). Formed row P (r .pool)) P o (measureAt row P) (λ r. unchanged row P w) (λ p f e l b. unchanged row P w)
 
   -- every call leaves a well-formed pool of as many rows
   pub plan-formed : (P : Pool) (c : Call) → T (wellFormed P) → Formed row P (plan row P c .pool)

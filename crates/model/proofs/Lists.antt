@@ -8,7 +8,7 @@ use Rattle.classes.specs.Classes.{tooLarge}
 use Rattle.classes.specs.Alignments.{ordinary}
 use Rattle.model.specs.declared.Refusal.{Refusal}
 use Rattle.model.specs.declared.Refusal.the-variants.{NoRoom, TooLong, BadProposal}
-use Rattle.model.specs.State.{Pool, Place, wellFormed, poolOf, start}
+use Rattle.model.specs.State.{Pool, Place, wellFormed, poolOf, handle}
 use Rattle.model.specs.Proposals.{entries, capRight, sizeRight, accepts, plannable}
 use Rattle.model.specs.Plans.{Plan, refused, reserve, placed, placedBy, reserveAll, grantAllAt, grantList}
 use Rattle.model.proofs.Reserve.{plain, reserve-formed}
@@ -90,8 +90,8 @@ module _ (row : ℕ) where
 
   -- a place for each size
   pub places-counted : (P : Pool) (ns : List ℕ) (qs : List Place) → T (wellFormed P) → T (small ns) → reserveAll row P ns ≡ some qs
-      → length (map (start row) qs) ≡ length ns
-  places-counted = by-grants (λ P ns qs. length (map (start row) qs) ≡ length ns) (λ P. refl) (λ P n ns q qs w h r k. ap suc k)
+      → length (map (handle row) qs) ≡ length ns
+  places-counted = by-grants (λ P ns qs. length (map (handle row) qs) ≡ length ns) (λ P. refl) (λ P n ns q qs w h r k. ap suc k)
 
   -- what a list call does: it is refused, or all its sizes are granted
   pub on-list : (M : Plan → Type 0) (P : Pool) (total cap places : ℕ) (ns : List ℕ) → ((r : Refusal) → M (refused r P))

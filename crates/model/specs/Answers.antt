@@ -3,8 +3,8 @@ use Prim.Native.Nat.{ℕ}
 use mathlib.Core.List.{List, [], _∷_}
 use lib.ListN.{length}
 use Rattle.model.specs.declared.Refusal.{Refusal}
-use Rattle.model.specs.declared.Refusal.the-variants.{BadArena, Unsound, TooLarge, NoSuchBlock, AlreadyFree, HeaderDamaged, Overrun, NoRoom, TooLong}
-use Rattle.model.specs.declared.Refusal.the-variants.{BadProposal, BadAlignment}
+use Rattle.model.specs.declared.Refusal.the-variants.{BadArena, Unsound, TooLarge, NoSuchBlock, AlreadyFree, Stale, HeaderDamaged, Overrun, NoRoom}
+use Rattle.model.specs.declared.Refusal.the-variants.{TooLong, BadProposal, BadAlignment}
 use Rattle.model.specs.declared.Reply.{Reply}
 use Rattle.model.specs.declared.Report.{Report}
 use Rattle.model.specs.declared.Totals.{Totals}
@@ -30,11 +30,13 @@ numberOf TooLong = 9
 numberOf BadProposal = 17
 -- 02 §6
 numberOf BadAlignment = 13
+-- 02 §7
+numberOf Stale = 10
 
 abbrev pub done : List ℕ → Answer
 done vs = record { number = 0; values = vs; lent = [] }
 
--- 02 §3: "writes the starts to the front of a lent list .. and gives the number of entries"
+-- 02 §3: "writes the starts to the front of a lent list .. and gives the number of entries"; 02 §7: "List entries .. read handles"
 abbrev pub listDone : List ℕ → Answer
 listDone ls = record { number = 0; values = length ls ∷ []; lent = ls }
 

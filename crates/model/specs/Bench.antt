@@ -1,6 +1,6 @@
 -- The bench sheet of document 01, W4 and W5 apart, with the facts under it and what document 02 adds: one list, and how a line of it is read
 -- over arena and table room.
-use Prim.Native.Nat.{ℕ, zero, suc, _+_, _/_}
+use Prim.Native.Nat.{ℕ, zero, suc, _+_, _/_, _%_}
 use mathlib.Core.Bool.{Bool, true, false, _&&_}
 use mathlib.Core.List.{List, [], _∷_, _++_}
 use lib.Dec.{eqb}
@@ -69,9 +69,9 @@ sheet01 =
     ∷ fresh 512 (refuses (grants 13) 8 ∷ refuses (grants 131052) 3 ∷ [])
     -- W7
     ∷ fresh 4096 (gives (grants 160) 16 ∷ gives (grants 160) 208 ∷ gives (releases 16) 0 ∷ gives (grants 160) 400 ∷ [])
-    -- W8, W9
-    ∷ fresh 4096 (grants160 21 16 ++ (gives (releases 16) 0 ∷ gives (grants 160) 32 ∷ shows 28 (bytes4 0 160 1 0)
-    ∷ shows 200 (bytes4 12 0 0 0) ∷ refuses (releases 16) 4 ∷ []))
+    -- W8, W9; 02 §7: "W8 now gives 33, W9 answers 10 for 32 and 4 for 16."
+    ∷ fresh 4096 (grants160 21 16 ++ (gives (releases 16) 0 ∷ gives (grants 160) 33 ∷ shows 28 (bytes4 0 160 1 0)
+    ∷ shows 200 (bytes4 12 0 0 0) ∷ refuses (releases 32) 10 ∷ refuses (releases 16) 4 ∷ []))
     -- W10
     ∷ fresh 4096 (gives (grants 160) 16 ∷ gives (grants 160) 208 ∷ gives (releases 16) 0 ∷ refuses (releases 16) 5 ∷ [])
     -- W11
@@ -136,7 +136,7 @@ sheet01 =
     -- "answer 8 exactly if granting the accepted sizes in order would meet it": here the last meets it, after a refill and a new group.
     -- "A refused list leaves arena, tables and lent list unchanged, use counts included."
     ∷ fresh 8192 (grants160 21 16 ++ (gives (releases 16) 0 ∷ leaves (grantsList 373 200 17 (160 ∷ 13 ∷ 200 ∷ [])) 8
-    ∷ lists (grantsList 173 200 17 (160 ∷ 13 ∷ [])) 2 (replicate 17 7) (32 ∷ 4112 ∷ replicate 15 7) ∷ []))
+    ∷ lists (grantsList 173 200 17 (160 ∷ 13 ∷ [])) 2 (replicate 17 7) (33 ∷ 4112 ∷ replicate 15 7) ∷ []))
     -- "Answer 9, list too long, is given exactly if L exceeds 17 times the cap, or the cap is out of its range, or the lent list has fewer
     -- than 17 places", and comes before 17
     ∷ fresh 512 (leaves (grantsList 18 1 17 (ones 17)) 9 ∷ leaves (grantsList 0 0 17 []) 9 ∷ leaves (grantsList 1 131052 17 (1 ∷ [])) 9
@@ -147,17 +147,17 @@ sheet01 =
     -- 02 §4: "kept in one small record beside the tables, brought up to date in place by every call, lists included": a full group, two releases,
     -- a refill, a resize in place, a move into a new group, which goes again, a list
     ∷ fresh 8192 (holds (six 0 0 0 16 0 0) ∷ grants160 21 16 ++ (holds (six 21 3360 8 8 0 0) ∷ gives (releases 16) 0 ∷ gives (releases 208) 0
-    ∷ holds (six 19 3040 8 8 0 2) ∷ gives (grants 160) 32 ∷ holds (six 20 3200 8 8 1 0) ∷ gives (resizes 32 150) 32
-    ∷ holds (six 20 3190 8 8 1 0) ∷ gives (resizes 32 13) 4112 ∷ holds (six 20 3053 10 6 31 1) ∷ gives (releases 4112) 0
+    ∷ holds (six 19 3040 8 8 0 2) ∷ gives (grants 160) 33 ∷ holds (six 20 3200 8 8 1 0) ∷ gives (resizes 33 150) 33
+    ∷ holds (six 20 3190 8 8 1 0) ∷ gives (resizes 33 13) 4112 ∷ holds (six 20 3053 10 6 31 1) ∷ gives (releases 4112) 0
     ∷ holds (six 19 3040 8 8 1 1) ∷ lists (grantsList 14 13 17 (13 ∷ 1 ∷ [])) 2 (replicate 17 7) (4112 ∷ 5136 ∷ replicate 15 7)
     ∷ holds (six 21 3054 11 5 61 1) ∷ gives (measures 5136) 1 ∷ asks reports 0 (21 ∷ 3054 ∷ 11 ∷ 5 ∷ 61 ∷ 1 ∷ []) ∷ gives setsUp 0
     ∷ holds (six 0 0 0 16 0 0) ∷ []))
     -- "the stored totals equal those counted from the tables": a requested size with a flipped bit, and with it a record that agrees; a use
-    -- count is in no total
+    -- count is in no total, but in the handle's bits
     ∷ fresh 4096 (gives (grants 160) 16 ∷ spoils 36 161 ∷ leaves (grants 0) 2 ∷ leaves (releases 16) 2 ∷ leaves (resizes 16 7) 2 ∷ leaves (measures 16) 2
     ∷ leaves (grantsList 1 1 17 (1 ∷ [])) 2 ∷ asks reports 2 (0 ∷ 0 ∷ 0 ∷ 0 ∷ 0 ∷ 0 ∷ []) ∷ writes (six 1 161 8 0 20 0)
     ∷ asks reports 0 (1 ∷ 161 ∷ 8 ∷ 0 ∷ 20 ∷ 0 ∷ []) ∷ spoils 36 160 ∷ leaves (measures 16) 2 ∷ writes (six 1 160 8 0 20 0) ∷ spoils 33 3
-    ∷ gives (measures 16) 160 ∷ [])
+    ∷ refuses (measures 16) 10 ∷ gives (measures 18) 160 ∷ [])
     -- a mask: a slot of class 0 that waits would be live, with no bytes. "Set up writes the record" whatever stood there
     ∷ fresh 512 (gives (grants 0) 16 ∷ gives (grants 0) 32 ∷ gives (releases 16) 0 ∷ spoils 28 0 ∷ leaves (measures 32) 2 ∷ writes (six 2 0 1 0 29 0)
     ∷ gives (measures 32) 0 ∷ writes (six 0 0 0 0 0 0) ∷ leaves (measures 32) 2 ∷ gives setsUp 0 ∷ holds (six 0 0 0 1 0 0) ∷ gives (grants 0) 16 ∷ [])
@@ -186,7 +186,7 @@ sheetAligned =
     ∷ gives (measures 64) 20 ∷ [])
     -- "The count still steps but sets no displacement here.": a plain grant is displaced by two aligned ones before it
     ∷ fresh 4096 (gives (grantsAligned 392 1024) 1024 ∷ gives (grantsAligned 392 1024) 2048 ∷ gives (releases 1024) 0
-    ∷ gives (grantsAligned 392 1024) 1024 ∷ gives (releases 1024) 0 ∷ gives (grants 1400) 48 ∷ [])
+    ∷ gives (grantsAligned 392 1024) 1025 ∷ gives (releases 1025) 0 ∷ gives (grants 1400) 50 ∷ [])
     -- "Resize of an aligned block keeps the boundary; .. it is in place if n itself fits as in 01 and the block's class is that of the enlarged
     -- size or the next one up": at 64 a size of 29 fits, but the enlarged one is a class higher, so it moves
     ∷ fresh 8192 (gives (grantsAligned 20 32) 32 ∷ gives (grantsAligned 20 32) 64 ∷ stores 64 7 ∷ stores 83 9 ∷ gives (resizes 32 0) 32
@@ -204,9 +204,37 @@ sheetAligned =
     ∷ leaves (measures 32) 2 ∷ spoils 32 0 ∷ leaves (measures 32) 2 ∷ spoils 32 2 ∷ gives (releases 32) 0 ∷ [])
     ∷ []
 
+-- a block of 2,028 bytes, which fills its slot, given back and granted again k times; h is its handle, of start 16, and the bits are the next
+abbrev pub regrants : ℕ → ℕ → List Line
+regrants zero h = []
+regrants (suc k) h = let g = 16 + suc h % 16 in gives (releases h) 0 ∷ gives (grants 2028) g ∷ regrants k g
+
+-- what 02 §7 adds
+unfoldable pub sheetHandles : List Entry
+sheetHandles =
+    -- "Answer 10, stale, is given exactly if the start is live and the bits differ. A start that is not live answers 4 or 5 whatever the bits."
+    fresh 4096 (gives (grants 2028) 16 ∷ gives (grants 2028) 2048 ∷ leaves (releases 17) 10 ∷ leaves (measures 31) 10 ∷ leaves (resizes 24 7) 10
+    ∷ leaves (releases 15) 4 ∷ leaves (measures 32) 4 ∷ leaves (resizes 47 7) 4 ∷ gives (releases 16) 0 ∷ leaves (releases 16) 5 ∷ leaves (measures 17) 5
+    ∷ leaves (resizes 31 7) 5 ∷ gives (grants 2028) 17 ∷ leaves (releases 16) 10 ∷ leaves (measures 16) 10 ∷ leaves (resizes 16 7) 10
+    ∷ gives (measures 17) 2028 ∷ [])
+    -- "Order: 2, 3, 4, 5, 10, 6, 7, 8; §6's answer 3 goes by the start, whatever the bits."
+    ∷ fresh 4096 (gives (grantsAligned 20 32) 32 ∷ leaves (resizes 33 131036) 3 ∷ leaves (resizes 33 131035) 10 ∷ leaves (resizes 32 131035) 8
+    ∷ stores 52 1 ∷ leaves (releases 33) 10 ∷ leaves (releases 32) 7 ∷ stores 29 0 ∷ leaves (measures 47) 10 ∷ leaves (measures 32) 6
+    ∷ leaves (resizes 40 131035) 10 ∷ leaves (resizes 32 131035) 6 ∷ spoils 33 2 ∷ leaves (releases 32) 10 ∷ leaves (releases 33) 6
+    ∷ spoils 33 0 ∷ leaves (releases 32) 10 ∷ leaves (releases 47) 6 ∷ spoils 34 9 ∷ leaves (releases 47) 2 ∷ [])
+    -- "Resize in place keeps the handle."; a move gives the bits of the slot that it takes
+    ∷ fresh 8192 (gives (grants 2028) 16 ∷ gives (grants 2028) 2048 ∷ gives (releases 16) 0 ∷ gives (grants 160) 4112 ∷ gives (resizes 4112 188) 4112
+    ∷ gives (resizes 4112 2028) 17 ∷ leaves (measures 4112) 4 ∷ leaves (measures 16) 10 ∷ gives (resizes 17 2000) 17 ∷ gives (measures 17) 2000 ∷ [])
+    -- known: "A dropped group forgets its counts": the old handle is the new block's
+    ∷ fresh 4096 (gives (grants 2028) 16 ∷ gives (releases 16) 0 ∷ gives (grants 2028) 16 ∷ gives (releases 16) 0 ∷ [])
+    -- known: "sixteen regrants bring the same bits back": fifteen do not
+    ∷ fresh 4096 (gives (grants 2028) 16 ∷ gives (grants 2028) 2048 ∷ regrants 15 16 ++ (leaves (measures 16) 10 ∷ regrants 1 31
+    ++ (gives (measures 16) 2028 ∷ gives (releases 16) 0 ∷ [])))
+    ∷ []
+
 unfoldable pub sheet : List Entry
-unfolding sheet01 sheetAligned
-sheet = sheet01 ++ sheetAligned
+unfolding sheet01 sheetAligned sheetHandles
+sheet = sheet01 ++ (sheetAligned ++ sheetHandles)
 
 -- the lines that are so, over an arena, a table room and the record
 unfoldable pub passes : List ℕ → KeptBytes → List Line → Bool

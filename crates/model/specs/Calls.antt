@@ -75,9 +75,9 @@ abbrev pub unsound : Call → Answer
 unsound setsUp = refusal BadArena
 unsound (grants n) = refusal Unsound
 unsound (grantsAligned n a) = refusal Unsound
-unsound (releases o) = refusal Unsound
-unsound (resizes o n) = refusal Unsound
-unsound (measures o) = refusal Unsound
+unsound (releases h) = refusal Unsound
+unsound (resizes h n) = refusal Unsound
+unsound (measures h) = refusal Unsound
 unsound reports = reportRefusal Unsound
 unsound (grantsList total cap places sizes) = refusal Unsound
 
@@ -116,9 +116,9 @@ module _ (row : ℕ) where
     callBy a t setsUp = setUpBy a t
     callBy a t (grants n) = checkedBy a t (grants n)
     callBy a t (grantsAligned n b) = checkedBy a t (grantsAligned n b)
-    callBy a t (releases o) = checkedBy a t (releases o)
-    callBy a t (resizes o n) = checkedBy a t (resizes o n)
-    callBy a t (measures o) = checkedBy a t (measures o)
+    callBy a t (releases h) = checkedBy a t (releases h)
+    callBy a t (resizes h n) = checkedBy a t (resizes h n)
+    callBy a t (measures h) = checkedBy a t (measures h)
     callBy a t reports = checkedBy a t reports
     callBy a t (grantsList total cap places sizes) = checkedBy a t (grantsList total cap places sizes)
 

@@ -13,10 +13,10 @@ use Rattle.classes.specs.Alignments.{ordinary, alignOf, codeOf, enlarged, round
 use Rattle.model.specs.declared.Slot.{Slot}
 use Rattle.model.specs.declared.Slot.the-variants.{Fresh, Idle, Live}
 use Rattle.model.specs.declared.Refusal.{Refusal}
-use Rattle.model.specs.declared.Refusal.the-variants.{TooLarge, NoSuchBlock, AlreadyFree, NoRoom, TooLong, BadProposal, BadAlignment}
+use Rattle.model.specs.declared.Refusal.the-variants.{TooLarge, NoSuchBlock, AlreadyFree, Stale, NoRoom, TooLong, BadProposal, BadAlignment}
 use Rattle.model.specs.declared.Totals.{Totals}
-use Rattle.model.specs.State.{Span, Pool, Place, free, group, isLive, isReady, isWaiting, count, disp, size, align}
-use Rattle.model.specs.State.{poolOf, become, slotNumber, places, rows, base, owned, start}
+use Rattle.model.specs.State.{Span, Pool, Place, free, group, isLive, isReady, isWaiting, count, disp, size, align, useBits}
+use Rattle.model.specs.State.{startOf, poolOf, become, slotNumber, places, rows, base, owned, start, handle}
 use Rattle.model.specs.Blocks.{reserved, header, spare, frame}
 use Rattle.model.specs.Answers.{Answer, done, listDone, refusal, listed}
 use Rattle.model.specs.Proposals.{entries, accepts, plannable}
@@ -111,11 +111,15 @@ poolAfter P (q ∷ qs) = poolAfter (poolOf q) qs
 abbrev pub vacant : Place → Slot
 vacant p = Idle false (count (p .state)) (disp (p .state))
 
--- a call on the block at an offset: "no such block: the offset is neither a live start nor covered by 5", "already free: it is the
+-- a call on the block at a start: "no such block: the offset is neither a live start nor covered by 5", "already free: it is the
 -- last start of a granted, not live slot of a present group"
 abbrev pub onBlock : Pool → (Place → Plan) → Option Place → Plan
 onBlock P f none = refused NoSuchBlock P
 onBlock P f (some p) = let l = f p in choose (isLive (p .state)) l (refused AlreadyFree P)
+
+-- 02 §7: "Answer 10, stale, is given exactly if the start is live and the bits differ."
+abbrev pub byHandle : Pool → (handle : ℕ) → (Place → Plan) → Place → Plan
+byHandle P h f p = let l = f p in choose (eqb (h % 16) (useBits (count (p .state)))) l (refused Stale P)
 
 -- "In place if n is at most s − 4 − 16d and the block's class is at most one above n's class". 02 §6: "if n itself fits as in 01 and the
 -- block's class is that of the enlarged size or the next one up"; of an ordinary block, whose n fits, that is the same
@@ -183,10 +187,10 @@ module _ (row : ℕ) where
   unfoldable pub enframe : Place → Write
   enframe p = writes (owned row p) (frame (p .cls) (slotNumber p) (disp (p .state)) (size (p .state)))
 
-  -- "if there is no such run, answer 8"; "The value is the start."
+  -- "if there is no such run, answer 8"; "The value is the start.", with the bits of 02 §7
   abbrev pub grantAt : Pool → Option Place → Plan
   grantAt P none = refused NoRoom P
-  grantAt P (some p) = record { checks = none; answer = done (start row p ∷ []); pool = poolOf p; changes = enframe p ∷ [] }
+  grantAt P (some p) = record { checks = none; answer = done (handle row p ∷ []); pool = poolOf p; changes = enframe p ∷ [] }
 
   -- "too large: n is 131,052 or more". 02 §6: "an enlarged size of 131,052 or more is 3"
   unfoldable pub grantAs : Pool → (code n : ℕ) → Plan
@@ -207,10 +211,10 @@ module _ (row : ℕ) where
   reserveAll P (n ∷ ns) = placedBy (reserve P ordinary n) (λ q. reserveAll (poolOf q) ns)
 
   -- "answer 8 exactly if granting the accepted sizes in order would meet it"; "writes the starts to the front of a lent list, keeps its
-  -- later places and gives the number of entries"
+  -- later places and gives the number of entries"; 02 §7: "List entries .. read handles"
   abbrev pub grantAllAt : Pool → Option (List Place) → Plan
   grantAllAt P none = refused NoRoom P
-  grantAllAt P (some qs) = record { checks = none; answer = listDone (map (start row) qs); pool = poolAfter P qs; changes = map enframe qs }
+  grantAllAt P (some qs) = record { checks = none; answer = listDone (map (handle row) qs); pool = poolAfter P qs; changes = map enframe qs }
 
   -- "Order: 2, 9, 17, 8." The lent list has so many places; "Answer 9 .. or the lent list has fewer than 17 places"
   unfoldable pub grantList : Pool → (total cap places : ℕ) → List ℕ → Plan
@@ -220,12 +224,17 @@ module _ (row : ℕ) where
       let c = choose (accepts total cap sizes) g (refused BadProposal P) in
       choose (plannable total cap && leb entries places) c (refused TooLong P)
 
-  -- BLOCKS BY THEIR OFFSET
+  -- BLOCKS BY THEIR START, AND BY THEIR HANDLE
 
   -- the granted slot whose last start the offset is
   unfoldable pub lookup : Pool → ℕ → Option Place
   unfolding places
   lookup P o = find (λ p. eqb (start row p) o) (places P)
+
+  -- a call on the block of a handle: 4 and 5 by the start, "whatever the bits", then 10
+  unfoldable pub onHandle : Pool → (handle : ℕ) → (Place → Plan) → Plan
+  unfolding lookup
+  onHandle P h f = onBlock P (byHandle P h f) (lookup P (startOf h))
 
   -- RELEASE
 
@@ -248,14 +257,19 @@ module _ (row : ℕ) where
       } in
       choose (any isLive (p .lower ++ p .upper)) stays goes
 
-  unfoldable pub release : Pool → ℕ → Plan
+  unfoldable pub release : Pool → (handle : ℕ) → Plan
+  unfolding onHandle releaseAt
+  release P h = onHandle P h releaseAt
+
+  -- the block of a place given back, in a pool that has changed elsewhere since it was found: its bits are not asked for again
+  unfoldable pub discard : Pool → Place → Plan
   unfolding lookup releaseAt
-  release P o = onBlock P releaseAt (lookup P o)
+  discard P p = onBlock P releaseAt (lookup P (start row p))
 
   -- RESIZE
 
   -- "the first bytes, as many as the lesser of old and new n, stay, all from there to the end become zero, header and guard are
-  -- written anew"; "Count and start change only by such a grant."
+  -- written anew"; "Count and start change only by such a grant." 02 §7: "Resize in place keeps the handle."
   unfoldable pub resizeInPlace : Place → ℕ → Plan
   resizeInPlace p n =
       let c = p .cls in
@@ -263,7 +277,7 @@ module _ (row : ℕ) where
       let kept = min (size (p .state)) n in
       record {
         checks = some p;
-        answer = done (start row p ∷ []);
+        answer = done (handle row p ∷ []);
         pool = poolOf (become p (Live (record { count = count (p .state); disp = d; size = n; align = align (p .state) })));
         changes =
             writes (start row p - 4) (header c (slotNumber p) d n)
@@ -275,36 +289,37 @@ module _ (row : ℕ) where
   abbrev pub moveTo : Pool → Place → ℕ → Option Place → Plan
   moveTo P p n none = record { checks = some p; answer = refusal NoRoom; pool = P; changes = [] }
   moveTo P p n (some q) =
-      let old = release (poolOf q) (start row p) in
+      let old = discard (poolOf q) p in
       record {
         checks = some p;
-        answer = done (start row q ∷ []);
+        answer = done (handle row q ∷ []);
         pool = old .pool;
         changes = enframe q ∷ copies (start row p) (start row q) (min (size (p .state)) n) ∷ old .changes;
       }
 
   unfoldable pub resizeMove : Pool → Place → ℕ → Plan
-  unfolding reserve release enframe
+  unfolding reserve discard enframe
   resizeMove P p n = moveTo P p n (reserve P (align (p .state)) n)
 
   unfoldable pub resizeAt : Pool → ℕ → Place → Plan
   unfolding resizeInPlace resizeMove
   resizeAt P n p = let i = resizeInPlace p n in let m = resizeMove P p n in choose (inPlace p n) i m
 
-  unfoldable pub resize : Pool → ℕ → ℕ → Plan
-  unfolding lookup resizeAt
-  resize P o n =
-      let r = onBlock P (resizeAt P n) (lookup P o) in
-      choose (leb tooLarge (newSize (lookup P o) n)) (refused TooLarge P) r
+  -- 02 §7: "§6's answer 3 goes by the start, whatever the bits"
+  unfoldable pub resize : Pool → (handle n : ℕ) → Plan
+  unfolding onHandle resizeAt
+  resize P h n =
+      let r = onHandle P h (resizeAt P n) in
+      choose (leb tooLarge (newSize (lookup P (startOf h)) n)) (refused TooLarge P) r
 
   -- MEASURE AND REPORT
 
   abbrev pub measureAt : Pool → Place → Plan
   measureAt P p = record { checks = some p; answer = done (size (p .state) ∷ []); pool = P; changes = [] }
 
-  unfoldable pub measure : Pool → ℕ → Plan
-  unfolding lookup
-  measure P o = onBlock P (measureAt P) (lookup P o)
+  unfoldable pub measure : Pool → (handle : ℕ) → Plan
+  unfolding onHandle
+  measure P h = onHandle P h (measureAt P)
 
   abbrev pub heldRows : Span → ℕ
   heldRows free = 0
@@ -335,9 +350,9 @@ pub data Call : Type 0 where
   setsUp : Call
   grants : (n : ℕ) → Call
   grantsAligned : (n align : ℕ) → Call
-  releases : (offset : ℕ) → Call
-  resizes : (offset n : ℕ) → Call
-  measures : (offset : ℕ) → Call
+  releases : (handle : ℕ) → Call
+  resizes : (handle n : ℕ) → Call
+  measures : (handle : ℕ) → Call
   reports : Call
   -- of the list that it is lent, a list call is told the number of places
   grantsList : (total cap places : ℕ) (sizes : List ℕ) → Call
@@ -349,8 +364,8 @@ module _ (row : ℕ) where
   plan P setsUp = setUpAgain row P
   plan P (grants n) = grantAs row P ordinary n
   plan P (grantsAligned n a) = grantAligned row P n a
-  plan P (releases o) = release row P o
-  plan P (resizes o n) = resize row P o n
-  plan P (measures o) = measure row P o
+  plan P (releases h) = release row P h
+  plan P (resizes h n) = resize row P h n
+  plan P (measures h) = measure row P h
   plan P reports = report row P
   plan P (grantsList total cap places sizes) = grantList row P total cap places sizes

@@ -1,5 +1,6 @@
 -- The pool's state: what the tables know, without bytes.
 use Prim.Native.Nat.{ℕ, _+_, _*_, _-_, _%_}
+use mathlib.Core.Path.{_≡_}
 use mathlib.Core.Bool.{Bool, true, false, _&&_, not}
 use mathlib.Core.List.{List, [], _∷_, _++_}
 use lib.Dec.{leb, ltb, eqb}
@@ -92,6 +93,15 @@ abbrev pub slotsAligned : (c b : ℕ) → List Slot → Bool
 slotsAligned c b [] = true
 slotsAligned c b (x ∷ xs) = slotAligned b x && slotsAligned c (b + slotBytes c) xs
 
+-- 02 §7: a handle "carries in its low four bits the slot's use count before that grant, modulo 16". The kept count is the one after it, modulo
+-- 256, so it is one less that counts: 0 gives 15
+abbrev pub useBits : (count : ℕ) → ℕ
+useBits k = (k + 255) % 256 % 16
+
+-- "starts are handles with the low four bits cleared"
+abbrev pub startOf : ℕ → ℕ
+startOf h = h - h % 16
+
 -- A granted slot in its pool: what lies before its group, the group's class, the slots before it, its state, the slots after it,
 -- and what lies after the group.
 pub record Place : Type 0 where
@@ -163,3 +173,13 @@ module _ (row : ℕ) where
   -- "The start is the slot's beginning plus 16d."
   abbrev pub start : Place → ℕ
   start p = beginning p + 16 * disp (p .state)
+
+  -- one slot of two pools: its group has the same class and the same first row, and it has the same number in it
+  pub record SameSlot (p q : Place) : Type 0 where
+    pub first : rows (q .before) ≡ rows (p .before)
+    pub cls : q .cls ≡ p .cls
+    pub number : slotNumber q ≡ slotNumber p
+
+  -- the handle of a live block; 02 §7: "Callers get handles"
+  abbrev pub handle : Place → ℕ
+  handle p = start p + useBits (count (p .state))

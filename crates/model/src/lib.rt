@@ -31,6 +31,7 @@ pub enum Refusal {
     TooLarge,
     NoSuchBlock,
     AlreadyFree,
+    Stale,
     HeaderDamaged,
     Overrun,
     NoRoom,
@@ -45,7 +46,7 @@ pub enum Damage {
     Damaged(Refusal),
 }
 
-// What a call answers: its value, or why it is refused. Grant and resize give the block's start, measure its requested size, grant list and
+// What a call answers: its value, or why it is refused. Grant and resize give the block's handle, measure its requested size, grant list and
 // its planner the number of entries, set up and release 0.
 pub enum Reply {
     Done(usize),

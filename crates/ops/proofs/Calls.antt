@@ -1,22 +1,22 @@
 -- The calls by what the code finds: a grant by what is reserved, and the calls on a block by what is located.
-use Rattle.mem.proofs.Prelude.{_∙_, _≡_, sym, ap, refl, ap₂, subst, true, Bool, false, some, none, Option, List, [], _∷_, _++_, _+_, ℕ, _<_, _≤_, arith}
-use Rattle.mem.proofs.Prelude.{le-leb, lt-leb, lt-ltb, T, leb, ltb, length}
-use Rattle.mem.specs.Lists.{any}
+use Rattle.mem.proofs.Prelude.{_∙_, _≡_, sym, ap, refl, ap₂, subst, true, Bool, false, some, none, Option, List, [], _∷_, _++_, ℕ, _<_, _≤_, arith}
+use Rattle.mem.proofs.Prelude.{le-leb, lt-leb, lt-ltb, T, eqb, leb, ltb, length, _%_}
+use Rattle.mem.specs.Lists.{any, choose}
 use Rattle.mem.specs.Bytes.{put}
 use Rattle.mem.proofs.Tests.{choose-case, choose-true, choose-false, true-T}
 use Rattle.classes.specs.Classes.{Lawful, tooLarge}
 use Rattle.classes.specs.Alignments.{ordinary, codeOf, enlarged, Askable}
 use Rattle.model.specs.declared.Refusal.{Refusal}
-use Rattle.model.specs.declared.Refusal.the-variants.{TooLarge, NoSuchBlock, AlreadyFree, NoRoom, BadAlignment}
+use Rattle.model.specs.declared.Refusal.the-variants.{TooLarge, NoSuchBlock, AlreadyFree, Stale, NoRoom, BadAlignment}
 use Rattle.model.specs.declared.Damage.{Damage}
 use Rattle.model.specs.declared.Damage.the-variants.{Intact, Damaged}
 use Rattle.model.specs.declared.Reply.{Reply}
 use Rattle.model.specs.declared.Totals.{Totals}
-use Rattle.model.specs.State.{Pool, Place, isLive, align, poolOf}
+use Rattle.model.specs.State.{Pool, Place, isLive, count, align, useBits, startOf, poolOf}
 use Rattle.model.specs.Blocks.{damage, frame}
 use Rattle.model.specs.Answers.{done, refusal, listed}
 use Rattle.model.specs.Plans.{Plan, Call, grants, grantsAligned, releases, resizes, measures, reports, refused, plan, grantAs, grantAligned, grantAt}
-use Rattle.model.specs.Plans.{reserve, enframe, lookup, onBlock, newSize}
+use Rattle.model.specs.Plans.{reserve, enframe, lookup, onBlock, byHandle, onHandle, newSize}
 use Rattle.model.specs.Plans.{release, releaseAt, resize, resizeAt, resizeInPlace, resizeMove, moveTo, inPlace, measure, measureAt, report, totals}
 use Rattle.model.specs.Tables.{byMasks, view}
 use Rattle.model.specs.Calls.{KeptBytes, engine, soundKept, call, carried, applied, damaged, keeps}
@@ -24,7 +24,7 @@ use Rattle.model.proofs.Lookup.{lookup-found}
 use Rattle.model.proofs.Kept.{kept-sound, kept-totals}
 use Rattle.model.proofs.Calls.{Asks, call-sound, same-room, carried-whole, carried-damaged, on-live}
 use Rattle.rows.specs.declared.Block.{Block}
-use Rattle.rows.specs.Rows.{Lent, blockOf, ownedAt, startAt, Holds}
+use Rattle.rows.specs.Rows.{Lent, blockOf, ownedAt, handleAt, Holds}
 use Rattle.rows.proofs.Rooms.{by-masks, facts}
 use Rattle.search.specs.Found.{looked}
 use Rattle.ops.specs.declared.Located.{Located}
@@ -78,7 +78,7 @@ module _ {row : ℕ} {t : KeptBytes} (a : List ℕ) (r : Checked row a t) where
 
       -- what a grant of a reserved block leaves, and where the block stands
       pub record GrantedAt (b : Block) (z : Totals) : Type 0 where
-        pub result : CarriedOut row a asked (Reply.Done (startAt row b))
+        pub result : CarriedOut row a asked (Reply.Done (handleAt row b))
             (put (ownedAt row b) (frame (b .class) (b .slot) (b .alloc .disp) (b .alloc .size)) a) (roomAfter row (t .tables) found) z
         pub stands : Standing row (length a) b
 
@@ -125,25 +125,44 @@ module _ {row : ℕ} {t : KeptBytes} (a : List ℕ) (r : Checked row a t) where
 
   -- ---- a call on a block
 
-  module _ (o : ℕ) (k : Place → Plan) (named : (p : Place) → k p .checks ≡ some p) where
+  module _ (h : ℕ) (k : Place → Plan) (named : (p : Place) → k p .checks ≡ some p) where
+    -- the pool, and what is done with a place that is looked up
+    abbrev P : Pool
+    P = view row (t .tables)
+
+    abbrev does : Option Place → Plan
+    does q = onBlock P (byHandle P h k) q
+
     -- what the call does, by what is located
     data Outcome (q : Option Place) : Located → Type 0 where
-      acts : (p : Place) → q ≡ some p → T (isLive (p .state)) → carried row a t (onBlock (view row (t .tables)) k q) ≡ applied (engine row) a (k p)
-          → Outcome q (At (blockOf row p))
-      refuses : (x : Refusal) → carried row a t (onBlock (view row (t .tables)) k q) ≡ keeps (refusal x) a t → Outcome q (Refused x)
+      acts : (p : Place) → q ≡ some p → T (isLive (p .state)) → carried row a t (does q) ≡ applied (engine row) a (k p) → Outcome q (At (blockOf row p))
+      refuses : (x : Refusal) → carried row a t (does q) ≡ keeps (refusal x) a t → Outcome q (Refused x)
 
-    outcome : (q : Option Place) → Outcome q (located row a q)
+    outcome : (q : Option Place) → Outcome q (located row a h q)
     outcome none = refuses NoSuchBlock (kept NoSuchBlock)
     outcome (some p) = go (isLive (p .state)) refl
       where
-        tested : T (isLive (p .state)) → (d : Damage) → damage row a p ≡ d → Outcome (some p) (byDamage row (blockOf row p) d)
-        tested l Intact e =
-            acts p refl l (ap (carried row a t) (on-live (view row (t .tables)) k p l) ∙ carried-whole row a t (k p) (ap (damaged row a) (named p) ∙ e))
-        tested l (Damaged x) e =
-            refuses x (ap (carried row a t) (on-live (view row (t .tables)) k p l) ∙ carried-damaged row a t (k p) x (ap (damaged row a) (named p) ∙ e))
+        same-bits : Bool
+        same-bits = eqb (h % 16) (useBits (count (p .state)))
 
-        go : (v : Bool) → isLive (p .state) ≡ v → Outcome (some p) (located row a (some p))
-        go true e = subst (Outcome (some p)) (sym (choose-true (isLive (p .state)) _ _ e)) (tested (true-T (isLive (p .state)) e) (damage row a p) refl)
+        judged-by : Located
+        judged-by = byDamage row (blockOf row p) (damage row a p)
+
+        tested : T (isLive (p .state)) → carried row a t (does (some p)) ≡ carried row a t (k p) → (d : Damage) → damage row a p ≡ d
+            → Outcome (some p) (byDamage row (blockOf row p) d)
+        tested l i Intact e = acts p refl l (i ∙ carried-whole row a t (k p) (ap (damaged row a) (named p) ∙ e))
+        tested l i (Damaged x) e = refuses x (i ∙ carried-damaged row a t (k p) x (ap (damaged row a) (named p) ∙ e))
+
+        by-bits : (v : Bool) → same-bits ≡ v → T (isLive (p .state)) → Outcome (some p) (choose same-bits judged-by (Refused Stale))
+        by-bits true e l =
+            subst (Outcome (some p)) (sym (choose-true same-bits _ _ e))
+            (tested l (ap (carried row a t) (on-live P (byHandle P h k) p l ∙ choose-true same-bits _ _ e)) (damage row a p) refl)
+        by-bits false e l =
+            subst (Outcome (some p)) (sym (choose-false same-bits _ _ e))
+            (refuses Stale (ap (carried row a t) (on-live P (byHandle P h k) p l ∙ choose-false same-bits _ _ e) ∙ kept Stale))
+
+        go : (v : Bool) → isLive (p .state) ≡ v → Outcome (some p) (located row a h (some p))
+        go true e = subst (Outcome (some p)) (sym (choose-true (isLive (p .state)) _ _ e)) (by-bits same-bits refl (true-T (isLive (p .state)) e))
         go false e =
             subst (Outcome (some p)) (sym (choose-false (isLive (p .state)) _ _ e))
             (refuses AlreadyFree (ap (carried row a t) (choose-false (isLive (p .state)) _ _ e) ∙ kept AlreadyFree))
@@ -151,62 +170,60 @@ module _ {row : ℕ} {t : KeptBytes} (a : List ℕ) (r : Checked row a t) where
     -- the block's place, and that the call carries out the plan for it
     pub record Called (b : Block) : Type 0 where
       pub place : Place
-      pub looked-up : lookup row (view row (t .tables)) o ≡ some place
+      pub looked-up : lookup row P (startOf h) ≡ some place
       pub holds : Holds byMasks row (t .tables) b place
-      pub result : carried row a t (onBlock (view row (t .tables)) k (lookup row (view row (t .tables)) o)) ≡ applied (engine row) a (k place)
+      pub result : carried row a t (onHandle row P h k) ≡ applied (engine row) a (k place)
 
-    pub called-at : (b : Block) → At b ≡ located row a (lookup row (view row (t .tables)) o) → Called b
-    called-at b e = go (located row a (lookup row (view row (t .tables)) o)) (outcome (lookup row (view row (t .tables)) o)) (sym e)
+    pub called-at : (b : Block) → At b ≡ located row a h (lookup row P (startOf h)) → Called b
+    unfolding onHandle
+    called-at b e = go (located row a h (lookup row P (startOf h))) (outcome (lookup row P (startOf h))) (sym e)
       where
-        go : (l : Located) → Outcome (lookup row (view row (t .tables)) o) l → l ≡ At b → Called b
+        go : (l : Located) → Outcome (lookup row P (startOf h)) l → l ≡ At b → Called b
         go (At c) (acts p f l d) e =
-            let h : blockOf row p ≡ b = cc in
-            subst Called h (record {
-              place = p;
-              looked-up = f;
-              holds = place-holds (r .room) p
-                  (lookup-found row (r .room .pos) (view row (t .tables)) o p f .0) l;
-              result = d;
-            })
+            let g : blockOf row p ≡ b = cc in
+            subst Called g
+            (record { place = p; looked-up = f; holds = place-holds (r .room) p (lookup-found row (r .room .pos) P (startOf h) p f .0) l; result = d })
         go (Refused x) (refuses y d) e = let z : _≡_ {A = ℕ} 0 1 = cc in absurd (omega arith)
 
-    pub called-refused : (x : Refusal) → Refused x ≡ located row a (lookup row (view row (t .tables)) o)
-        → carried row a t (onBlock (view row (t .tables)) k (lookup row (view row (t .tables)) o)) ≡ keeps (refusal x) a t
-    called-refused x e = go (located row a (lookup row (view row (t .tables)) o)) (outcome (lookup row (view row (t .tables)) o)) (sym e)
+    pub called-refused : (x : Refusal) → Refused x ≡ located row a h (lookup row P (startOf h))
+        → carried row a t (onHandle row P h k) ≡ keeps (refusal x) a t
+    unfolding onHandle
+    called-refused x e = go (located row a h (lookup row P (startOf h))) (outcome (lookup row P (startOf h))) (sym e)
       where
-        go : (l : Located) → Outcome (lookup row (view row (t .tables)) o) l → l ≡ Refused x
-            → carried row a t (onBlock (view row (t .tables)) k (lookup row (view row (t .tables)) o)) ≡ keeps (refusal x) a t
+        go : (l : Located) → Outcome (lookup row P (startOf h)) l → l ≡ Refused x → carried row a t (does (lookup row P (startOf h))) ≡ keeps (refusal x) a t
         go (At c) (acts p f l d) e = let z : _≡_ {A = ℕ} 0 1 = cc in absurd (omega arith)
-        go (Refused y) (refuses z d) e = let h : y ≡ x = cc in d ∙ ap (λ x. keeps (refusal x) a t) h
+        go (Refused y) (refuses z d) e = let g : y ≡ x = cc in d ∙ ap (λ x. keeps (refusal x) a t) g
 
   -- each call on a block, as what is done with it
 
-  pub releasing : (o : ℕ) → call row a t (releases o) ≡ carried row a t (onBlock (view row (t .tables)) (releaseAt row) (lookup row (view row (t .tables)) o))
+  pub releasing : (h : ℕ) → call row a t (releases h) ≡ carried row a t (onHandle row (view row (t .tables)) h (releaseAt row))
   unfolding plan release
-  releasing o = call-sound row a t (r .kept) (releases o) tt
+  releasing h = call-sound row a t (r .kept) (releases h) tt
 
-  pub measuring : (o : ℕ) → call row a t (measures o) ≡ carried row a t
-      (onBlock (view row (t .tables)) (measureAt row (view row (t .tables))) (lookup row (view row (t .tables)) o))
+  pub measuring : (h : ℕ) → call row a t (measures h)
+      ≡ carried row a t (onHandle row (view row (t .tables)) h (measureAt row (view row (t .tables))))
   unfolding plan measure
-  measuring o = call-sound row a t (r .kept) (measures o) tt
+  measuring h = call-sound row a t (r .kept) (measures h) tt
 
   -- a resize whose size is too large, by what is looked up, and another
-  module _ (o n : ℕ) (e : leb tooLarge (enlarged (codeFound (looked row (lookup row (view row (t .tables)) o))) n) ≡ true) where
-    pub resize-too-large : call row a t (resizes o n) ≡ keeps (refusal TooLarge) a t
+  module _ (h n : ℕ) where
+    -- the place at the handle's start
+    abbrev at-start : Option Place
+    at-start = lookup row (view row (t .tables)) (startOf h)
+
+    pub resize-too-large : leb tooLarge (enlarged (codeFound (looked row at-start)) n) ≡ true → call row a t (resizes h n) ≡ keeps (refusal TooLarge) a t
     unfolding plan resize
-    resize-too-large =
-        call-sound row a t (r .kept) (resizes o n) tt
-        ∙ ap (carried row a t) (choose-true (leb tooLarge (newSize (lookup row (view row (t .tables)) o) n)) _ _
-        (ap (leb tooLarge) (sym (new-size row (lookup row (view row (t .tables)) o) n)) ∙ e))
+    resize-too-large e =
+        call-sound row a t (r .kept) (resizes h n) tt
+        ∙ ap (carried row a t) (choose-true (leb tooLarge (newSize at-start n)) _ _ (ap (leb tooLarge) (sym (new-size row at-start n)) ∙ e))
         ∙ kept TooLarge
 
-  pub resizing : (o n : ℕ) → leb tooLarge (enlarged (codeFound (looked row (lookup row (view row (t .tables)) o))) n) ≡ false → call row a t (resizes o n)
-      ≡ carried row a t (onBlock (view row (t .tables)) (resizeAt row (view row (t .tables)) n) (lookup row (view row (t .tables)) o))
-  unfolding plan resize
-  resizing o n e =
-      call-sound row a t (r .kept) (resizes o n) tt
-      ∙ ap (carried row a t) (choose-false (leb tooLarge (newSize (lookup row (view row (t .tables)) o) n)) _ _
-      (ap (leb tooLarge) (sym (new-size row (lookup row (view row (t .tables)) o) n)) ∙ e))
+    pub resizing : leb tooLarge (enlarged (codeFound (looked row at-start)) n) ≡ false
+        → call row a t (resizes h n) ≡ carried row a t (onHandle row (view row (t .tables)) h (resizeAt row (view row (t .tables)) n))
+    unfolding plan resize
+    resizing e =
+        call-sound row a t (r .kept) (resizes h n) tt
+        ∙ ap (carried row a t) (choose-false (leb tooLarge (newSize at-start n)) _ _ (ap (leb tooLarge) (sym (new-size row at-start n)) ∙ e))
 
   -- ---- report
 

@@ -10,7 +10,7 @@ use Rattle.model.specs.declared.Totals.{Totals}
 use Rattle.model.specs.State.{Place, disp, size, align, poolOf, slotNumber, rows, owned, start}
 use Rattle.model.specs.Blocks.{frame}
 use Rattle.model.specs.Answers.{done}
-use Rattle.model.specs.Plans.{Plan, reserve, release, releaseAt, resizeMove, moveTo, enframe, totals}
+use Rattle.model.specs.Plans.{Plan, reserve, discard, releaseAt, resizeMove, moveTo, enframe, totals}
 use Rattle.model.specs.Tables.{byMasks, view, encode, sound}
 use Rattle.model.specs.Calls.{written}
 use Rattle.model.proofs.Tables.{masks-laws, view-encode, encode-sound}
@@ -20,7 +20,7 @@ use Rattle.model.proofs.Reserve.{reserve-size, Granted, reserve-formed}
 use Rattle.model.proofs.Stays.{Stays}
 use Rattle.model.proofs.Moves.{Old, old, old-released, old-apart}
 use Rattle.rows.specs.declared.Block.{Block}
-use Rattle.rows.specs.Rows.{Lent, blockOf, ownedAt, startAt, Holds}
+use Rattle.rows.specs.Rows.{Lent, blockOf, ownedAt, startAt, handleAt, Holds}
 use Rattle.rows.proofs.Rooms.{facts, few-rows}
 use Rattle.ops.specs.declared.Reserved.the-variants.{Taken, NoRoom}
 use Rattle.ops.specs.Blocks.{Standing, reservedAs, CarriedOut}
@@ -29,9 +29,9 @@ use Rattle.ops.proofs.Places.{place-stands, held-pool}
 -- one slot of two pools is one block
 stays-block : (row : ℕ) (p q : Place) → Stays row p q → blockOf row q ≡ blockOf row p
 stays-block row p q s =
-    let a : rows row (q .before) ≡ rows row (p .before) = s .first in
-    let b : q .cls ≡ p .cls = s .cls in
-    let c : slotNumber q ≡ slotNumber p = s .number in
+    let a : rows row (q .before) ≡ rows row (p .before) = s .slot .first in
+    let b : q .cls ≡ p .cls = s .slot .cls in
+    let c : slotNumber q ≡ slotNumber p = s .slot .number in
     let d : q .state ≡ p .state = s .state in
     cc
 
@@ -107,8 +107,8 @@ module _ {row len : ℕ} {t : List ℕ} (r : Lent byMasks row len t) (v n : ℕ)
     pub taken-size : size (q .state) ≡ n
     taken-size = reserve-size row (view row t) v n q (facts r .formed) found
 
-    -- the old block is released by its start
-    released-old : release row (poolOf q) (start row p) ≡ releaseAt row (beside .place)
+    -- the old block is given back by its place
+    released-old : discard row (poolOf q) p ≡ releaseAt row (beside .place)
     unfolding beside
     released-old = old-released row (r .pos) (view row t) (facts r .formed) v n small q found p there (h .live)
 
@@ -122,7 +122,7 @@ module _ {row len : ℕ} {t : List ℕ} (r : Lent byMasks row len t) (v n : ℕ)
         → a₁ ≡ put (ownedAt row c) (frame (c .class) (c .slot) (c .alloc .disp) (c .alloc .size)) a
         → a₂ ≡ put (startAt row c) (part (startAt row b) (min (b .alloc .size) n) a₁) a₁
         → a₃ ≡ written a₂ (releaseAt row (beside .place) .changes) → u ≡ encode row (releaseAt row (beside .place) .pool)
-        → z ≡ totals row (releaseAt row (beside .place) .pool) → s ≡ startAt row c
+        → z ≡ totals row (releaseAt row (beside .place) .pool) → s ≡ handleAt row c
         → v ≡ align (p .state) → CarriedOut row a (resizeMove row (poolOf p) p n) (Reply.Done s) a₃ u z
     unfolding enframe
     moved c a a₁ a₂ a₃ u s z ec e₁ e₂ e₃ eu ez es ev =
@@ -131,7 +131,7 @@ module _ {row len : ℕ} {t : List ℕ} (r : Lent byMasks row len t) (v n : ℕ)
         let f : a₂ ≡ put (start row q) (part (start row p) (min (size (p .state)) n) laid) laid = e₂ ∙ rw (sb, zb, e₁, ← ec) in
         rw (move-plan ev)
         (record {
-          answer = ap (λ v. done (v ∷ [])) (es ∙ ap (startAt row) (sym ec));
+          answer = ap (λ v. done (v ∷ [])) (es ∙ ap (handleAt row) (sym ec));
           arena = e₃ ∙ ap₂ (λ x (y : Plan). written x (y .changes)) f (sym released-old);
           room = eu ∙ ap (λ (x : Plan). encode row (x .pool)) (sym released-old);
           counts = ez ∙ ap (λ (x : Plan). totals row (x .pool)) (sym released-old);

@@ -25,7 +25,7 @@ use Rattle.search.specs.declared.Looked.{Looked}
 use Rattle.search.specs.declared.Looked.the-variants.{Present, Freed}
 use Rattle.search.specs.Found.{looked}
 use Rattle.ops.specs.declared.Located.the-variants.{Refused}
-use Rattle.ops.specs.Blocks.{Standing, Lies, codeFound, byDamage, judged, located}
+use Rattle.ops.specs.Blocks.{Standing, Lies, codeFound, byDamage, byBits, judged, located}
 
 -- a slot of a pool lies in an arena that the pool fills
 pub place-stands : (row : ℕ) → 0 < row → (n : ℕ) (p : Place) → T (wellFormed (poolOf p)) → rows row (poolOf p) ≤ 512 → n ≡ row * rows row (poolOf p)
@@ -97,13 +97,13 @@ module _ {row n : ℕ} {t : List ℕ} (r : Lent byMasks row n t) (o : ℕ) where
   found-lies = found-known .lies
 
 module _ (row : ℕ) where
-  pub judged-looked : (a : List ℕ) (q : Option Place) → judged row a (looked row q) ≡ located row a q
+  pub judged-looked : (a : List ℕ) (h : ℕ) (q : Option Place) → judged row a h (looked row q) ≡ located row a h q
   unfolding choose
-  judged-looked a none = refl
-  judged-looked a (some p) = go (isLive (p .state))
+  judged-looked a h none = refl
+  judged-looked a h (some p) = go (isLive (p .state))
     where
-      go : (v : Bool) → judged row a (choose v (Present (blockOf row p)) Freed)
-          ≡ choose v (byDamage row (blockOf row p) (damage row a p)) (Refused AlreadyFree)
+      go : (v : Bool) → judged row a h (choose v (Present (blockOf row p)) Freed)
+          ≡ choose v (byBits row h (count (p .state)) (byDamage row (blockOf row p) (damage row a p))) (Refused AlreadyFree)
       go true = refl
       go false = refl
 

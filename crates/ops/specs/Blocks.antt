@@ -1,20 +1,20 @@
 -- A block as the calls handle it: where it lies, and what they find, reserve and change of it.
-use Prim.Native.Nat.{ℕ, _+_, _*_, _-_, _≤_, _<_}
+use Prim.Native.Nat.{ℕ, _+_, _*_, _-_, _%_, _≤_, _<_}
 use mathlib.Core.Path.{_≡_}
 use mathlib.Core.Bool.{Bool, _&&_}
 use mathlib.Core.Option.{Option, none, some}
 use mathlib.Core.List.{List, _∷_, _++_}
-use lib.Dec.{leb}
+use lib.Dec.{leb, eqb}
 use Rattle.mem.specs.Lists.{choose}
 use Rattle.mem.specs.Bytes.{part}
 use Rattle.classes.specs.Classes.{slotBytes, rowsOf, ownClass}
 use Rattle.classes.specs.Alignments.{ordinary, enlarged}
-use Rattle.model.specs.declared.Refusal.the-variants.{NoSuchBlock, AlreadyFree}
+use Rattle.model.specs.declared.Refusal.the-variants.{NoSuchBlock, AlreadyFree, Stale}
 use Rattle.model.specs.declared.Damage.{Damage}
 use Rattle.model.specs.declared.Damage.the-variants.{Intact, Damaged}
 use Rattle.model.specs.declared.Reply.{Reply}
 use Rattle.model.specs.declared.Totals.{Totals}
-use Rattle.model.specs.State.{Place, group, isLive, poolOf, rows}
+use Rattle.model.specs.State.{Place, group, isLive, count, useBits, poolOf, rows}
 use Rattle.model.specs.Blocks.{damageIn, damage}
 use Rattle.model.specs.Answers.{replyAnswer}
 use Rattle.model.specs.Plans.{Plan, Site, totals}
@@ -52,6 +52,12 @@ codeFound Absent = ordinary
 codeFound Freed = ordinary
 codeFound (Present b) = b .alloc .align
 
+-- the bits of its handle: those of a live block; of anything else, 0
+abbrev pub bitsFound : Looked → ℕ
+bitsFound Absent = 0
+bitsFound Freed = 0
+bitsFound (Present b) = useBits (b .alloc .count)
+
 -- whether a block of n bytes can stay in the block's slot
 abbrev pub staysIn : Block → ℕ → Bool
 staysIn b n = leb n (slotBytes (b .class) - 4 - 16 * b .alloc .disp) && ownClass (b .class) (enlarged (b .alloc .align) n)
@@ -62,16 +68,22 @@ module _ (row : ℕ) where
   byDamage b Intact = At b
   byDamage b (Damaged r) = Refused r
 
-  -- what was found at an offset, a live block by its damage
-  abbrev pub judged : List ℕ → Looked → Located
-  judged a Absent = Refused NoSuchBlock
-  judged a Freed = Refused AlreadyFree
-  judged a (Present b) =
-      byDamage b (damageIn (b .class) (b .slot) (b .alloc .disp) (b .alloc .size) (part (ownedAt row b) (slotBytes (b .class)) a))
+  -- the block of a handle, a live one whose slot has that use count, by its damage
+  abbrev pub byBits : (handle count : ℕ) → Located → Located
+  byBits h k r = choose (eqb (h % 16) (useBits k)) r (Refused Stale)
 
-  abbrev pub located : List ℕ → Option Place → Located
-  located a none = Refused NoSuchBlock
-  located a (some p) = let r = byDamage (blockOf row p) (damage row a p) in choose (isLive (p .state)) r (Refused AlreadyFree)
+  -- what was found at the start of a handle
+  abbrev pub judged : List ℕ → (handle : ℕ) → Looked → Located
+  judged a h Absent = Refused NoSuchBlock
+  judged a h Freed = Refused AlreadyFree
+  judged a h (Present b) = byBits h (b .alloc .count)
+      (byDamage b (damageIn (b .class) (b .slot) (b .alloc .disp) (b .alloc .size) (part (ownedAt row b) (slotBytes (b .class)) a)))
+
+  abbrev pub located : List ℕ → (handle : ℕ) → Option Place → Located
+  located a h none = Refused NoSuchBlock
+  located a h (some p) =
+      let r = byBits h (count (p .state)) (byDamage (blockOf row p) (damage row a p)) in
+      choose (isLive (p .state)) r (Refused AlreadyFree)
 
   -- the group in which a slot is taken, with the totals of the pool that has it, and the room
   abbrev pub opened : ℕ → Option Site → Opened

@@ -7,14 +7,14 @@ ghost use lib.ListN.{length};
 ghost use Rattle.mem.specs.Bytes.{put, part};
 ghost use Rattle.classes.specs.Classes.{Lawful, slotBytes, classOf};
 ghost use Rattle.classes.specs.Alignments.{enlarged, Askable};
-ghost use Rattle.model.specs.State.{Place, poolOf};
+ghost use Rattle.model.specs.State.{Place, useBits, startOf, poolOf};
 ghost use Rattle.model.specs.Blocks.{damageIn, frame};
 ghost use Rattle.model.specs.Plans.{site, reserve, lookup, releaseAt, resizeInPlace, resizeMove, resizeAt, totals};
 ghost use Rattle.model.specs.Tables.{byMasks, sound, view, encode};
 ghost use Rattle.model.specs.Calls.{written};
-ghost use Rattle.rows.specs.Rows.{ownedAt, startAt, Holds};
+ghost use Rattle.rows.specs.Rows.{ownedAt, startAt, handleAt, Holds};
 ghost use Rattle.search.specs.Found.{Passed};
-ghost use Rattle.ops.specs.Blocks.{Standing, Lies, codeFound, judged, located, opened, siteRoom, reservedAs, roomAfter, staysIn, CarriedOut};
+ghost use Rattle.ops.specs.Blocks.{Standing, Lies, codeFound, bitsFound, judged, located, opened, siteRoom, reservedAs, roomAfter, staysIn, CarriedOut};
 use changes::Left;
 use model::Answered;
 use model::Damage;
@@ -25,7 +25,7 @@ use rows::Block;
 use rows::Found;
 use search::Looked;
 
-// What stands at an offset: a live block with header and guard as due, or why a call on it is refused.
+// What a handle names: a live block with header and guard as due, or why a call on it is refused.
 pub enum Located {
     At(Block),
     Refused(Refusal),
@@ -62,14 +62,40 @@ fn owned_of(row: usize, b: Block) -> usize
     owned_in(row, b, 16 * classes::units(b.class))
 }
 
+// The low four bits of a live block's handle, from its slot's use count: the count before the grant, modulo 16.
+fn use_bits(count: u8) -> usize
+    ensures { λ r. ⌜ r ≡ useBits count ⌝ }
+    ensures small { λ r. ⌜ r < 16 ⌝ }
+{
+    mem::wide(std::num::wrapping_sub_u8(count, 1)) % 16
+}
+
+// The start of a handle: the low four bits cleared.
+pub fn start_in(handle: usize) -> usize
+    ensures { λ r. ⌜ r ≡ startOf handle ⌝ }
+{
+    handle - handle % 16
+}
+
 // Where a block starts.
-pub fn start_of(row: usize, b: Block) -> usize
+fn start_of(row: usize, b: Block) -> usize
     requires { ⌜ (b .class < 48) × (b .slot < 31) × (b .first ≤ 512) ⌝ }
     requires { ⌜ 16 * b .alloc .disp ≤ slotBytes (b .class) ⌝ }
     requires { ⌜ Lawful row ⌝ }
     ensures { λ r. ⌜ r ≡ startAt row b ⌝ }
+    ensures small { λ r. ⌜ r < 8519680 ⌝ }
 {
     owned_of(row, b) + 4 + 16 * b.alloc.disp
+}
+
+// The handle of a live block.
+fn handle_of(row: usize, b: Block) -> usize
+    requires { ⌜ (b .class < 48) × (b .slot < 31) × (b .first ≤ 512) ⌝ }
+    requires { ⌜ 16 * b .alloc .disp ≤ slotBytes (b .class) ⌝ }
+    requires { ⌜ Lawful row ⌝ }
+    ensures { λ r. ⌜ r ≡ handleAt row b ⌝ }
+{
+    start_of(row, b) + use_bits(b.alloc.count)
 }
 
 // Whether the header and the guard of a block are those due.
@@ -89,11 +115,11 @@ fn inspect(row: usize, arena: &[u8], b: Block) -> Damage
     )
 }
 
-// Writes zero over a block's slot, then its header and guard (mallocng's enframe). Gives the block's start.
+// Writes zero over a block's slot, then its header and guard (mallocng's enframe). Gives the block's handle.
 pub fn lay_out(row: usize, arena: &mut [u8], b: Block) -> usize
     requires { ⌜ Standing row (length (now arena)) b ⌝ }
     requires { ⌜ Lawful row ⌝ }
-    ensures { λ r. ⌜ r ≡ startAt row b ⌝ }
+    ensures { λ r. ⌜ r ≡ handleAt row b ⌝ }
     ensures { λ _. ⌜ now (arena .exit) ≡ put (ownedAt row b) (frame (b .class) (b .slot) (b .alloc .disp) (b .alloc .size)) (now (arena .entry)) ⌝ }
 {
     let bytes = 16 * classes::units(b.class);
@@ -107,7 +133,7 @@ pub fn lay_out(row: usize, arena: &mut [u8], b: Block) -> usize
         b.alloc.disp,
         b.alloc.size,
     );
-    at + 4 + 16 * b.alloc.disp
+    at + 4 + 16 * b.alloc.disp + use_bits(b.alloc.count)
 }
 
 // The group in which a slot of class c is taken: the lowest with a slot that is not live, or a new one at the lowest run of free rows. No
@@ -175,32 +201,51 @@ pub fn reserve_slot(
     reserve_in(row, len, room, t, c, code, n, 0)
 }
 
-// What was found at an offset, as the calls see it: a block that is live and undamaged, or why not.
-pub fn judge(row: usize, arena: &[u8], found: Looked) -> Located
-    requires { ⌜ Lies row (length (now arena)) found ⌝ }
-    requires { ⌜ Lawful row ⌝ }
-    ensures { λ r. ⌜ r ≡ judged row (now (arena .entry)) found ⌝ }
+// The low four bits of the handle of what was found: those of a live block; of anything else, 0.
+fn bits_found(found: Looked) -> usize
+    ensures { λ r. ⌜ r ≡ bitsFound found ⌝ }
 {
     match found {
-        Looked::Absent => Located::Refused(Refusal::NoSuchBlock),
-        Looked::Freed => Located::Refused(Refusal::AlreadyFree),
-        Looked::Present(b) => match inspect(row, arena, b) {
-            Damage::Intact => Located::At(b),
-            Damage::Damaged(r) => Located::Refused(r),
-        },
+        Looked::Absent => 0,
+        Looked::Freed => 0,
+        Looked::Present(b) => use_bits(b.alloc.count),
     }
 }
 
-// The block at an offset, if it is live and undamaged.
-pub fn locate(row: usize, arena: &[u8], room: &[u8], offset: usize) -> Located
+// What was found at the start of a handle, as the calls see it: a live block with the handle's bits and undamaged, or why not.
+pub fn judge(row: usize, arena: &[u8], found: Looked, handle: usize) -> Located
+    requires { ⌜ Lies row (length (now arena)) found ⌝ }
+    requires { ⌜ Lawful row ⌝ }
+    ensures { λ r. ⌜ r ≡ judged row (now (arena .entry)) handle found ⌝ }
+{
+    // Read before the block is taken out: the copy of a block that a byte is read of is slower (DECISIONS 115).
+    let bits = bits_found(found);
+    match found {
+        Looked::Absent => Located::Refused(Refusal::NoSuchBlock),
+        Looked::Freed => Located::Refused(Refusal::AlreadyFree),
+        Looked::Present(b) => {
+            if handle % 16 != bits {
+                return Located::Refused(Refusal::Stale);
+            }
+            match inspect(row, arena, b) {
+                Damage::Intact => Located::At(b),
+                Damage::Damaged(r) => Located::Refused(r),
+            }
+        }
+    }
+}
+
+// The block of a handle, if it is live, the handle its present one, and undamaged.
+pub fn locate(row: usize, arena: &[u8], room: &[u8], handle: usize) -> Located
     requires { ⌜ sound row (length (now arena)) (now room) ≡ true ⌝ }
     requires { ⌜ Lawful row ⌝ }
-    ensures { λ r. ⌜ r ≡ located row (now (arena .entry)) (lookup row (view row (now (room .entry))) offset) ⌝ }
+    ensures { λ r. ⌜ r ≡ located row (now (arena .entry)) handle (lookup row (view row (now (room .entry))) (startOf handle)) ⌝ }
 {
     judge(
         row,
         arena,
-        search::find_block(row, arena.len(), room, offset),
+        search::find_block(row, arena.len(), room, start_in(handle)),
+        handle,
     )
 }
 
@@ -300,11 +345,16 @@ fn resize_by_move(
             totals: t,
         };
     };
-    let start = lay_out(row, arena, q);
-    mem::copy_within(arena, start_of(row, b), start, lesser(b.alloc.size, n));
+    let handle = lay_out(row, arena, q);
+    mem::copy_within(
+        arena,
+        start_of(row, b),
+        start_of(row, q),
+        lesser(b.alloc.size, n),
+    );
     let left = discard(row, arena, room, s, b);
     Answered {
-        reply: Reply::Done(start),
+        reply: Reply::Done(handle),
         totals: left,
     }
 }
@@ -344,7 +394,7 @@ pub fn change_size(
     if stays_in(b, n) {
         let sized = resize_in_place(row, arena, room, t, b, n);
         return Answered {
-            reply: Reply::Done(start_of(row, b)),
+            reply: Reply::Done(handle_of(row, b)),
             totals: sized,
         };
     }

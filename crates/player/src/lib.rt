@@ -80,10 +80,10 @@ pub fn perform(arena: &mut [u8], room: &mut [u8], t: Totals, trace: &[u8], op: O
 {
     match op {
         Op::Grant(n) => tell(pool::grant(arena, room, t, n)),
-        Op::Release(offset) => tell(pool::release(arena, room, t, offset)),
-        Op::Resize(offset, n) => tell(pool::resize(arena, room, t, offset, n)),
-        Op::Measure(offset) => Played {
-            told: Told::One(pool::measure(arena, room, t, offset)),
+        Op::Release(handle) => tell(pool::release(arena, room, t, handle)),
+        Op::Resize(handle, n) => tell(pool::resize(arena, room, t, handle, n)),
+        Op::Measure(handle) => Played {
+            told: Told::One(pool::measure(arena, room, t, handle)),
             totals: t,
         },
         Op::Store { offset, from, to } => {

@@ -8,7 +8,7 @@ use Rattle.model.specs.declared.Refusal.{Refusal}
 use Rattle.model.specs.declared.Refusal.the-variants.{NoRoom, TooLong, BadProposal}
 use Rattle.model.specs.declared.Reply.{Reply}
 use Rattle.model.specs.declared.Answered.{Answered}
-use Rattle.model.specs.State.{Place, start}
+use Rattle.model.specs.State.{Place, handle}
 use Rattle.model.specs.Answers.{Answer, listDone, refusal, replyAnswer}
 use Rattle.model.specs.Proposals.{entries, accepts, plannable, fullCaps, planned}
 use Rattle.model.specs.Plans.{grantsList, plan, refused, reserveAll, poolAfter, enframe, grantAllAt, grantList, totals}
@@ -112,7 +112,7 @@ module _ {row : ℕ} {t : KeptBytes} (a : List ℕ) (r : Checked row a t) (total
       pub record Whole : Type 0 where
         pub number : 0 ≡ asked .answer .number
         pub values : length ns ∷ [] ≡ asked .answer .values
-        pub lent : map (start row) (granted (reserveAll row (view row (t .tables)) ns)) ≡ asked .answer .lent
+        pub lent : map (handle row) (granted (reserveAll row (view row (t .tables)) ns)) ≡ asked .answer .lent
         pub arena : written a (map (enframe row) (granted (reserveAll row (view row (t .tables)) ns))) ≡ asked .arena
         pub room : encode row (poolAfter (view row (t .tables)) (granted (reserveAll row (view row (t .tables)) ns))) ≡ asked .room .tables
         pub counts : totals row (poolAfter (view row (t .tables)) (granted (reserveAll row (view row (t .tables)) ns))) ≡ asked .room .totals
@@ -126,12 +126,12 @@ module _ {row : ℕ} {t : KeptBytes} (a : List ℕ) (r : Checked row a t) (total
               let d : asked ≡ applied (engine row) a (grantAllAt row (view row (t .tables)) (some qs)) =
               tried ∙ ap (λ o. carried row a t (grantAllAt row (view row (t .tables)) o)) f ∙ carried-whole row a t
               (grantAllAt row (view row (t .tables)) (some qs)) refl in
-              let n : length (map (start row) qs) ≡ length ns =
+              let n : length (map (handle row) qs) ≡ length ns =
               places-counted row (view row (t .tables)) ns qs (facts (r .room) .formed) (accepts-small total cap ns (true-T (accepts total cap ns) k)) f in
               record {
                 number = sym (ap (λ (r : Result). r .answer .number) d);
                 values = ap (λ m. m ∷ []) (sym n) ∙ sym (ap (λ (r : Result). r .answer .values) d);
-                lent = ap (λ o. map (start row) (granted o)) f ∙ sym (ap (λ (r : Result). r .answer .lent) d);
+                lent = ap (λ o. map (handle row) (granted o)) f ∙ sym (ap (λ (r : Result). r .answer .lent) d);
                 arena = ap (λ o. written a (map (enframe row) (granted o))) f ∙ sym (ap (λ (r : Result). r .arena) d);
                 room = ap (λ o. encode row (poolAfter (view row (t .tables)) (granted o))) f ∙ sym (ap (λ (r : Result). r .room .tables) d);
                 counts = ap (λ o. totals row (poolAfter (view row (t .tables)) (granted o))) f ∙ sym (ap (λ (r : Result). r .room .totals) d);

@@ -104,9 +104,9 @@ fn grant_as(arena: &mut [u8], room: &mut [u8], t: Totals, code: u8, n: usize) ->
     let Reserved::Taken(b, taken) = ops::reserve_slot(classes::ROW, len, room, t, code, n) else {
         return refused(Refusal::NoRoom, t);
     };
-    let start = ops::lay_out(classes::ROW, arena, b);
+    let handle = ops::lay_out(classes::ROW, arena, b);
     Answered {
-        reply: Reply::Done(start),
+        reply: Reply::Done(handle),
         totals: taken,
     }
 }
@@ -148,16 +148,16 @@ pub fn grant_aligned(
 }
 
 // Release: the slot waits and its bytes become zero, or the group goes with its last live slot.
-pub fn release(arena: &mut [u8], room: &mut [u8], t: Totals, offset: usize) -> Answered
-    ensures { λ r. ⌜ replyAnswer (r .reply) ≡ call rowBytes (now (arena .entry)) (keptIn (now (room .entry)) t) (releases offset) .answer ⌝ }
-    ensures { λ r. ⌜ now (arena .exit) ≡ call rowBytes (now (arena .entry)) (keptIn (now (room .entry)) t) (releases offset) .arena ⌝ }
-    ensures { λ r. ⌜ now (room .exit) ≡ call rowBytes (now (arena .entry)) (keptIn (now (room .entry)) t) (releases offset) .room .tables ⌝ }
-    ensures { λ r. ⌜ r .totals ≡ call rowBytes (now (arena .entry)) (keptIn (now (room .entry)) t) (releases offset) .room .totals ⌝ }
+pub fn release(arena: &mut [u8], room: &mut [u8], t: Totals, handle: usize) -> Answered
+    ensures { λ r. ⌜ replyAnswer (r .reply) ≡ call rowBytes (now (arena .entry)) (keptIn (now (room .entry)) t) (releases handle) .answer ⌝ }
+    ensures { λ r. ⌜ now (arena .exit) ≡ call rowBytes (now (arena .entry)) (keptIn (now (room .entry)) t) (releases handle) .arena ⌝ }
+    ensures { λ r. ⌜ now (room .exit) ≡ call rowBytes (now (arena .entry)) (keptIn (now (room .entry)) t) (releases handle) .room .tables ⌝ }
+    ensures { λ r. ⌜ r .totals ≡ call rowBytes (now (arena .entry)) (keptIn (now (room .entry)) t) (releases handle) .room .totals ⌝ }
 {
     if !soundness::sound(classes::ROW, arena.len(), room, t) {
         return refused(Refusal::Unsound, t);
     }
-    match ops::locate(classes::ROW, arena, room, offset) {
+    match ops::locate(classes::ROW, arena, room, handle) {
         Located::At(b) => {
             let left = ops::discard(classes::ROW, arena, room, t, b);
             Answered {
@@ -170,35 +170,35 @@ pub fn release(arena: &mut [u8], room: &mut [u8], t: Totals, offset: usize) -> A
 }
 
 // Resize: in place where the block's slot serves the new size, or else by a move.
-pub fn resize(arena: &mut [u8], room: &mut [u8], t: Totals, offset: usize, n: usize) -> Answered
-    ensures { λ r. ⌜ replyAnswer (r .reply) ≡ call rowBytes (now (arena .entry)) (keptIn (now (room .entry)) t) (resizes offset n) .answer ⌝ }
-    ensures { λ r. ⌜ now (arena .exit) ≡ call rowBytes (now (arena .entry)) (keptIn (now (room .entry)) t) (resizes offset n) .arena ⌝ }
-    ensures { λ r. ⌜ now (room .exit) ≡ call rowBytes (now (arena .entry)) (keptIn (now (room .entry)) t) (resizes offset n) .room .tables ⌝ }
-    ensures { λ r. ⌜ r .totals ≡ call rowBytes (now (arena .entry)) (keptIn (now (room .entry)) t) (resizes offset n) .room .totals ⌝ }
+pub fn resize(arena: &mut [u8], room: &mut [u8], t: Totals, handle: usize, n: usize) -> Answered
+    ensures { λ r. ⌜ replyAnswer (r .reply) ≡ call rowBytes (now (arena .entry)) (keptIn (now (room .entry)) t) (resizes handle n) .answer ⌝ }
+    ensures { λ r. ⌜ now (arena .exit) ≡ call rowBytes (now (arena .entry)) (keptIn (now (room .entry)) t) (resizes handle n) .arena ⌝ }
+    ensures { λ r. ⌜ now (room .exit) ≡ call rowBytes (now (arena .entry)) (keptIn (now (room .entry)) t) (resizes handle n) .room .tables ⌝ }
+    ensures { λ r. ⌜ r .totals ≡ call rowBytes (now (arena .entry)) (keptIn (now (room .entry)) t) (resizes handle n) .room .totals ⌝ }
 {
     let len = arena.len();
     if !soundness::sound(classes::ROW, len, room, t) {
         return refused(Refusal::Unsound, t);
     }
-    // The size goes by the alignment of a live block, before its damage is looked at.
-    let found = search::find_block(classes::ROW, len, room, offset);
+    // The size goes by the alignment of a live block, before the handle's bits and the block's damage are looked at.
+    let found = search::find_block(classes::ROW, len, room, ops::start_in(handle));
     if classes::too_large(ops::code_found(found), n) {
         return refused(Refusal::TooLarge, t);
     }
-    match ops::judge(classes::ROW, arena, found) {
+    match ops::judge(classes::ROW, arena, found, handle) {
         Located::At(b) => ops::change_size(classes::ROW, arena, room, t, b, n),
         Located::Refused(r) => refused(r, t),
     }
 }
 
 // Measure: the requested size.
-pub fn measure(arena: &[u8], room: &[u8], t: Totals, offset: usize) -> Reply
-    ensures { λ r. ⌜ replyAnswer r ≡ call rowBytes (now (arena .entry)) (keptIn (now (room .entry)) t) (measures offset) .answer ⌝ }
+pub fn measure(arena: &[u8], room: &[u8], t: Totals, handle: usize) -> Reply
+    ensures { λ r. ⌜ replyAnswer r ≡ call rowBytes (now (arena .entry)) (keptIn (now (room .entry)) t) (measures handle) .answer ⌝ }
 {
     if !soundness::sound(classes::ROW, arena.len(), room, t) {
         return Reply::Refused(Refusal::Unsound);
     }
-    match ops::locate(classes::ROW, arena, room, offset) {
+    match ops::locate(classes::ROW, arena, room, handle) {
         Located::At(b) => Reply::Done(b.alloc.size),
         Located::Refused(r) => Reply::Refused(r),
     }
@@ -235,7 +235,7 @@ pub fn plan_list(total: usize, cap: usize, sizes: &mut [usize; 17]) -> Reply
     Reply::Done(count)
 }
 
-// Grant list: the sizes of an accepted proposal, all granted or none; the starts to the front of a lent list, and the value is their number.
+// Grant list: the sizes of an accepted proposal, all granted or none; the handles to the front of a lent list, and the value is their number.
 // It is found first whether all of them fit; only then is anything written.
 pub fn grant_list(
     arena: &mut [u8],
@@ -244,20 +244,20 @@ pub fn grant_list(
     total: usize,
     cap: usize,
     sizes: &[usize],
-    starts: &mut [usize],
+    handles: &mut [usize],
 ) -> Answered
     ensures { λ r. ⌜ replyAnswer (r .reply) .number ≡ call rowBytes (now (arena .entry)) (keptIn (now (room .entry)) t)
-        (grantsList «total» cap (length (now (starts .entry))) (now (sizes .entry))) .answer .number ⌝ }
+        (grantsList «total» cap (length (now (handles .entry))) (now (sizes .entry))) .answer .number ⌝ }
     ensures { λ r. ⌜ replyAnswer (r .reply) .values ≡ call rowBytes (now (arena .entry)) (keptIn (now (room .entry)) t)
-        (grantsList «total» cap (length (now (starts .entry))) (now (sizes .entry))) .answer .values ⌝ }
-    ensures { λ r. ⌜ now (starts .exit) ≡ put 0 (call rowBytes (now (arena .entry)) (keptIn (now (room .entry)) t)
-        (grantsList «total» cap (length (now (starts .entry))) (now (sizes .entry))) .answer .lent) (now (starts .entry)) ⌝ }
+        (grantsList «total» cap (length (now (handles .entry))) (now (sizes .entry))) .answer .values ⌝ }
+    ensures { λ r. ⌜ now (handles .exit) ≡ put 0 (call rowBytes (now (arena .entry)) (keptIn (now (room .entry)) t)
+        (grantsList «total» cap (length (now (handles .entry))) (now (sizes .entry))) .answer .lent) (now (handles .entry)) ⌝ }
     ensures { λ r. ⌜ now (arena .exit) ≡ call rowBytes (now (arena .entry)) (keptIn (now (room .entry)) t)
-        (grantsList «total» cap (length (now (starts .entry))) (now (sizes .entry))) .arena ⌝ }
+        (grantsList «total» cap (length (now (handles .entry))) (now (sizes .entry))) .arena ⌝ }
     ensures { λ r. ⌜ now (room .exit) ≡ call rowBytes (now (arena .entry)) (keptIn (now (room .entry)) t)
-        (grantsList «total» cap (length (now (starts .entry))) (now (sizes .entry))) .room .tables ⌝ }
+        (grantsList «total» cap (length (now (handles .entry))) (now (sizes .entry))) .room .tables ⌝ }
     ensures { λ r. ⌜ r .totals ≡ call rowBytes (now (arena .entry)) (keptIn (now (room .entry)) t)
-        (grantsList «total» cap (length (now (starts .entry))) (now (sizes .entry))) .room .totals ⌝ }
+        (grantsList «total» cap (length (now (handles .entry))) (now (sizes .entry))) .room .totals ⌝ }
 {
     let len = arena.len();
     if !soundness::sound(classes::ROW, len, room, t) {
@@ -266,7 +266,7 @@ pub fn grant_list(
     if !proposals::plannable(total, cap) {
         return refused(Refusal::TooLong, t);
     }
-    if starts.len() < proposals::ENTRIES {
+    if handles.len() < proposals::ENTRIES {
         return refused(Refusal::TooLong, t);
     }
     if !proposals::accepts(total, cap, sizes) {
@@ -275,7 +275,7 @@ pub fn grant_list(
     if !survey::fits(classes::ROW, len, room, sizes) {
         return refused(Refusal::NoRoom, t);
     }
-    let granted = lists::grant_all(classes::ROW, arena, room, t, sizes, starts);
+    let granted = lists::grant_all(classes::ROW, arena, room, t, sizes, handles);
     Answered {
         reply: Reply::Done(sizes.len()),
         totals: granted,

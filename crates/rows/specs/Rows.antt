@@ -10,7 +10,7 @@ use Rattle.mem.specs.Lists.{choose, every, any}
 use Rattle.classes.specs.Classes.{slotBytes, slotsOf, rowsOf}
 use Rattle.model.specs.declared.Holder.{Holder}
 use Rattle.model.specs.declared.Holder.the-variants.{Free, First, Later}
-use Rattle.model.specs.State.{Place, group, isLive, count, disp, size, align, slotSound, wellFormed, poolOf, slotNumber, rows}
+use Rattle.model.specs.State.{Place, group, isLive, count, disp, size, align, slotSound, wellFormed, useBits, poolOf, slotNumber, rows}
 use Rattle.model.specs.Plans.{Site}
 use Rattle.model.specs.Tables.{Layout, LayoutLaws, rowAt, arenaRight, encodeBy, soundBy}
 use Rattle.rows.specs.declared.Found.{Found}
@@ -64,7 +64,7 @@ module _ (row : ℕ) where
   siteFound none = Nothing
   siteFound (some s) = At (rows row (s .before))
 
-  -- a live slot's block, its start, and the first byte that its slot owns
+  -- a live slot's block, the first byte that its slot owns, its start, and its handle
   abbrev pub blockOf : Place → Block
   blockOf p = record {
     first = rows row (p .before);
@@ -78,6 +78,9 @@ module _ (row : ℕ) where
 
   abbrev pub startAt : Block → ℕ
   startAt b = row * b .first + 16 + b .slot * slotBytes (b .class) + 16 * b .alloc .disp
+
+  abbrev pub handleAt : Block → ℕ
+  handleAt b = startAt b + useBits (b .alloc .count)
 
 -- a room that is the form of the pool of a live place, whose block is b
 pub record Holds (L : Layout) (row : ℕ) (t : List ℕ) (b : Block) (p : Place) : Type 0 where

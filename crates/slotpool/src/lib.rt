@@ -140,13 +140,13 @@ pub extern "C" fn slotpool_grant_aligned(
     told.number
 }
 
-fn release_by(arena: &mut [u8], room: &mut [u8], t: Totals, offset: usize) -> Told
-    ensures { λ r. ⌜ r .number ≡ call rowBytes (now (arena .entry)) (keptIn (now (room .entry)) t) (releases offset) .answer .number ⌝ }
-    ensures { λ r. ⌜ now (arena .exit) ≡ call rowBytes (now (arena .entry)) (keptIn (now (room .entry)) t) (releases offset) .arena ⌝ }
-    ensures { λ r. ⌜ now (room .exit) ≡ call rowBytes (now (arena .entry)) (keptIn (now (room .entry)) t) (releases offset) .room .tables ⌝ }
-    ensures { λ r. ⌜ r .totals ≡ call rowBytes (now (arena .entry)) (keptIn (now (room .entry)) t) (releases offset) .room .totals ⌝ }
+fn release_by(arena: &mut [u8], room: &mut [u8], t: Totals, handle: usize) -> Told
+    ensures { λ r. ⌜ r .number ≡ call rowBytes (now (arena .entry)) (keptIn (now (room .entry)) t) (releases handle) .answer .number ⌝ }
+    ensures { λ r. ⌜ now (arena .exit) ≡ call rowBytes (now (arena .entry)) (keptIn (now (room .entry)) t) (releases handle) .arena ⌝ }
+    ensures { λ r. ⌜ now (room .exit) ≡ call rowBytes (now (arena .entry)) (keptIn (now (room .entry)) t) (releases handle) .room .tables ⌝ }
+    ensures { λ r. ⌜ r .totals ≡ call rowBytes (now (arena .entry)) (keptIn (now (room .entry)) t) (releases handle) .room .totals ⌝ }
 {
-    let r = pool::release(arena, room, t, offset);
+    let r = pool::release(arena, room, t, handle);
     let reply = r.reply;
     let totals = r.totals;
     Told {
@@ -160,16 +160,16 @@ pub extern "C" fn slotpool_release(
     arena: &mut [u8],
     room: &mut [u8],
     totals: &mut Totals,
-    offset: usize,
+    handle: usize,
 ) -> u32
-    ensures { λ r. ⌜ r ≡ call rowBytes (now (arena .entry)) (keptIn (now (room .entry)) (now (totals .entry))) (releases offset) .answer .number ⌝ }
-    ensures { λ r. ⌜ now (arena .exit) ≡ call rowBytes (now (arena .entry)) (keptIn (now (room .entry)) (now (totals .entry))) (releases offset) .arena ⌝ }
+    ensures { λ r. ⌜ r ≡ call rowBytes (now (arena .entry)) (keptIn (now (room .entry)) (now (totals .entry))) (releases handle) .answer .number ⌝ }
+    ensures { λ r. ⌜ now (arena .exit) ≡ call rowBytes (now (arena .entry)) (keptIn (now (room .entry)) (now (totals .entry))) (releases handle) .arena ⌝ }
     ensures { λ r. ⌜ now (room .exit) ≡ call rowBytes (now (arena .entry)) (keptIn (now (room .entry)) (now (totals .entry)))
-        (releases offset) .room .tables ⌝ }
+        (releases handle) .room .tables ⌝ }
     ensures { λ r. ⌜ now (totals .exit) ≡ call rowBytes (now (arena .entry)) (keptIn (now (room .entry)) (now (totals .entry)))
-        (releases offset) .room .totals ⌝ }
+        (releases handle) .room .totals ⌝ }
 {
-    let told = release_by(arena, room, *totals, offset);
+    let told = release_by(arena, room, *totals, handle);
     totals::record(totals, told.totals);
     told.number
 }
@@ -178,17 +178,17 @@ fn resize_by(
     arena: &mut [u8],
     room: &mut [u8],
     t: Totals,
-    offset: usize,
+    handle: usize,
     n: usize,
     value: &mut usize,
 ) -> Told
-    ensures { λ r. ⌜ r .number ≡ call rowBytes (now (arena .entry)) (keptIn (now (room .entry)) t) (resizes offset n) .answer .number ⌝ }
-    ensures { λ r. ⌜ now (value .exit) ≡ getD (call rowBytes (now (arena .entry)) (keptIn (now (room .entry)) t) (resizes offset n) .answer .values) 0 0 ⌝ }
-    ensures { λ r. ⌜ now (arena .exit) ≡ call rowBytes (now (arena .entry)) (keptIn (now (room .entry)) t) (resizes offset n) .arena ⌝ }
-    ensures { λ r. ⌜ now (room .exit) ≡ call rowBytes (now (arena .entry)) (keptIn (now (room .entry)) t) (resizes offset n) .room .tables ⌝ }
-    ensures { λ r. ⌜ r .totals ≡ call rowBytes (now (arena .entry)) (keptIn (now (room .entry)) t) (resizes offset n) .room .totals ⌝ }
+    ensures { λ r. ⌜ r .number ≡ call rowBytes (now (arena .entry)) (keptIn (now (room .entry)) t) (resizes handle n) .answer .number ⌝ }
+    ensures { λ r. ⌜ now (value .exit) ≡ getD (call rowBytes (now (arena .entry)) (keptIn (now (room .entry)) t) (resizes handle n) .answer .values) 0 0 ⌝ }
+    ensures { λ r. ⌜ now (arena .exit) ≡ call rowBytes (now (arena .entry)) (keptIn (now (room .entry)) t) (resizes handle n) .arena ⌝ }
+    ensures { λ r. ⌜ now (room .exit) ≡ call rowBytes (now (arena .entry)) (keptIn (now (room .entry)) t) (resizes handle n) .room .tables ⌝ }
+    ensures { λ r. ⌜ r .totals ≡ call rowBytes (now (arena .entry)) (keptIn (now (room .entry)) t) (resizes handle n) .room .totals ⌝ }
 {
-    let r = pool::resize(arena, room, t, offset, n);
+    let r = pool::resize(arena, room, t, handle, n);
     let reply = r.reply;
     let totals = r.totals;
     *value = answers::value_of(reply);
@@ -203,29 +203,29 @@ pub extern "C" fn slotpool_resize(
     arena: &mut [u8],
     room: &mut [u8],
     totals: &mut Totals,
-    offset: usize,
+    handle: usize,
     n: usize,
     value: &mut usize,
 ) -> u32
-    ensures { λ r. ⌜ r ≡ call rowBytes (now (arena .entry)) (keptIn (now (room .entry)) (now (totals .entry))) (resizes offset n) .answer .number ⌝ }
+    ensures { λ r. ⌜ r ≡ call rowBytes (now (arena .entry)) (keptIn (now (room .entry)) (now (totals .entry))) (resizes handle n) .answer .number ⌝ }
     ensures { λ r. ⌜ now (value .exit) ≡ getD (call rowBytes (now (arena .entry)) (keptIn (now (room .entry)) (now (totals .entry)))
-        (resizes offset n) .answer .values) 0 0 ⌝ }
-    ensures { λ r. ⌜ now (arena .exit) ≡ call rowBytes (now (arena .entry)) (keptIn (now (room .entry)) (now (totals .entry))) (resizes offset n) .arena ⌝ }
+        (resizes handle n) .answer .values) 0 0 ⌝ }
+    ensures { λ r. ⌜ now (arena .exit) ≡ call rowBytes (now (arena .entry)) (keptIn (now (room .entry)) (now (totals .entry))) (resizes handle n) .arena ⌝ }
     ensures { λ r. ⌜ now (room .exit) ≡ call rowBytes (now (arena .entry)) (keptIn (now (room .entry)) (now (totals .entry)))
-        (resizes offset n) .room .tables ⌝ }
+        (resizes handle n) .room .tables ⌝ }
     ensures { λ r. ⌜ now (totals .exit) ≡ call rowBytes (now (arena .entry)) (keptIn (now (room .entry)) (now (totals .entry)))
-        (resizes offset n) .room .totals ⌝ }
+        (resizes handle n) .room .totals ⌝ }
 {
-    let told = resize_by(arena, room, *totals, offset, n, value);
+    let told = resize_by(arena, room, *totals, handle, n, value);
     totals::record(totals, told.totals);
     told.number
 }
 
-fn measure_by(arena: &[u8], room: &[u8], t: Totals, offset: usize, value: &mut usize) -> u32
-    ensures { λ r. ⌜ r ≡ call rowBytes (now (arena .entry)) (keptIn (now (room .entry)) t) (measures offset) .answer .number ⌝ }
-    ensures { λ r. ⌜ now (value .exit) ≡ getD (call rowBytes (now (arena .entry)) (keptIn (now (room .entry)) t) (measures offset) .answer .values) 0 0 ⌝ }
+fn measure_by(arena: &[u8], room: &[u8], t: Totals, handle: usize, value: &mut usize) -> u32
+    ensures { λ r. ⌜ r ≡ call rowBytes (now (arena .entry)) (keptIn (now (room .entry)) t) (measures handle) .answer .number ⌝ }
+    ensures { λ r. ⌜ now (value .exit) ≡ getD (call rowBytes (now (arena .entry)) (keptIn (now (room .entry)) t) (measures handle) .answer .values) 0 0 ⌝ }
 {
-    let r = pool::measure(arena, room, t, offset);
+    let r = pool::measure(arena, room, t, handle);
     *value = answers::value_of(r);
     answers::number_of(r)
 }
@@ -235,14 +235,14 @@ pub extern "C" fn slotpool_measure(
     arena: &[u8],
     room: &[u8],
     totals: &Totals,
-    offset: usize,
+    handle: usize,
     value: &mut usize,
 ) -> u32
-    ensures { λ r. ⌜ r ≡ call rowBytes (now (arena .entry)) (keptIn (now (room .entry)) (now (totals .entry))) (measures offset) .answer .number ⌝ }
+    ensures { λ r. ⌜ r ≡ call rowBytes (now (arena .entry)) (keptIn (now (room .entry)) (now (totals .entry))) (measures handle) .answer .number ⌝ }
     ensures { λ r. ⌜ now (value .exit) ≡ getD (call rowBytes (now (arena .entry)) (keptIn (now (room .entry)) (now (totals .entry)))
-        (measures offset) .answer .values) 0 0 ⌝ }
+        (measures handle) .answer .values) 0 0 ⌝ }
 {
-    measure_by(arena, room, *totals, offset, value)
+    measure_by(arena, room, *totals, handle, value)
 }
 
 fn report_by(arena: &[u8], room: &[u8], t: Totals) -> Told
@@ -307,23 +307,23 @@ fn grant_list_by(
     total: usize,
     cap: usize,
     sizes: &[usize],
-    starts: &mut [usize],
+    handles: &mut [usize],
     value: &mut usize,
 ) -> Told
     ensures { λ r. ⌜ r .number ≡ call rowBytes (now (arena .entry)) (keptIn (now (room .entry)) t)
-        (grantsList «total» cap (length (now (starts .entry))) (now (sizes .entry))) .answer .number ⌝ }
+        (grantsList «total» cap (length (now (handles .entry))) (now (sizes .entry))) .answer .number ⌝ }
     ensures { λ r. ⌜ now (value .exit) ≡ getD (call rowBytes (now (arena .entry)) (keptIn (now (room .entry)) t)
-        (grantsList «total» cap (length (now (starts .entry))) (now (sizes .entry))) .answer .values) 0 0 ⌝ }
-    ensures { λ r. ⌜ now (starts .exit) ≡ put 0 (call rowBytes (now (arena .entry)) (keptIn (now (room .entry)) t)
-        (grantsList «total» cap (length (now (starts .entry))) (now (sizes .entry))) .answer .lent) (now (starts .entry)) ⌝ }
+        (grantsList «total» cap (length (now (handles .entry))) (now (sizes .entry))) .answer .values) 0 0 ⌝ }
+    ensures { λ r. ⌜ now (handles .exit) ≡ put 0 (call rowBytes (now (arena .entry)) (keptIn (now (room .entry)) t)
+        (grantsList «total» cap (length (now (handles .entry))) (now (sizes .entry))) .answer .lent) (now (handles .entry)) ⌝ }
     ensures { λ r. ⌜ now (arena .exit) ≡ call rowBytes (now (arena .entry)) (keptIn (now (room .entry)) t)
-        (grantsList «total» cap (length (now (starts .entry))) (now (sizes .entry))) .arena ⌝ }
+        (grantsList «total» cap (length (now (handles .entry))) (now (sizes .entry))) .arena ⌝ }
     ensures { λ r. ⌜ now (room .exit) ≡ call rowBytes (now (arena .entry)) (keptIn (now (room .entry)) t)
-        (grantsList «total» cap (length (now (starts .entry))) (now (sizes .entry))) .room .tables ⌝ }
+        (grantsList «total» cap (length (now (handles .entry))) (now (sizes .entry))) .room .tables ⌝ }
     ensures { λ r. ⌜ r .totals ≡ call rowBytes (now (arena .entry)) (keptIn (now (room .entry)) t)
-        (grantsList «total» cap (length (now (starts .entry))) (now (sizes .entry))) .room .totals ⌝ }
+        (grantsList «total» cap (length (now (handles .entry))) (now (sizes .entry))) .room .totals ⌝ }
 {
-    let r = pool::grant_list(arena, room, t, total, cap, sizes, starts);
+    let r = pool::grant_list(arena, room, t, total, cap, sizes, handles);
     let reply = r.reply;
     let totals = r.totals;
     *value = answers::value_of(reply);
@@ -341,23 +341,23 @@ pub extern "C" fn slotpool_grant_list(
     total: usize,
     cap: usize,
     sizes: &[usize],
-    starts: &mut [usize],
+    handles: &mut [usize],
     value: &mut usize,
 ) -> u32
     ensures { λ r. ⌜ r ≡ call rowBytes (now (arena .entry)) (keptIn (now (room .entry)) (now (totals .entry)))
-        (grantsList «total» cap (length (now (starts .entry))) (now (sizes .entry))) .answer .number ⌝ }
+        (grantsList «total» cap (length (now (handles .entry))) (now (sizes .entry))) .answer .number ⌝ }
     ensures { λ r. ⌜ now (value .exit) ≡ getD (call rowBytes (now (arena .entry)) (keptIn (now (room .entry)) (now (totals .entry)))
-        (grantsList «total» cap (length (now (starts .entry))) (now (sizes .entry))) .answer .values) 0 0 ⌝ }
-    ensures { λ r. ⌜ now (starts .exit) ≡ put 0 (call rowBytes (now (arena .entry)) (keptIn (now (room .entry)) (now (totals .entry)))
-        (grantsList «total» cap (length (now (starts .entry))) (now (sizes .entry))) .answer .lent) (now (starts .entry)) ⌝ }
+        (grantsList «total» cap (length (now (handles .entry))) (now (sizes .entry))) .answer .values) 0 0 ⌝ }
+    ensures { λ r. ⌜ now (handles .exit) ≡ put 0 (call rowBytes (now (arena .entry)) (keptIn (now (room .entry)) (now (totals .entry)))
+        (grantsList «total» cap (length (now (handles .entry))) (now (sizes .entry))) .answer .lent) (now (handles .entry)) ⌝ }
     ensures { λ r. ⌜ now (arena .exit) ≡ call rowBytes (now (arena .entry)) (keptIn (now (room .entry)) (now (totals .entry)))
-        (grantsList «total» cap (length (now (starts .entry))) (now (sizes .entry))) .arena ⌝ }
+        (grantsList «total» cap (length (now (handles .entry))) (now (sizes .entry))) .arena ⌝ }
     ensures { λ r. ⌜ now (room .exit) ≡ call rowBytes (now (arena .entry)) (keptIn (now (room .entry)) (now (totals .entry)))
-        (grantsList «total» cap (length (now (starts .entry))) (now (sizes .entry))) .room .tables ⌝ }
+        (grantsList «total» cap (length (now (handles .entry))) (now (sizes .entry))) .room .tables ⌝ }
     ensures { λ r. ⌜ now (totals .exit) ≡ call rowBytes (now (arena .entry)) (keptIn (now (room .entry)) (now (totals .entry)))
-        (grantsList «total» cap (length (now (starts .entry))) (now (sizes .entry))) .room .totals ⌝ }
+        (grantsList «total» cap (length (now (handles .entry))) (now (sizes .entry))) .room .totals ⌝ }
 {
-    let told = grant_list_by(arena, room, *totals, total, cap, sizes, starts, value);
+    let told = grant_list_by(arena, room, *totals, total, cap, sizes, handles, value);
     totals::record(totals, told.totals);
     told.number
 }

@@ -40,6 +40,9 @@ sheet =
     ∷ written (grant 160 ∷ report ∷ store 16 (7 ∷ 9 ∷ []) ∷ resize 16 188 ∷ measure 16 ∷ grant 160 ∷ release 16 ∷ release 16 ∷ report ∷ [])
     (gives 16 ∷ told (done (1 ∷ 160 ∷ 8 ∷ 24 ∷ 20 ∷ 0 ∷ [])) ∷ gives 0 ∷ gives 16 ∷ gives 188 ∷ gives 208 ∷ gives 0 ∷ refuses 5
     ∷ told (done (1 ∷ 160 ∷ 8 ∷ 24 ∷ 19 ∷ 1 ∷ [])) ∷ [])
+    -- 02 §7: blocks by their handles, a store by its place in the arena: 17 is a block granted again at 16, and the byte behind its first
+    ∷ written (grant 2028 ∷ grant 2028 ∷ release 16 ∷ grant 2028 ∷ store 17 (7 ∷ []) ∷ release 16 ∷ measure 16 ∷ resize 16 7 ∷ measure 17 ∷ release 17 ∷ [])
+    (gives 16 ∷ gives 2048 ∷ gives 0 ∷ gives 17 ∷ gives 0 ∷ refuses 10 ∷ refuses 10 ∷ refuses 10 ∷ gives 2028 ∷ gives 0 ∷ [])
     -- stores may lie anywhere: a wrong header, a wrong guard
     ∷ written (grant 160 ∷ store 13 (1 ∷ []) ∷ release 16 ∷ store 13 (160 ∷ []) ∷ store 199 (1 ∷ []) ∷ measure 16 ∷ [])
     (gives 16 ∷ gives 0 ∷ refuses 6 ∷ gives 0 ∷ gives 0 ∷ refuses 7 ∷ [])

@@ -14,9 +14,9 @@ use Rattle.trace.specs.declared.Step.the-variants.{Record, Bad, End}
 -- "Operations: 1 grant n, 2 release offset, 3 resize offset n, 4 measure offset, 5 store offset and the bytes that follow, 6 report."
 pub data Operation : Type 0 where
   grant : (n : ℕ) → Operation
-  release : (offset : ℕ) → Operation
-  resize : (offset n : ℕ) → Operation
-  measure : (offset : ℕ) → Operation
+  release : (handle : ℕ) → Operation
+  resize : (handle n : ℕ) → Operation
+  measure : (handle : ℕ) → Operation
   store : (offset : ℕ) (bytes : List ℕ) → Operation
   report : Operation
 

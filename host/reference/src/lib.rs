@@ -48,6 +48,11 @@ pub fn rows_of(class: usize) -> usize {
     (16 + slot_bytes(class) * slots_of(class)).div_ceil(ROW)
 }
 
+/// The start of a handle: its low four bits are a use count.
+pub fn start_of(handle: usize) -> usize {
+    handle - handle % 16
+}
+
 #[derive(Clone, Copy, Debug, PartialEq, Eq)]
 pub enum State {
     Ready,
@@ -68,6 +73,11 @@ pub struct Slot {
 
 impl Slot {
     const NEVER_GRANTED: Slot = Slot { state: State::Ready, last: None, count: 0, size: 0, align: ORDINARY };
+
+    /// The handle of a live block that starts somewhere: its own grant is the last that was counted.
+    pub fn handle(&self, start: usize) -> usize {
+        start + self.count.wrapping_sub(1) as usize % 16
+    }
 }
 
 #[derive(Clone, Debug, PartialEq, Eq)]
@@ -333,15 +343,16 @@ impl Reference {
         } else {
             (begin.next_multiple_of(align) - begin) / 16
         };
-        g.slots[i] = Slot { state: State::Live, last: Some(d), count: g.slots[i].count.wrapping_add(1), size: n, align };
+        let before = g.slots[i].count;
+        g.slots[i] = Slot { state: State::Live, last: Some(d), count: before.wrapping_add(1), size: n, align };
         self.arena[begin - 4..begin - 4 + s].fill(0);
         self.mark(At { group, slot: i });
-        Ok(begin + 16 * d)
+        Ok(begin + 16 * d + before as usize % 16)
     }
 
     /// Grants the sizes of a proposal on a copy of the pool, which is kept if all of them were granted.
-    pub fn grant_list(&mut self, length: usize, cap: usize, sizes: &[usize], starts: &mut [usize]) -> Result<usize, Refusal> {
-        if too_long(length, cap) || starts.len() < ENTRIES {
+    pub fn grant_list(&mut self, length: usize, cap: usize, sizes: &[usize], handles: &mut [usize]) -> Result<usize, Refusal> {
+        if too_long(length, cap) || handles.len() < ENTRIES {
             return Err(Refusal::TooLong);
         }
         if !check_list(length, cap, sizes) {
@@ -349,7 +360,7 @@ impl Reference {
         }
         let mut copy = self.clone();
         let granted = sizes.iter().map(|&n| copy.grant(n)).collect::<Result<Vec<usize>, Refusal>>()?;
-        starts[..granted.len()].copy_from_slice(&granted);
+        handles[..granted.len()].copy_from_slice(&granted);
         *self = copy;
         Ok(granted.len())
     }
@@ -406,12 +417,12 @@ impl Reference {
         g
     }
 
-    /// The slot whose last start an offset is. There is at most one.
-    fn find(&self, offset: usize) -> Option<At> {
-        let mut found = None;
+    /// The slot whose last start is that of a handle. There is at most one.
+    fn find(&self, handle: usize) -> Option<At> {
+        let (mut found, start) = (None, start_of(handle));
         for (group, g) in self.groups.iter().enumerate() {
             for (slot, s) in g.slots.iter().enumerate() {
-                if s.last.is_some_and(|d| g.beginning(slot) + 16 * d == offset) {
+                if s.last.is_some_and(|d| g.beginning(slot) + 16 * d == start) {
                     found = Some(At { group, slot });
                 }
             }
@@ -419,18 +430,23 @@ impl Reference {
         found
     }
 
-    /// The alignment of the live block at an offset; [`ORDINARY`] for any other offset.
-    pub fn alignment(&self, offset: usize) -> usize {
-        self.find(offset).map_or(ORDINARY, |at| self.groups[at.group].slots[at.slot].align)
+    /// The alignment of the live block at the start of a handle; [`ORDINARY`] for any other start.
+    pub fn alignment(&self, handle: usize) -> usize {
+        self.find(handle).map_or(ORDINARY, |at| self.groups[at.group].slots[at.slot].align)
     }
 
-    /// The live, undamaged block at an offset.
-    fn block(&self, offset: usize) -> Result<At, Refusal> {
-        let at = self.find(offset).ok_or(Refusal::NoSuchBlock)?;
-        if self.groups[at.group].slots[at.slot].state != State::Live {
+    /// The live, undamaged block whose handle this is.
+    fn block(&self, handle: usize) -> Result<At, Refusal> {
+        let at = self.find(handle).ok_or(Refusal::NoSuchBlock)?;
+        let slot = self.groups[at.group].slots[at.slot];
+        if slot.state != State::Live {
             return Err(Refusal::AlreadyFree);
         }
-        if self.arena[offset - 4..offset] != self.header(at) {
+        let start = self.start(at);
+        if slot.handle(start) != handle {
+            return Err(Refusal::Stale);
+        }
+        if self.arena[start - 4..start] != self.header(at) {
             return Err(Refusal::HeaderDamaged);
         }
         let end = self.end(at);
@@ -456,35 +472,35 @@ impl Reference {
         }
     }
 
-    pub fn release(&mut self, offset: usize) -> Result<(), Refusal> {
-        let at = self.block(offset)?;
+    pub fn release(&mut self, handle: usize) -> Result<(), Refusal> {
+        let at = self.block(handle)?;
         self.give_back(at);
         Ok(())
     }
 
-    pub fn resize(&mut self, offset: usize, n: usize) -> Result<usize, Refusal> {
-        // the alignment of a live block counts before it is known whether there is one, undamaged
-        let align = self.alignment(offset);
+    pub fn resize(&mut self, handle: usize, n: usize) -> Result<usize, Refusal> {
+        // the alignment of a live block counts before it is known whether there is one, with this handle and undamaged
+        let align = self.alignment(handle);
         let size = enlarged(n, align).ok_or(Refusal::TooLarge)?;
-        let at = self.block(offset)?;
+        let at = self.block(handle)?;
         let g = &self.groups[at.group];
         let kept = g.slots[at.slot].size.min(n);
-        let end = self.end(at);
-        if offset + n <= end && serves(g.class, size) {
+        let (start, end) = (self.start(at), self.end(at));
+        if start + n <= end && serves(g.class, size) {
             self.groups[at.group].slots[at.slot].size = n;
-            self.arena[offset + kept..end].fill(0);
+            self.arena[start + kept..end].fill(0);
             self.mark(at);
-            return Ok(offset);
+            return Ok(handle);
         }
-        let start = self.grant_as(n, align)?;
-        self.arena.copy_within(offset..offset + kept, start);
-        let old = self.block(offset).expect("the old block is live and undamaged");
+        let moved = self.grant_as(n, align)?;
+        self.arena.copy_within(start..start + kept, start_of(moved));
+        let old = self.block(handle).expect("the old block is live and undamaged");
         self.give_back(old);
-        Ok(start)
+        Ok(moved)
     }
 
-    pub fn measure(&self, offset: usize) -> Result<usize, Refusal> {
-        let at = self.block(offset)?;
+    pub fn measure(&self, handle: usize) -> Result<usize, Refusal> {
+        let at = self.block(handle)?;
         Ok(self.groups[at.group].slots[at.slot].size)
     }
 
@@ -493,13 +509,13 @@ impl Reference {
         count(self.arena.len() / ROW, &self.groups)
     }
 
-    /// Every live block: start and size.
+    /// Every live block: handle and size.
     pub fn live(&self) -> Vec<(usize, usize)> {
         let mut blocks = Vec::new();
         for g in &self.groups {
             for (i, s) in g.slots.iter().enumerate() {
                 if let (State::Live, Some(d)) = (s.state, s.last) {
-                    blocks.push((g.beginning(i) + 16 * d, s.size));
+                    blocks.push((s.handle(g.beginning(i) + 16 * d), s.size));
                 }
             }
         }

@@ -20,9 +20,9 @@ pub fn replay(trace: &[u8]) -> Vec<u8> {
 fn answer(pool: &mut Reference, op: &Op) -> Option<String> {
     let value = match *op {
         Op::Grant(n) => pool.grant(n as usize),
-        Op::Release(offset) => pool.release(offset as usize).map(|()| 0),
-        Op::Resize(offset, n) => pool.resize(offset as usize, n as usize),
-        Op::Measure(offset) => pool.measure(offset as usize),
+        Op::Release(handle) => pool.release(handle as usize).map(|()| 0),
+        Op::Resize(handle, n) => pool.resize(handle as usize, n as usize),
+        Op::Measure(handle) => pool.measure(handle as usize),
         Op::Store(offset, ref bytes) => {
             let from = offset as usize;
             pool.arena.get_mut(from..from + bytes.len())?.copy_from_slice(bytes);

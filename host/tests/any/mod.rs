@@ -1,38 +1,29 @@
 //! Any bytes and numbers, lent to the library.
 
 use crate::common::{lent, Answer, Both, Buffers, Call, List};
-use crate::random::{next_call, Numbers};
 use slotpool::Refusal;
 use slotpool_reference::{Reference, Tables};
 use std::fmt::Arguments;
 
-/// The byte that stands in an arena before set up.
-pub const OLD: u8 = 0xA5;
-
-/// No store: blocks stay undamaged and groups live long.
-pub fn no_store(_: &mut Numbers, _: &Both) -> Option<Call> {
-    None
-}
-
-/// A pool after a thousand random calls, and as many more as it takes to have a live block.
-pub fn sample(seed: u64, arena_len: usize) -> Both {
-    let mut numbers = Numbers::new(seed);
-    let mut both = Both::new(arena_len, OLD);
-    let mut made = 0;
-    while made < 1000 || both.second.live().is_empty() {
-        both.call(next_call(&mut numbers, &both, no_store)).unwrap();
-        made += 1;
-    }
-    both
-}
-
-/// Every call but set up: those on a block with that block, grants of its size, a list of two of its size, and an aligned grant and a list with
-/// everything wrong.
-pub fn calls_on((start, n): (usize, usize)) -> [Call; 9] {
-    let size = n.max(1);
+/// Every call but set up: those on a block with its handle, a release and a resize with other bits, grants of its size, a list of two of its size,
+/// and an aligned grant and a list with everything wrong.
+pub fn calls_on((handle, n): (usize, usize)) -> [Call; 11] {
+    let (size, other) = (n.max(1), handle ^ 1);
     let lists = [List::new(2 * size, size, &[size, size], 17), List::new(usize::MAX, 0, &[0; 18], 16)].map(Call::GrantList);
     let aligned = [Call::GrantAligned(n, 32), Call::GrantAligned(usize::MAX, 0)];
-    [Call::Release(start), Call::Grant(n), aligned[0], Call::Resize(start, n / 2), Call::Measure(start), Call::Report, lists[0], aligned[1], lists[1]]
+    [
+        Call::Release(handle),
+        Call::Release(other),
+        Call::Grant(n),
+        aligned[0],
+        Call::Resize(handle, n / 2),
+        Call::Resize(other, n),
+        Call::Measure(handle),
+        Call::Report,
+        lists[0],
+        aligned[1],
+        lists[1],
+    ]
 }
 
 /// A call that the library must refuse, with nothing changed.

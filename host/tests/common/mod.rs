@@ -1,10 +1,10 @@
 //! One pool in two implementations: answers, whole arenas, tables, records and totals are compared at every call.
 
-use slotpool::{room_len, Pool, Refusal, Totals};
+use slotpool::{room_len, Handle, Pool, Refusal, Totals};
 use slotpool_reference::Reference;
 use std::fmt;
 
-/// A gather list that is asked for: a proposal, and how many places are lent for the starts.
+/// A gather list that is asked for: a proposal, and how many places are lent for the handles.
 #[derive(Clone, Copy, PartialEq)]
 pub struct List {
     pub length: usize,
@@ -38,11 +38,12 @@ impl fmt::Debug for List {
 /// What stands in a lent list.
 pub type Lent = [usize; 40];
 
-/// A lent list before a call: no two places are the same, and none is a start or a size.
+/// A lent list before a call: no two places are the same, and none is a handle or a size.
 pub fn lent<const N: usize>() -> [usize; N] {
     std::array::from_fn(|i| 1_000_001 + i)
 }
 
+/// A call. Handles are numbers here: any number can be given for one.
 #[derive(Clone, Copy, Debug, PartialEq)]
 pub enum Call {
     SetUp,
@@ -53,7 +54,7 @@ pub enum Call {
     Resize(usize, usize),
     Measure(usize),
     Report,
-    /// A byte that the engine, not the pool, writes into the arena.
+    /// A byte that the engine, not the pool, writes to a place in the arena.
     Store(usize, u8),
 }
 
@@ -69,6 +70,10 @@ fn value(r: Result<usize, Refusal>) -> Answer {
     r.map_or_else(Answer::Refused, Answer::Value)
 }
 
+fn handle(r: Result<Handle, Refusal>) -> Answer {
+    value(r.map(Handle::raw))
+}
+
 fn unit(r: Result<(), Refusal>) -> Answer {
     r.map_or_else(Answer::Refused, |()| Answer::Done)
 }
@@ -78,6 +83,15 @@ fn entries(call: Call, answer: Answer) -> usize {
     match (call, answer) {
         (Call::GrantList(_), Answer::Value(entries)) => entries,
         _ => 0,
+    }
+}
+
+/// The handle that a call has made old, if it has: that of a block which was released or moved.
+fn ended(call: Call, answer: Answer) -> Option<usize> {
+    match (call, answer) {
+        (Call::Release(old), Answer::Done) => Some(old),
+        (Call::Resize(old, _), Answer::Value(new)) => (old != new).then_some(old),
+        _ => None,
     }
 }
 
@@ -103,12 +117,17 @@ impl Buffers {
         let mut pool = Pool::over(arena, room, totals);
         match call {
             Call::SetUp => unit(Pool::set_up(arena, room, totals).map(drop)),
-            Call::Grant(n) => value(pool.grant(n)),
-            Call::GrantAligned(n, align) => value(pool.grant_aligned(n, align)),
-            Call::GrantList(l) => value(pool.grant_list(l.length, l.cap, l.sizes(), &mut lent[..l.places])),
-            Call::Release(o) => unit(pool.release(o)),
-            Call::Resize(o, n) => value(pool.resize(o, n)),
-            Call::Measure(o) => value(pool.measure(o)),
+            Call::Grant(n) => handle(pool.grant(n)),
+            Call::GrantAligned(n, align) => handle(pool.grant_aligned(n, align)),
+            Call::GrantList(l) => {
+                let mut handles = lent.map(Handle::from_raw);
+                let entries = pool.grant_list(l.length, l.cap, l.sizes(), &mut handles[..l.places]);
+                *lent = handles.map(Handle::raw);
+                value(entries)
+            }
+            Call::Release(h) => unit(pool.release(Handle::from_raw(h))),
+            Call::Resize(h, n) => handle(pool.resize(Handle::from_raw(h), n)),
+            Call::Measure(h) => value(pool.measure(Handle::from_raw(h))),
             Call::Report => pool.report().map_or_else(Answer::Refused, Answer::Totals),
             Call::Store(at, byte) => {
                 arena[at] = byte;
@@ -128,9 +147,9 @@ fn second(pool: &mut Reference, lent: &mut Lent, call: Call) -> Answer {
         Call::Grant(n) => value(pool.grant(n)),
         Call::GrantAligned(n, align) => value(pool.grant_aligned(n, align)),
         Call::GrantList(l) => value(pool.grant_list(l.length, l.cap, l.sizes(), &mut lent[..l.places])),
-        Call::Release(o) => unit(pool.release(o)),
-        Call::Resize(o, n) => value(pool.resize(o, n)),
-        Call::Measure(o) => value(pool.measure(o)),
+        Call::Release(h) => unit(pool.release(h)),
+        Call::Resize(h, n) => value(pool.resize(h, n)),
+        Call::Measure(h) => value(pool.measure(h)),
         Call::Report => Answer::Totals(pool.report()),
         Call::Store(at, byte) => {
             pool.arena[at] = byte;
@@ -145,9 +164,14 @@ pub struct Both {
     pub second: Reference,
     /// The lent list after the last call, in each.
     pub lent: [Lent; 2],
+    /// Handles of blocks that were released or moved, the latest last; of a long run no more than the latest.
+    pub old: Vec<usize>,
 }
 
 impl Both {
+    /// How many old handles are kept.
+    const MOST_OLD: usize = 64;
+
     /// A fresh pool, set up over old bytes and numbers.
     pub fn new(arena_len: usize, old: u8) -> Both {
         let mut both = Both::over(&Buffers::old(arena_len, old), Reference::set_up(arena_len));
@@ -157,13 +181,16 @@ impl Both {
 
     /// A copy of some buffers, beside a pool of the second implementation.
     pub fn over(first: &Buffers, second: Reference) -> Both {
-        Both { first: first.clone(), second, lent: [lent(); 2] }
+        Both { first: first.clone(), second, lent: [lent(); 2], old: Vec::new() }
     }
 
     /// Makes a call in both and gives the two answers.
     pub fn make(&mut self, call: Call) -> (Answer, Answer) {
         self.lent = [lent(); 2];
-        (self.first.call(&mut self.lent[0], call), second(&mut self.second, &mut self.lent[1], call))
+        let answers = (self.first.call(&mut self.lent[0], call), second(&mut self.second, &mut self.lent[1], call));
+        self.old.extend(ended(call, answers.1));
+        self.old.drain(..self.old.len().saturating_sub(Both::MOST_OLD));
+        answers
     }
 
     /// Makes a call in both and gives its answer, or says where they differ or what should not have changed.

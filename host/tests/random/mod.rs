@@ -4,7 +4,7 @@ pub mod lists;
 
 use crate::common::{Answer, Both, Call};
 use lists::{fault, list};
-use slotpool_reference::{rows_of, slot_bytes, Reference, ORDINARY, TOO_LARGE};
+use slotpool_reference::{rows_of, slot_bytes, start_of, ORDINARY, TOO_LARGE};
 use std::collections::{BTreeMap, BTreeSet};
 
 /// A small generator of numbers, the same on every machine.
@@ -76,7 +76,7 @@ fn aligned_size(numbers: &mut Numbers, arena_len: usize, align: usize) -> usize 
 fn grant(numbers: &mut Numbers, both: &Both) -> Call {
     let (live, len) = (both.second.live(), both.first.arena.len());
     let again = (!live.is_empty() && numbers.one_in(2)).then(|| numbers.of(&live));
-    let like = again.map(|(start, _)| both.second.alignment(start)).filter(|&align| align > ORDINARY);
+    let like = again.map(|(handle, _)| both.second.alignment(handle)).filter(|&align| align > ORDINARY);
     let align = if numbers.one_in(3) { Some(alignment(numbers, len)) } else { like };
     let n = match again {
         Some((_, n)) => n,
@@ -85,23 +85,33 @@ fn grant(numbers: &mut Numbers, both: &Both) -> Call {
     align.map_or(Call::Grant(n), |align| Call::GrantAligned(n, align))
 }
 
-/// A live start, a freed one, an offset near a live start, or any number.
-fn offset(numbers: &mut Numbers, both: &Both) -> usize {
+/// Old handles of blocks whose start is another block's now.
+fn stale(both: &Both) -> Vec<usize> {
+    let live = both.second.live();
+    let other = |old: usize| live.iter().any(|&(handle, _)| handle != old && start_of(handle) == start_of(old));
+    both.old.iter().copied().filter(|&old| other(old)).collect()
+}
+
+/// A live handle or one with any bits, a freed start with any bits, an old handle, more often if it is stale, a number near a live handle, or any.
+fn handle(numbers: &mut Numbers, both: &Both) -> usize {
     let live = both.second.live();
     let freed = both.second.freed();
-    match numbers.below(20) {
-        0..=13 if !live.is_empty() => numbers.of(&live).0,
-        14..=15 if !freed.is_empty() => numbers.of(&freed),
-        16 if !live.is_empty() => (numbers.of(&live).0 + numbers.below(65)).saturating_sub(32),
-        17 => 16 * numbers.below(both.first.arena.len() / 16 + 4),
-        18 => numbers.below(both.first.arena.len() + 64),
+    match numbers.below(26) {
+        0..=15 if !live.is_empty() => numbers.of(&live).0,
+        16 if !live.is_empty() => start_of(numbers.of(&live).0) + numbers.below(16),
+        17..=18 if !freed.is_empty() => numbers.of(&freed) + numbers.below(16),
+        19..=20 if !stale(both).is_empty() => numbers.of(&stale(both)),
+        19..=21 if !both.old.is_empty() => numbers.of(&both.old),
+        22 if !live.is_empty() => (numbers.of(&live).0 + numbers.below(65)).saturating_sub(32),
+        23 => 16 * numbers.below(both.first.arena.len() / 16 + 4),
+        24 => numbers.below(both.first.arena.len() + 64),
         _ => numbers.of(&[0, 1, 15, 16, 17, 511, 512, usize::MAX, usize::MAX - 16, both.first.arena.len(), both.first.arena.len() - 1]),
     }
 }
 
-/// A live block that has requested bytes, if there is one: start and size.
+/// A live block that has requested bytes, if there is one: start, not handle, and size.
 pub fn block(numbers: &mut Numbers, both: &Both) -> Option<(usize, usize)> {
-    let blocks: Vec<_> = both.second.live().into_iter().filter(|b| b.1 > 0).collect();
+    let blocks: Vec<_> = both.second.live().into_iter().filter(|b| b.1 > 0).map(|(handle, n)| (start_of(handle), n)).collect();
     (!blocks.is_empty()).then(|| numbers.of(&blocks))
 }
 
@@ -118,19 +128,19 @@ pub fn next_call(numbers: &mut Numbers, both: &Both, engine: Engine) -> Call {
     let crowded = totals.rows_free == 0 && totals.ready_slots == 0;
     match numbers.below(100) {
         0..=37 if !crowded || numbers.one_in(3) => grant(numbers, both),
-        0..=62 => Call::Release(offset(numbers, both)),
+        0..=62 => Call::Release(handle(numbers, both)),
         63..=80 => {
-            let o = offset(numbers, both);
-            let old = live.iter().find(|b| b.0 == o).map_or(0, |b| b.1);
+            let h = handle(numbers, both);
+            let old = live.iter().find(|b| start_of(b.0) == start_of(h)).map_or(0, |b| b.1);
             let n = match numbers.below(4) {
                 0 => old,
                 1 => (old + numbers.below(40)).saturating_sub(20),
                 2 => old / 2 + numbers.below(old + 1),
-                _ => aligned_size(numbers, both.first.arena.len(), both.second.alignment(o)),
+                _ => aligned_size(numbers, both.first.arena.len(), both.second.alignment(h)),
             };
-            Call::Resize(o, n)
+            Call::Resize(h, n)
         }
-        81..=87 => Call::Measure(offset(numbers, both)),
+        81..=87 => Call::Measure(handle(numbers, both)),
         88..=89 => Call::Report,
         90 if numbers.one_in(20) => Call::SetUp,
         _ => engine(numbers, both).unwrap_or(Call::Report),
@@ -140,31 +150,33 @@ pub fn next_call(numbers: &mut Numbers, both: &Both, engine: Engine) -> Call {
 /// How often each kind of call had each answer.
 pub type Seen = BTreeMap<String, usize>;
 
-/// A call and its answer's number; for a resize that is done, how, and for a list, what is wrong with it. The pool is as the call left it.
-pub fn kind(call: Call, answer: &Answer, pool: &Reference) -> String {
+/// A call and its answer's number; for a resize that is done, how, for a list, what is wrong with it, and of a stale handle, whether it is old. The
+/// pool is as the call left it.
+pub fn kind(call: Call, answer: &Answer, both: &Both) -> String {
     let told = match answer {
         Answer::Refused(r) => *r as usize,
         _ => 0,
     };
     let enlarged = |n| if told == 3 && n < TOO_LARGE { " once enlarged" } else { "" };
+    let old = |h| if told == 10 && both.old.contains(&h) { " by an old handle" } else { "" };
     match (call, answer) {
         (Call::SetUp, _) => format!("set up {told}"),
         (Call::Grant(_), _) => format!("grant {told}"),
         (Call::GrantAligned(_, 1..=ORDINARY), _) if told != 13 => format!("aligned as any {told}"),
         (Call::GrantAligned(n, _), _) => format!("aligned {told}{}", enlarged(n)),
         (Call::GrantList(list), _) => format!("list {told}{}", fault(&list).map_or(String::new(), |what| format!(" by {what}"))),
-        (Call::Release(_), _) => format!("release {told}"),
-        (Call::Resize(o, _), Answer::Value(v)) => format!("{}resize {}", aligned(pool, *v), if o == *v { "in place" } else { "by a move" }),
-        (Call::Resize(o, n), _) => format!("{}resize {told}{}", aligned(pool, o), enlarged(n)),
-        (Call::Measure(_), _) => format!("measure {told}"),
+        (Call::Release(h), _) => format!("release {told}{}", old(h)),
+        (Call::Resize(h, _), Answer::Value(v)) => format!("{}resize {}", aligned(both, *v), if h == *v { "in place" } else { "by a move" }),
+        (Call::Resize(h, n), _) => format!("{}resize {told}{}{}", aligned(both, h), enlarged(n), old(h)),
+        (Call::Measure(h), _) => format!("measure {told}{}", old(h)),
         (Call::Report, _) => format!("report {told}"),
         (Call::Store(..), _) => "store".to_string(),
     }
 }
 
-/// Says whether a block is live and aligned.
-fn aligned(pool: &Reference, start: usize) -> &'static str {
-    if pool.alignment(start) > ORDINARY {
+/// Says whether the block at a handle's start is live and aligned.
+fn aligned(both: &Both, handle: usize) -> &'static str {
+    if both.second.alignment(handle) > ORDINARY {
         "aligned "
     } else {
         ""
@@ -172,7 +184,7 @@ fn aligned(pool: &Reference, start: usize) -> &'static str {
 }
 
 /// Every answer of every call but set up while no block is damaged, and every cause of a list's 9 and 17.
-pub const UNDAMAGED: [&str; 39] = [
+pub const UNDAMAGED: [&str; 47] = [
     "grant 0",
     "grant 3",
     "grant 8",
@@ -197,20 +209,28 @@ pub const UNDAMAGED: [&str; 39] = [
     "release 0",
     "release 4",
     "release 5",
+    "release 10",
+    "release 10 by an old handle",
     "resize in place",
     "resize by a move",
     "resize 3",
     "resize 4",
     "resize 5",
+    "resize 10",
+    "resize 10 by an old handle",
     "resize 8",
     "aligned resize in place",
     "aligned resize by a move",
     "aligned resize 3",
     "aligned resize 3 once enlarged",
+    "aligned resize 10",
+    "aligned resize 10 by an old handle",
     "aligned resize 8",
     "measure 0",
     "measure 4",
     "measure 5",
+    "measure 10",
+    "measure 10 by an old handle",
     "report 0",
 ];
 

@@ -4,7 +4,7 @@ use Rattle.mem.specs.Lists.{choose}
 use Rattle.mem.specs.Bytes.{put}
 use Rattle.classes.specs.Classes.{classOf, units}
 use Rattle.classes.specs.Alignments.{ordinary}
-use Rattle.model.specs.State.{start}
+use Rattle.model.specs.State.{handle}
 use Rattle.model.specs.Plans.{reserve, enframe, reserveAll, poolAfter, totals}
 use Rattle.model.specs.Tables.{view}
 use Rattle.model.specs.Calls.{written}
@@ -13,21 +13,21 @@ use Rattle.rows.proofs.Rooms.{by-masks}
 use Rattle.search.specs.Found.{Passed}
 use Rattle.search.proofs.Steps.{open-start}
 use Rattle.ops.specs.Blocks.{roomAfter}
-use Rattle.lists.specs.Grants.{granted, startOr, firstOr, totalsOr, arenaAfter}
+use Rattle.lists.specs.Grants.{granted, handleOr, firstOr, totalsOr, arenaAfter}
 use Rattle.lists.proofs.Grants.{begins, ToGo, one-further, all-done}
 use Rattle.lists.proofs.grant_all.Statement.{statement}
 use Rattle.lists.proofs.grant_all.Tie as tie
 
 abbrev Inv-loop : tie.InvT-loop
-Inv-loop row arena₀ room₀ sizes starts₀ kept₀ last₀ from₀ i₀ arena room starts kept last from i =
+Inv-loop row arena₀ room₀ sizes handles₀ kept₀ last₀ from₀ i₀ arena room handles kept last from i =
     let qs = granted (reserveAll row (view row room₀) sizes) in
-    (i ≤ length sizes) × (length arena ≡ length arena₀) × (length room ≡ length room₀) × (length starts ≡ length starts₀)
+    (i ≤ length sizes) × (length arena ≡ length arena₀) × (length room ≡ length room₀) × (length handles ≡ length handles₀)
     × (last .class ≡ classOf (last .size)) × (last .class < 48) × Passed row room (last .class) from
-    × ToGo row sizes (written arena₀ (map (enframe row) qs)) (poolAfter (view row room₀) qs) (put 0 (map (start row) qs) starts₀) i
-    arena room starts × (kept ≡ totals row (view row room))
+    × ToGo row sizes (written arena₀ (map (enframe row) qs)) (poolAfter (view row room₀) qs) (put 0 (map (handle row) qs) handles₀) i
+    arena room handles × (kept ≡ totals row (view row room))
 
 abbrev μ-loop : tie.MeasureT-loop
-μ-loop row arena₀ room₀ sizes starts₀ kept₀ last₀ from₀ i₀ arena room starts kept last from i = length sizes - i
+μ-loop row arena₀ room₀ sizes handles₀ kept₀ last₀ from₀ i₀ arena room handles kept last from i = length sizes - i
 
 loop-holds : tie.Need-loop-holds Inv-loop μ-loop
 unfolding classOf units choose
@@ -65,14 +65,14 @@ grant-one-requires c κs =
     (begins (d .with-class .result .class) (l .last .class) (l .from) (l .inv .6)) in
     (l .inv .7 .lent .sound, ((omega (arith, w .0, h), w .1 ∙ ap classOf (sym (w .0)), w .2, p, l .inv .8), s .pre .1 .1 .1))
 
-mul-starts : tie.Need-mul-starts Inv-loop μ-loop
-mul-starts c =
+mul-handles : tie.Need-mul-handles Inv-loop μ-loop
+mul-handles c =
     let d = c .before .before .before .before .before .before .before .before .before .before in
     let s = d .before .before .before .before .before .before in
     omega (arith, s .good .1 .1 .1 .1 .0)
 
-slice-write-starts : tie.Need-slice-write-starts Inv-loop μ-loop
-slice-write-starts c =
+slice-write-handles : tie.Need-slice-write-handles Inv-loop μ-loop
+slice-write-handles c =
     let d = c .before .before .before .before .before .before .before .before .before .before in
     let s = d .before .before .before .before .before .before in
     omega (arith, s .pre .1 .0 .1, d .before .loop .inv .3, d .loop-test .taken)
@@ -96,15 +96,15 @@ loop-again c =
     let a = s .args in
     let n = reserve (a .row) (view (a .row) (l .room)) ordinary in
     let e = w .ensures .0 in
-    let (x, y, z) = one-further (a .row) (now (a .sizes)) _ _ _ (s .pre .1 .0 .0) (l .i) (l .arena) (l .room) (l .starts) (d .loop-test .taken) (l .inv .7)
-    (g .last .1 .0) (g .last .1 .1 .0) (g .result .start) (g .ensures .0 .0 ∙ ap (λ k. startOr (a .row) (n k)) e)
+    let (x, y, z) = one-further (a .row) (now (a .sizes)) _ _ _ (s .pre .1 .0 .0) (l .i) (l .arena) (l .room) (l .handles) (d .loop-test .taken) (l .inv .7)
+    (g .last .1 .0) (g .last .1 .1 .0) (g .result .handle) (g .ensures .0 .0 ∙ ap (λ k. handleOr (a .row) (n k)) e)
     (g .ensures .1 .0 ∙ ap (λ k. arenaAfter (a .row) (l .arena) (n k)) e) (g .ensures .1 .1 ∙ ap (λ k. roomAfter (a .row) (l .room) (n k)) e) (g .kept .1 .0)
     (g .result .first) (g .ensures .0 .1 ∙ ap (λ k. firstOr (a .row) (n k)) e) (l .kept) (g .result .totals)
     (g .ensures .0 .2 ∙ ap (λ k. totalsOr (a .row) (l .kept) (n k)) e) in (
       omega (arith, d .loop-test .taken),
       g .kept .1 .0 ∙ l .inv .1,
       g .kept .1 .1 .0 ∙ l .inv .2,
-      length-set (l .starts) (l .i) (g .result .start) ∙ l .inv .3,
+      length-set (l .handles) (l .i) (g .result .handle) ∙ l .inv .3,
       w .ensures .1 ∙ ap classOf (sym e),
       w .ensures .2,
       subst (λ k. Passed (a .row) (g .last .1 .1 .0) k (g .result .first)) (sym (w .ensures .1)) y,
@@ -116,10 +116,10 @@ returns : tie.Need-returns Inv-loop μ-loop
 returns c =
     let a = c .before .before .before .before .before .before .args in
     let l = c .before .loop in
-    let e = all-done (a .row) (now (a .sizes)) _ _ _ (l .i) (l .arena) (l .room) (l .starts) (c .loop-test .left) (l .inv .7) in
+    let e = all-done (a .row) (now (a .sizes)) _ _ _ (l .i) (l .arena) (l .room) (l .handles) (c .loop-test .left) (l .inv .7) in
     (e .0, (e .1, (e .2, l .inv .8 ∙ ap (totals (a .row)) (e .3))))
 
 pub grant-all-spec : {M : Type 1} → statement M
 grant-all-spec =
     tie.close (tie.spec Inv-loop μ-loop loop-holds mul-with-class (λ c. search needs) with-class-requires (λ c κs. search needs) grant-one-requires
-    mul-starts slice-write-starts add-i loop-less loop-again (λ c. search needs) (λ c. search needs) (λ c. search needs) returns)
+    mul-handles slice-write-handles add-i loop-less loop-again (λ c. search needs) (λ c. search needs) (λ c. search needs) returns)

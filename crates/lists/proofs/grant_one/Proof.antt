@@ -7,7 +7,7 @@ use Rattle.model.specs.Tables.{byMasks, view}
 use Rattle.rows.specs.Rows.{Lent}
 use Rattle.rows.proofs.Rooms.{by-masks}
 use Rattle.ops.proofs.Moves.{reserved-none}
-use Rattle.lists.specs.Grants.{startOr, firstOr, totalsOr, arenaAfter}
+use Rattle.lists.specs.Grants.{handleOr, firstOr, totalsOr, arenaAfter}
 use Rattle.lists.proofs.Grants.{GrantedOne, granted-one}
 use Rattle.lists.proofs.grant_one.Statement.{statement}
 use Rattle.lists.proofs.grant_one.Tie as tie
@@ -27,7 +27,7 @@ returns c =
     let a = d .before .before .before .before .args in
     let r = reserved-none (a .row) (reserve (a .row) (view (a .row) (now (a .room))) ordinary (a .s .size))
     (sym (d .reserve-in .ensures .0) ∙ c .enum-told .given .1) in (
-      (sym (ap (startOr (a .row)) r), sym (ap (firstOr (a .row)) r), sym (ap (totalsOr (a .row) (a .t)) r)),
+      (sym (ap (handleOr (a .row)) r), sym (ap (firstOr (a .row)) r), sym (ap (totalsOr (a .row) (a .t)) r)),
       (sym (ap (arenaAfter (a .row) (now (a .arena))) r), d .reserve-in .ensures .1),
     )
 
@@ -51,7 +51,7 @@ returns-2 c =
     let g = block k in
     let d = k .before .before .before .before .before in
     let l = c .before .before .lay-out .ensures in
-    ((l .0 ∙ g .start, g .first, g .counts), (l .1 ∙ g .arena, d .reserve-in .ensures .1))
+    ((l .0 ∙ g .handed, g .first, g .counts), (l .1 ∙ g .arena, d .reserve-in .ensures .1))
 
 pub grant-one-spec : {M : Type 1} → statement M
 grant-one-spec =

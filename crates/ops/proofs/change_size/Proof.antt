@@ -5,7 +5,7 @@ use Rattle.model.specs.State.{Place}
 use Rattle.model.specs.Answers.{done}
 use Rattle.model.specs.Plans.{resizeInPlace, resizeAt, inPlace}
 use Rattle.model.specs.Tables.{byMasks}
-use Rattle.rows.specs.Rows.{startAt, Holds}
+use Rattle.rows.specs.Rows.{handleAt, Holds}
 use Rattle.rows.proofs.Rooms.{by-masks}
 use Rattle.ops.specs.Blocks.{Standing, staysIn}
 use Rattle.ops.proofs.Places.{held-stands}
@@ -29,8 +29,8 @@ resize-in-place-requires c κs =
     let p = c .before .before .before .before .before .before .pre in
     (p .0, (p .1 .0, ((sym (c .before .before .before .stays-in .ensures) ∙ c .before .before .if1 .taken, p .1 .1 .0), p .1 .1 .1)))
 
-start-of-requires : tie.Need-start-of-requires
-start-of-requires c κs =
+handle-of-requires : tie.Need-handle-of-requires
+handle-of-requires c κs =
     let h = stands (c .before .before .before .before .before .before .before .before .before .before .before) in
     ((h .class, h .slot, omega (arith, h .few)), (omega (arith, h .bytes), search needs))
 
@@ -42,7 +42,7 @@ returns c p h =
     let r = c .before .before .before .before .before .resize-in-place in
     rw (choose-true (inPlace p (s .args .n)) _ _ (sym (stays s p h) ∙ sym (i .before .stays-in .ensures) ∙ i .if1 .taken))
     (record {
-      answer = ap (λ v. done (v ∷ [])) (c .start-of .ensures ∙ ap (startAt (s .args .row)) (h .block));
+      answer = ap (λ v. done (v ∷ [])) (c .handle-of .ensures ∙ ap (handleAt (s .args .row)) (h .block));
       arena = r .ensures p h .0;
       room = r .ensures p h .1;
       counts = r .ensures p h .2;
@@ -58,5 +58,5 @@ returns-2 c p h =
 
 pub change-size-spec : {M : Type 1} → statement M
 change-size-spec =
-    tie.close (tie.spec stays-in-requires resize-in-place-requires start-of-requires (λ c. search needs) (λ c. search needs) returns (λ c κs. search needs)
+    tie.close (tie.spec stays-in-requires resize-in-place-requires handle-of-requires (λ c. search needs) (λ c. search needs) returns (λ c κs. search needs)
     (λ c. search needs) (λ c. search needs) returns-2)

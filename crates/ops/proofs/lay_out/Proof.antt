@@ -30,13 +30,19 @@ add-result-2 c =
     let at = c .before .before .before .before .before in
     omega (arith, displaced (at .before .before .before), at .owned-in .ensures .1)
 
+add-result-3 : tie.Need-add-result-3
+add-result-3 c =
+    let at = c .before .before .before .before .before .before in
+    omega (arith, displaced (at .before .before .before), at .owned-in .ensures .1, c .use-bits .ensures .1)
+
 returns : tie.Need-returns
 returns c =
-    let at = c .before .before .before .before .before .owned-in in
-    (omega (arith, at .ensures .0), rw (← at .ensures .0) (c .before .before .before .enframe-at .ensures))
+    let at = c .before .before .before .before .before .before .owned-in in
+    (omega (arith, at .ensures .0, c .use-bits .ensures .0), rw (← at .ensures .0) (c .before .before .before .before .enframe-at .ensures))
 
 pub lay-out-spec : {M : Type 1} → statement M
 lay-out-spec =
     tie.close (tie.spec (λ c κs. search needs) (λ c. omega (arith, c .units .ensures .1)) owned-in-requires
     (λ c. omega (arith, c .before .owned-in .ensures .1, c .before .before .units .ensures .1)) enframe-at-requires (λ c. search needs)
-    (λ c. omega (arith, displaced (c .before .before .before .before .before .before .before .before))) add-result-2 (λ c. search needs) returns)
+    (λ c. omega (arith, displaced (c .before .before .before .before .before .before .before .before))) add-result-2
+    (λ c κs. search needs) add-result-3 (λ c. search needs) returns)

@@ -62,24 +62,32 @@ start-of-requires c κs =
     let h = old s in
     ((h .class, h .slot, omega (arith, h .few)), (omega (arith, h .bytes), s .pre .1 .1 .1))
 
+start-of-requires-2 : tie.Need-start-of-requires-2
+start-of-requires-2 c κs =
+    let k = c .before .before .before .before .before .before in
+    let s = k .before .before .before .before .before .before .before .before .before in
+    let h = stands k in
+    ((h .class, h .slot, omega (arith, h .few)), (omega (arith, h .bytes), s .pre .1 .1 .1))
+
 copy-within-requires : tie.Need-copy-within-requires
 copy-within-requires c κs =
-    let k = c .before .before .before .before .before .before .before in
+    let k = c .before .before .before .before .before .before .before .before in
     let s = k .before .before .before .before .before .before .before .before .before in
     let a = s .args in
     let (q, f, e, z₀) = new k in
     let h = stands k in
     let o = old s in
-    let x = c .before .before .before .before .before .lay-out in
+    let x = c .before .before .before .before .before .before .lay-out in
     let l : length (x .last .1 .0) ≡ length (now (a .arena)) = ap length (x .ensures .1) ∙ put-length _ _ (now (a .arena)) in
-    let from = c .before .start-of .ensures in
-    let to = x .ensures .0 ∙ ap (startAt (a .row)) (sym e) in
+    let from = c .before .before .start-of .ensures .0 in
+    let at = c .before .start-of2 .ensures .0 in
+    let to = at ∙ ap (startAt (a .row)) (sym e) in
     let z = taken-size (room s) (a .b .alloc .align) (a .n) (s .pre .1 .1 .0) q f (s .pre .1 .0 .1) in
     let zb = ap (λ b. b .alloc .size) e in
     let m = c .lesser .ensures in (
       (
         omega (arith, l, from, m, o .owned, o .bytes),
-        omega (arith, l, x .ensures .0, m, h .owned, h .bytes, z, zb),
+        omega (arith, l, at, m, h .owned, h .bytes, z, zb),
       ),
       ⊎-elim (λ x. inl (omega (arith, x, from, to, m))) (λ x. inr (omega (arith, x, from, to, m)))
           (copy-apart (room s) (a .b .alloc .align) (a .n) (s .pre .1 .1 .0) q f (s .pre .1 .0 .1) (min (a .b .alloc .size) (a .n)) (omega arith)
@@ -100,10 +108,10 @@ still c p h =
 
 discard-requires : tie.Need-discard-requires
 discard-requires c κs =
-    let k = c .before .before .before .before .before .before .before .before .before .before .before .before in
+    let k = c .before .before .before .before .before .before .before .before .before .before .before .before .before in
     let s = k .before .before .before .before .before .before .before .before .before in
     let a = s .args in
-    let x = c .before .before .before .before .before .before .before .before .before .before .lay-out in
+    let x = c .before .before .before .before .before .before .before .before .before .before .before .lay-out in
     let y = c .before .before .before .before .copy-within in
     let l : length (y .last .0) ≡ length (now (a .arena)) = ap length (y .ensures) ∙ put-length _ _ (x .last .1 .0) ∙ ap length (x .ensures .1)
     ∙ put-length _ _ (now (a .arena)) in
@@ -117,19 +125,20 @@ discard-requires c κs =
 
 returns-2 : tie.Need-returns-2
 returns-2 c p h =
-    let k = c .before .before .before .before .before .before .before .before .before .before .before .before .before .before .before .before .before in
+    let k = c .before .before .before .before .before .before .before .before .before .before .before .before .before .before .before .before .before .before in
     let s = k .before .before .before .before .before .before .before .before .before in
     let a = s .args in
-    let x = c .before .before .before .before .before .before .before .before .before .before .before .before .before .before .before .lay-out in
+    let x = c .before .before .before .before .before .before .before .before .before .before .before .before .before .before .before .before .lay-out in
     let w = c .before .before .before .before .before .before .before .before .before in
     let y = w .copy-within in
     let d = c .before .before .before .before .discard in
-    let from = c .before .before .before .before .before .before .before .before .before .before .before .start-of in
+    let from = c .before .before .before .before .before .before .before .before .before .before .before .before .start-of in
+    let to = c .before .before .before .before .before .before .before .before .before .before .before .start-of2 in
     let m = c .before .before .before .before .before .before .before .before .before .before .lesser in
     let b = k .before .q .given .0 .0 in
     let g = d .ensures _ (still k p h) in
     let copied : y .last .0 ≡ put (startAt (a .row) b) (part (startAt (a .row) (a .b)) (min (a .b .alloc .size) (a .n)) (x .last .1 .0)) (x .last .1 .0) =
-    y .ensures ∙ rw (x .ensures .0, from .ensures, m .ensures) in
+    y .ensures ∙ rw (to .ensures .0, from .ensures .0, m .ensures) in
     moved (room s) (a .b .alloc .align) (a .n) (s .pre .1 .1 .0) (new k .0) (new k .1) h b (now (a .arena)) (x .last .1 .0) (y .last .0) (d .last .1 .0)
     (d .last .1 .1 .0)
     (x .result) (d .result) (new k .2) (x .ensures .1) copied (g .0) (g .1) (g .2) (x .ensures .0) (ap (λ b. b .alloc .align) (h .block))
@@ -138,4 +147,4 @@ pub resize-by-move-spec : {M : Type 1} → statement M
 resize-by-move-spec =
     tie.close (tie.spec (λ c κs. search needs) (λ c. search needs) (λ c. search needs) (λ c. search needs) returns
     (λ c κs. (stands (c .before), c .before .before .before .before .before .before .before .before .before .before .pre .1 .1 .1)) start-of-requires
-    (λ c κs. search needs) copy-within-requires discard-requires (λ c. search needs) (λ c. search needs) returns-2)
+    start-of-requires-2 (λ c κs. search needs) copy-within-requires discard-requires (λ c. search needs) (λ c. search needs) returns-2)

@@ -24,8 +24,8 @@ returns z =
     let c = z .before in
     let w = c .before .sound in
     let a = c .before .before .before .before .before .before .before .args in
-    refused-parts Unsound (now (a .starts)) (z .refused .ensures)
-    (call-unsound rowBytes (now (a .arena)) (keptIn (now (a .room)) (a .t)) (grantsList (a .total) (a .cap) (length (now (a .starts))) (now (a .sizes))) tt
+    refused-parts Unsound (now (a .handles)) (z .refused .ensures)
+    (call-unsound rowBytes (now (a .arena)) (keptIn (now (a .room)) (a .t)) (grantsList (a .total) (a .cap) (length (now (a .handles))) (now (a .sizes))) tt
     (sym (w .ensures) ∙ not-true (w .result) (c .if1 .taken)))
 
 -- the tables are sound
@@ -49,9 +49,9 @@ returns-2 z =
     let d = c .before .before in
     let a = d .before .before .before .before .before .before .before .args in
     let w = c .before .plannable in
-    refused-parts TooLong (now (a .starts)) (z .refused2 .ensures)
-    (too-long (now (a .arena)) (lent d) (a .total) (a .cap) (length (now (a .starts))) (now (a .sizes))
-    (ap (λ b. b && leb entries (length (now (a .starts)))) (sym (w .ensures) ∙ not-true (w .result) (c .if2 .taken))))
+    refused-parts TooLong (now (a .handles)) (z .refused2 .ensures)
+    (too-long (now (a .arena)) (lent d) (a .total) (a .cap) (length (now (a .handles))) (now (a .sizes))
+    (ap (λ b. b && leb entries (length (now (a .handles)))) (sym (w .ensures) ∙ not-true (w .result) (c .if2 .taken))))
 
 returns-3 : tie.Need-returns-3
 unfolding rowBytes entries
@@ -59,19 +59,19 @@ returns-3 z =
     let c = z .before in
     let d = c .before .before .before in
     let a = d .before .before .before .before .before .before .before .args in
-    let e = lt-leb entries (length (now (a .starts))) (c .if3 .taken) in
-    refused-parts TooLong (now (a .starts)) (z .refused3 .ensures)
-    (too-long (now (a .arena)) (lent d) (a .total) (a .cap) (length (now (a .starts))) (now (a .sizes))
+    let e = lt-leb entries (length (now (a .handles))) (c .if3 .taken) in
+    refused-parts TooLong (now (a .handles)) (z .refused3 .ensures)
+    (too-long (now (a .arena)) (lent d) (a .total) (a .cap) (length (now (a .handles))) (now (a .sizes))
     (ap (λ b. plannable (a .total) (a .cap) && b) e ∙ and-false (plannable (a .total) (a .cap))))
 
 -- the list is short enough, and has its places
 short : (c : tie.Else3) → (let a = c .before .before .before .before .before .before .before .before .before .before .args in
-    (plannable (a .total) (a .cap) && leb entries (length (now (a .starts)))) ≡ true)
+    (plannable (a .total) (a .cap) && leb entries (length (now (a .handles)))) ≡ true)
 unfolding entries
 short c =
     let w = c .before .before .plannable in
     let a = c .before .before .before .before .before .before .before .before .before .before .args in
-    ap₂ (λ b d. b && d) (sym (w .ensures) ∙ not-false (w .result) (c .before .if2 .left)) (le-leb entries (length (now (a .starts))) (c .if3 .left))
+    ap₂ (λ b d. b && d) (sym (w .ensures) ∙ not-false (w .result) (c .before .if2 .left)) (le-leb entries (length (now (a .handles))) (c .if3 .left))
 
 returns-4 : tie.Need-returns-4
 unfolding rowBytes
@@ -81,8 +81,8 @@ returns-4 z =
     let s = d .before .before .before in
     let a = s .before .before .before .before .before .before .before .args in
     let w = c .before .accepts in
-    refused-parts BadProposal (now (a .starts)) (z .refused4 .ensures)
-    (bad-proposal (now (a .arena)) (lent s) (a .total) (a .cap) (length (now (a .starts))) (now (a .sizes)) (short d)
+    refused-parts BadProposal (now (a .handles)) (z .refused4 .ensures)
+    (bad-proposal (now (a .arena)) (lent s) (a .total) (a .cap) (length (now (a .handles))) (now (a .sizes)) (short d)
     (sym (w .ensures) ∙ not-true (w .result) (c .if4 .taken)))
 
 -- the proposal is accepted, so its sizes are small and few
@@ -107,8 +107,8 @@ returns-5 z =
     let s = k .before .before .before in
     let a = s .before .before .before .before .before .before .before .args in
     let w = c .before .fits2 in
-    refused-parts NoRoom (now (a .starts)) (z .refused5 .ensures)
-    (no-room (now (a .arena)) (lent s) (a .total) (a .cap) (length (now (a .starts))) (now (a .sizes)) (short k) (right d)
+    refused-parts NoRoom (now (a .handles)) (z .refused5 .ensures)
+    (no-room (now (a .arena)) (lent s) (a .total) (a .cap) (length (now (a .handles))) (now (a .sizes)) (short k) (right d)
     (sym (w .ensures) ∙ not-true (w .result) (c .if5 .taken)))
 
 -- all of it fits
@@ -144,12 +144,12 @@ returns-6 c =
     let k = d .before .before in
     let s = k .before .before .before in
     let a = s .before .before .before .before .before .before .before .args in
-    let w = whole (now (a .arena)) (lent s) (a .total) (a .cap) (length (now (a .starts))) (now (a .sizes)) (short k) (right d) (fit e) in (
+    let w = whole (now (a .arena)) (lent s) (a .total) (a .cap) (length (now (a .handles))) (now (a .sizes)) (short k) (right d) (fit e) in (
       w .number,
       (
         w .values,
         (
-          g .ensures .1 .1 .0 ∙ ap (λ l. put 0 l (now (a .starts))) (w .lent),
+          g .ensures .1 .1 .0 ∙ ap (λ l. put 0 l (now (a .handles))) (w .lent),
           (g .ensures .0 ∙ w .arena, (g .ensures .1 .0 ∙ w .room, g .ensures .1 .1 .1 ∙ w .counts)),
         ),
       ),

@@ -16,7 +16,7 @@ unfolding rowBytes
 returns c =
     let a = c .before .before .before .before .args in
     let w = c .before .sound in
-    parts (sym (call-unsound rowBytes (now (a .arena)) (keptIn (now (a .room)) (a .t)) (measures (a .offset)) tt
+    parts (sym (call-unsound rowBytes (now (a .arena)) (keptIn (now (a .room)) (a .t)) (measures (a .handle)) tt
     (sym (w .ensures) ∙ not-true (w .result) (c .if1 .taken)))) .0
 
 -- the tables are sound
@@ -36,17 +36,17 @@ unfolding rowBytes
 returns-2 c =
     let z = c .before .before .before .before in
     let a = z .before .before .before .before .args in
-    let b = called-at (now (a .arena)) (lent z) (a .offset) (measureAt rowBytes (view rowBytes (now (a .room)))) (λ p. refl) (c .before .b .given .0 .0)
+    let b = called-at (now (a .arena)) (lent z) (a .handle) (measureAt rowBytes (view rowBytes (now (a .room)))) (λ p. refl) (c .before .b .given .0 .0)
     (sym (c .before .b .given .1) ∙ c .before .before .before .locate .ensures) in
-    ap (λ b. done (b .alloc .size ∷ [])) (b .holds .block) ∙ parts (sym (measuring (now (a .arena)) (lent z) (a .offset) ∙ b .result)) .0
+    ap (λ b. done (b .alloc .size ∷ [])) (b .holds .block) ∙ parts (sym (measuring (now (a .arena)) (lent z) (a .handle) ∙ b .result)) .0
 
 returns-3 : tie.Need-returns-3
 unfolding rowBytes
 returns-3 c =
     let z = c .before .before .before .before in
     let a = z .before .before .before .before .args in
-    parts (sym (measuring (now (a .arena)) (lent z) (a .offset)
-    ∙ called-refused (now (a .arena)) (lent z) (a .offset) (measureAt rowBytes (view rowBytes (now (a .room)))) (λ p. refl) (c .before .r .given .0 .0)
+    parts (sym (measuring (now (a .arena)) (lent z) (a .handle)
+    ∙ called-refused (now (a .arena)) (lent z) (a .handle) (measureAt rowBytes (view rowBytes (now (a .room)))) (λ p. refl) (c .before .r .given .0 .0)
     (sym (c .before .r .given .1) ∙ c .before .before .before .locate .ensures))) .0
 
 pub measure-spec : {M : Type 1} → statement M

@@ -17,7 +17,7 @@ returns d =
     let c = d .before in
     let a = c .before .before .before .before .before .args in
     let w = c .before .sound in
-    refused-as (d .refused .ensures) (parts (sym (call-unsound rowBytes (now (a .arena)) (keptIn (now (a .room)) (a .t)) (releases (a .offset)) tt
+    refused-as (d .refused .ensures) (parts (sym (call-unsound rowBytes (now (a .arena)) (keptIn (now (a .room)) (a .t)) (releases (a .handle)) tt
     (sym (w .ensures) ∙ not-true (w .result) (c .if1 .taken)))))
 
 -- the tables are sound
@@ -40,12 +40,12 @@ locate-requires c κs = (lent (c .before .before) .room .sound, card-row)
 -- the block that is located
 block : (c : tie.After-known-told) → (let z = c .before .before .before .before .before .before in
     let a = z .before .before .before .before .before .args in
-    Called (now (a .arena)) (lent z) (a .offset) (releaseAt rowBytes) (release-names rowBytes) (c .before .b .given .0 .0))
+    Called (now (a .arena)) (lent z) (a .handle) (releaseAt rowBytes) (release-names rowBytes) (c .before .b .given .0 .0))
 unfolding rowBytes
 block c =
     let z = c .before .before .before .before .before .before in
     let a = z .before .before .before .before .before .args in
-    called-at (now (a .arena)) (lent z) (a .offset) (releaseAt rowBytes) (release-names rowBytes) (c .before .b .given .0 .0)
+    called-at (now (a .arena)) (lent z) (a .handle) (releaseAt rowBytes) (release-names rowBytes) (c .before .b .given .0 .0)
     (sym (c .before .b .given .1) ∙ c .before .before .before .locate .ensures)
 
 discard-requires : tie.Need-discard-requires
@@ -61,7 +61,7 @@ returns-2 c =
     let k = c .before .before .before .before .before .before .before in
     let z = k .before .before .before .before .before .before in
     let a = z .before .before .before .before .before .args in
-    let p = parts (sym (releasing (now (a .arena)) (lent z) (a .offset) ∙ block k .result)) in
+    let p = parts (sym (releasing (now (a .arena)) (lent z) (a .handle) ∙ block k .result)) in
     let d = c .before .before .before .before .discard .ensures (block k .place) (block k .holds) in
     (sym (release-done rowBytes (block k .place)) ∙ p .0, (d .0 ∙ p .1 .0, (d .1 ∙ p .1 .1 .0, d .2 ∙ p .1 .1 .1)))
 
@@ -71,8 +71,8 @@ returns-3 d =
     let c = d .before in
     let z = c .before .before .before .before .before .before in
     let a = z .before .before .before .before .before .args in
-    refused-as (d .refused2 .ensures) (parts (sym (releasing (now (a .arena)) (lent z) (a .offset)
-    ∙ called-refused (now (a .arena)) (lent z) (a .offset) (releaseAt rowBytes) (release-names rowBytes) (c .before .r .given .0 .0)
+    refused-as (d .refused2 .ensures) (parts (sym (releasing (now (a .arena)) (lent z) (a .handle)
+    ∙ called-refused (now (a .arena)) (lent z) (a .handle) (releaseAt rowBytes) (release-names rowBytes) (c .before .r .given .0 .0)
     (sym (c .before .r .given .1) ∙ c .before .before .before .locate .ensures))))
 
 pub release-spec : {M : Type 1} → statement M

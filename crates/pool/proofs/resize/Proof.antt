@@ -2,6 +2,7 @@
 use Rattle.mem.proofs.Prelude.{_∙_, _≡_, sym, ap, subst, _<_, arith, now, needs, not-false, not-true, leb, leb-false, length}
 use Rattle.classes.specs.Classes.{rowBytes, tooLarge}
 use Rattle.classes.specs.Alignments.{enlarged, Askable}
+use Rattle.model.specs.State.{startOf}
 use Rattle.model.specs.Plans.{resizes, resizeAt, lookup, newSize, totals}
 use Rattle.model.specs.Tables.{view}
 use Rattle.model.specs.Calls.{keptIn}
@@ -23,7 +24,7 @@ returns d =
     let c = d .before in
     let a = c .before .before .before .before .before .args in
     let w = c .before .sound in
-    refused-as (d .refused .ensures) (parts (sym (call-unsound rowBytes (now (a .arena)) (keptIn (now (a .room)) (a .t)) (resizes (a .offset) (a .n)) tt
+    refused-as (d .refused .ensures) (parts (sym (call-unsound rowBytes (now (a .arena)) (keptIn (now (a .room)) (a .t)) (resizes (a .handle) (a .n)) tt
     (sym (w .ensures) ∙ not-true (w .result) (c .if1 .taken)))))
 
 -- the tables are sound
@@ -39,46 +40,48 @@ unfolding rowBytes
 counts c = let a = c .before .before .before .before .before .args in kept-totals rowBytes (length (now (a .arena))) (keptIn (now (a .room)) (a .t))
     (lent c .kept)
 
--- what is found at the offset
-known : (c : tie.After-find-block) → (let a = c .before .before .before .before .before .before .before .args in
-    c .find-block .result ≡ looked rowBytes (lookup rowBytes (view rowBytes (now (a .room))) (a .offset)))
+-- what is found at the handle's start
+known : (c : tie.After-find-block) → (let a = c .before .before .before .before .before .before .before .before .args in
+    c .find-block .result ≡ looked rowBytes (lookup rowBytes (view rowBytes (now (a .room))) (startOf (a .handle))))
 unfolding rowBytes
-known c = c .find-block .ensures
+known c =
+    let a = c .before .before .before .before .before .before .before .before .args in
+    c .find-block .ensures ∙ ap (λ o. looked rowBytes (lookup rowBytes (view rowBytes (now (a .room))) o)) (c .before .start-in .ensures)
 
 find-block-requires : tie.Need-find-block-requires
 unfolding rowBytes
-find-block-requires c κs = (lent (c .before) .room .sound, card-row)
+find-block-requires c κs = (lent (c .before .before) .room .sound, card-row)
 
 -- it lies in the arena, and has an alignment that the tables keep
-found : (c : tie.After-find-block) → (let i = c .before .before in
+found : (c : tie.After-find-block) → (let i = c .before .before .before in
     let a = i .before .before .before .before .before .args in
-    Known (lent i .room) (a .offset) (c .find-block .result))
+    Known (lent i .room) (startOf (a .handle)) (c .find-block .result))
 unfolding rowBytes
 found c =
-    let i = c .before .before in
+    let i = c .before .before .before in
     let a = i .before .before .before .before .before .args in
-    subst (Known (lent i .room) (a .offset)) (sym (known c)) (found-known (lent i .room) (a .offset))
+    subst (Known (lent i .room) (startOf (a .handle))) (sym (known c)) (found-known (lent i .room) (startOf (a .handle)))
 
 too-large-requires : tie.Need-too-large-requires
 too-large-requires c κs = omega (arith, c .code-found .ensures, found (c .before) .last-code)
 
 -- the size by what is looked up
 tested : (c : tie.After-too-large) → (let f = c .before .before in
-    let a = f .before .before .before .before .before .before .before .args in
-    leb tooLarge (enlarged (codeFound (looked rowBytes (lookup rowBytes (view rowBytes (now (a .room))) (a .offset)))) (a .n)) ≡ c .too-large .result)
+    let a = f .before .before .before .before .before .before .before .before .args in
+    leb tooLarge (enlarged (codeFound (looked rowBytes (lookup rowBytes (view rowBytes (now (a .room))) (startOf (a .handle))))) (a .n)) ≡ c .too-large .result)
 unfolding rowBytes
 tested c =
     let f = c .before .before in
-    let a = f .before .before .before .before .before .before .before .args in
+    let a = f .before .before .before .before .before .before .before .before .args in
     ap (λ k. leb tooLarge (enlarged k (a .n))) (ap codeFound (sym (known f)) ∙ sym (c .before .code-found .ensures)) ∙ sym (c .too-large .ensures)
 
 returns-2 : tie.Need-returns-2
 unfolding rowBytes
 returns-2 d =
     let c = d .before in
-    let i = c .before .before .before .before .before in
+    let i = c .before .before .before .before .before .before in
     let a = i .before .before .before .before .before .args in
-    refused-as (d .refused2 .ensures) (parts (sym (resize-too-large (now (a .arena)) (lent i) (a .offset) (a .n) (tested (c .before) ∙ c .if2 .taken))))
+    refused-as (d .refused2 .ensures) (parts (sym (resize-too-large (now (a .arena)) (lent i) (a .handle) (a .n) (tested (c .before) ∙ c .if2 .taken))))
 
 judge-requires : tie.Need-judge-requires
 unfolding rowBytes
@@ -86,41 +89,42 @@ judge-requires c κs = (found (c .before .before .before .before) .lies, card-ro
 
 -- what is judged is what is located
 judging : (c : tie.After-judge) → (let f = c .before .before .before .before .before in
-    let a = f .before .before .before .before .before .before .before .args in
-    c .judge .result ≡ located rowBytes (now (a .arena)) (lookup rowBytes (view rowBytes (now (a .room))) (a .offset)))
+    let a = f .before .before .before .before .before .before .before .before .args in
+    c .judge .result ≡ located rowBytes (now (a .arena)) (a .handle) (lookup rowBytes (view rowBytes (now (a .room))) (startOf (a .handle))))
 unfolding rowBytes
 judging c =
     let f = c .before .before .before .before .before in
-    let a = f .before .before .before .before .before .before .before .args in
-    c .judge .ensures ∙ ap (judged rowBytes (now (a .arena))) (known f)
-    ∙ judged-looked rowBytes (now (a .arena)) (lookup rowBytes (view rowBytes (now (a .room))) (a .offset))
+    let a = f .before .before .before .before .before .before .before .before .args in
+    c .judge .ensures ∙ ap (judged rowBytes (now (a .arena)) (a .handle)) (known f)
+    ∙ judged-looked rowBytes (now (a .arena)) (a .handle) (lookup rowBytes (view rowBytes (now (a .room))) (startOf (a .handle)))
 
 -- the block that is located
-block : (c : tie.After-known-told) → (let z = c .before .before .before .before .before .before .before .before .before .before in
+block : (c : tie.After-known-told) → (let z = c .before .before .before .before .before .before .before .before .before .before .before in
     let a = z .before .before .before .before .before .args in
     let P = view rowBytes (now (a .room)) in
-    Called (now (a .arena)) (lent z) (a .offset) (resizeAt rowBytes P (a .n)) (resize-names rowBytes P (a .n)) (c .before .b .given .0 .0))
+    Called (now (a .arena)) (lent z) (a .handle) (resizeAt rowBytes P (a .n)) (resize-names rowBytes P (a .n)) (c .before .b .given .0 .0))
 unfolding rowBytes
 block c =
-    let z = c .before .before .before .before .before .before .before .before .before .before in
+    let z = c .before .before .before .before .before .before .before .before .before .before .before in
     let a = z .before .before .before .before .before .args in
     let P = view rowBytes (now (a .room)) in
-    called-at (now (a .arena)) (lent z) (a .offset) (resizeAt rowBytes P (a .n)) (resize-names rowBytes P (a .n)) (c .before .b .given .0 .0)
+    called-at (now (a .arena)) (lent z) (a .handle) (resizeAt rowBytes P (a .n)) (resize-names rowBytes P (a .n)) (c .before .b .given .0 .0)
     (sym (c .before .b .given .1) ∙ judging (c .before .before .before))
 
 -- its size is one that can be asked for
-small : (c : tie.After-known-told) → (let z = c .before .before .before .before .before .before .before .before .before .before in
+small : (c : tie.After-known-told) → (let z = c .before .before .before .before .before .before .before .before .before .before .before in
     Askable (c .before .b .given .0 .0 .alloc .align) (z .before .before .before .before .before .args .n))
 unfolding rowBytes
 small c =
     let e = c .before .before .before .before .before in
-    let z = e .before .before .before .before .before in
+    let z = e .before .before .before .before .before .before in
     let a = z .before .before .before .before .before .args in
     let b = block c in
     let o = b .looked-up in
     let k = code-kept (b .place .cls) (b .place .state) (b .holds .live) (fits (b .place) (b .holds .formed) .state) in
-    let s = leb-false tooLarge (newSize (lookup rowBytes (view rowBytes (now (a .room))) (a .offset)) (a .n))
-    (ap (leb tooLarge) (sym (new-size rowBytes (lookup rowBytes (view rowBytes (now (a .room))) (a .offset)) (a .n))) ∙ tested (e .before) ∙ e .if2 .left) in
+    let s = leb-false tooLarge (newSize (lookup rowBytes (view rowBytes (now (a .room))) (startOf (a .handle))) (a .n))
+    (ap (leb tooLarge) (sym (new-size rowBytes (lookup rowBytes (view rowBytes (now (a .room))) (startOf (a .handle))) (a .n))) ∙ tested (e .before)
+    ∙ e .if2 .left) in
     subst (λ v. Askable v (a .n)) (sym (ap (λ b. b .alloc .align) (b .holds .block))) (record {
       some-code = k .0;
       last-code = k .1;
@@ -131,7 +135,7 @@ change-size-requires : tie.Need-change-size-requires
 unfolding rowBytes
 change-size-requires c κs =
     let k = c .before .before in
-    let z = k .before .before .before .before .before .before .before .before .before .before in
+    let z = k .before .before .before .before .before .before .before .before .before .before .before in
     ((lent z .room .sound, counts z), ((block k .place, block k .holds), (small k, card-row)))
 
 returns-3 : tie.Need-returns-3
@@ -139,7 +143,7 @@ unfolding rowBytes
 returns-3 c =
     let k = c .before .before .before .before .before .before .before in
     let e = k .before .before .before .before .before in
-    let z = e .before .before .before .before .before in
+    let z = e .before .before .before .before .before .before in
     let a = z .before .before .before .before .before .args in
     let b = block k in
     let r = c .before .before .before .before .change-size in
@@ -148,7 +152,7 @@ returns-3 c =
     subst (λ P. CarriedOut rowBytes (now (a .arena)) (resizeAt rowBytes P (a .n) (b .place)) (r .result .reply) (r .last .1 .0) (r .last .1 .1 .0)
     (r .result .totals))
     (sym (held-pool (lent z .room) (b .holds))) (r .ensures (b .place) (b .holds)) in
-    carried-as d (resizing (now (a .arena)) (lent z) (a .offset) (a .n) (tested (e .before) ∙ e .if2 .left) ∙ b .result)
+    carried-as d (resizing (now (a .arena)) (lent z) (a .handle) (a .n) (tested (e .before) ∙ e .if2 .left) ∙ b .result)
 
 returns-4 : tie.Need-returns-4
 unfolding rowBytes
@@ -156,15 +160,16 @@ returns-4 d =
     let c = d .before in
     let j = c .before .before .before in
     let e = j .before .before in
-    let z = e .before .before .before .before .before in
+    let z = e .before .before .before .before .before .before in
     let a = z .before .before .before .before .before .args in
     let P = view rowBytes (now (a .room)) in
-    refused-as (d .refused3 .ensures) (parts (sym (resizing (now (a .arena)) (lent z) (a .offset) (a .n) (tested (e .before) ∙ e .if2 .left)
-    ∙ called-refused (now (a .arena)) (lent z) (a .offset) (resizeAt rowBytes P (a .n)) (resize-names rowBytes P (a .n)) (c .before .r .given .0 .0)
+    refused-as (d .refused3 .ensures) (parts (sym (resizing (now (a .arena)) (lent z) (a .handle) (a .n) (tested (e .before) ∙ e .if2 .left)
+    ∙ called-refused (now (a .arena)) (lent z) (a .handle) (resizeAt rowBytes P (a .n)) (resize-names rowBytes P (a .n)) (c .before .r .given .0 .0)
     (sym (c .before .r .given .1) ∙ judging j))))
 
 pub resize-spec : {M : Type 1} → statement M
 resize-spec =
-    tie.close (tie.spec (λ c κs. search needs) (λ c κs. search needs) (λ c. search needs) returns find-block-requires (λ c κs. search needs)
+    tie.close (tie.spec (λ c κs. search needs) (λ c κs. search needs) (λ c. search needs) returns (λ c κs. search needs) find-block-requires
+    (λ c κs. search needs)
     too-large-requires (λ c κs. search needs) (λ c. search needs) returns-2 judge-requires (λ c. search needs) change-size-requires (λ c. search needs)
     (λ c κs. search needs) (λ c. search needs) (λ c. search needs) returns-3 (λ c. search needs) (λ c. search needs) returns-4)

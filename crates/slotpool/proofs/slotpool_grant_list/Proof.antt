@@ -77,8 +77,8 @@ module _ {M : Type 1} (𝓤 : URA M) (H : Heap 𝓤) (A : Atoms 𝓤) (W : Given
   abbrev sizes : RefT (List ℕ)
   sizes = a .1 .1 .1 .1 .1 .0
 
-  abbrev starts : RefT (List ℕ)
-  starts = a .1 .1 .1 .1 .1 .1 .0
+  abbrev handles : RefT (List ℕ)
+  handles = a .1 .1 .1 .1 .1 .1 .0
 
   abbrev value : RefT ℕ
   value = a .1 .1 .1 .1 .1 .1 .1 .0
@@ -102,11 +102,11 @@ module _ {M : Type 1} (𝓤 : URA M) (H : Heap 𝓤) (A : Atoms 𝓤) (W : Given
 
   -- what the call leaves, and what is said of it
   abbrev G : Outcome (Kept (List ℕ))
-  G = call rowBytes (arena .now) (keptIn (room .now) (totals .now)) (grantsList «total» cap (length (starts .now)) (sizes .now))
+  G = call rowBytes (arena .now) (keptIn (room .now) (totals .now)) (grantsList «total» cap (length (handles .now)) (sizes .now))
 
   abbrev Says : ℕ → Lasts first.ended (to-first .0 .0) (to-first .0 .3) → Totals → List (Type 0)
   Says k zs t = (k ≡ G .answer .number) ∷ (zs .1 .1 .1 .1 .1 .1 .1 .0 ≡ getD (G .answer .values) 0 0) ∷
-      (zs .1 .1 .1 .1 .1 .1 .0 ≡ put 0 (G .answer .lent) (starts .now)) ∷ (zs .0 ≡ G .arena) ∷ (zs .1 .0 ≡ G .room .tables) ∷ (t ≡ G .room .totals) ∷ []
+      (zs .1 .1 .1 .1 .1 .1 .0 ≡ put 0 (G .answer .lent) (handles .now)) ∷ (zs .0 ≡ G .arena) ∷ (zs .1 .0 ≡ G .room .tables) ∷ (t ≡ G .room .totals) ∷ []
 
   abbrev y : Walked 𝓤 H A f.ended (f.clauses 𝓤 H A at-mem run) .Ghost
   y = ((κs, qs, tt, a, vals), tt)
@@ -124,10 +124,10 @@ module _ {M : Type 1} (𝓤 : URA M) (H : Heap 𝓤) (A : Atoms 𝓤) (W : Given
         pass1 ! (init ! 4 refl (tt, record { fits = are .1 .1 .1 .0 .1 })) $ pass1 ! (init ! 5 refl (tt, record { fits = are .1 .1 .1 .1 .0 .1 })) $
         pass1 ! (init ! 6 refl (tt, (tt, (record { fits = are .1 .1 .1 .1 .1 .0 .0 .1 .0 }, tt)))) $
         pass1 ! (init ! 7 refl (tt, (tt, (record { fits = are .1 .1 .1 .1 .1 .1 .0 .0 .1 .0 }, tt)))) $ pass1 ! (init ! 8 refl (tt, tt)) $ pass0 ! $
-        -- [_0 … _19; what frees them; arena, room, totals, «total», cap, sizes, starts, value; tokens: arena, room, totals, sizes, starts, value]
+        -- [_0 … _19; what frees them; arena, room, totals, «total», cap, sizes, handles, value; tokens: arena, room, totals, sizes, handles, value]
         relends ! 1 10 11 refl refl refl (are .0 .0 .1 .0) $ relends ! 2 12 13 refl refl refl (are .1 .0 .0 .1 .0) $ move ! (23 ∷ 31 ∷ []) $
         copies ! 3 14 totals refl refl $ turns ! 3 $
-        -- [_0 … _19; what frees them; arena, room, «total», cap, sizes, starts, value; tokens: arena, room, sizes, starts, value; the totals; totals;
+        -- [_0 … _19; what frees them; arena, room, «total», cap, sizes, handles, value; tokens: arena, room, sizes, handles, value; the totals; totals;
         --  tokens: totals]
         relends ! 7 15 16 refl refl refl (are .1 .1 .1 .1 .1 .1 .0 .0 .1 .0) $
         assigns ! (addr ! (from ! (hop ! (look ! 8 refl) (stop !)))) (from ! (stop !)) (init ! 17 refl (tt, tt)) $
@@ -136,11 +136,11 @@ module _ {M : Type 1} (𝓤 : URA M) (H : Heap 𝓤) (A : Atoms 𝓤) (W : Given
         (takes ! (1 + 11) refl (takes ! (1 + 13) refl (takes ! (1 + 14) refl
         (takes ! (1 + 4) refl (takes ! (1 + 5) refl (takes ! (1 + 6) refl (takes ! (1 + 16) refl (takes ! (1 + 17) refl (no-more !)))))))))
         (λ w r zs. hears W (Says (r .number) zs (r .totals)) (λ es.
-        -- [its result; tokens: arena, room, sizes, starts, value; last values: arena, room, totals, «total», cap, sizes, starts, value; _0 … _19; what frees
-        --  them; totals; tokens: totals]
+        -- [its result; tokens: arena, room, sizes, handles, value; last values: arena, room, totals, «total», cap, sizes, handles, value; _0 … _19; what
+        --  frees them; totals; tokens: totals]
         turns ! 14 $ move ! (23 ∷ 21 ∷ 22 ∷ []) $ tells ! at-mem run fm known-then 3 9 18 19 totals r refl refl refl refl refl refl (λ t e.
-        -- [tokens: totals; last values: the record; the number; _0 … _19; what frees them; tokens: arena, room, sizes, starts, value; last values: arena,
-        --  room, totals, «total», cap, sizes, starts, value]
+        -- [tokens: totals; last values: the record; the number; _0 … _19; what frees them; tokens: arena, room, sizes, handles, value; last values: arena,
+        --  room, totals, «total», cap, sizes, handles, value]
         turns ! 3 $ frees-all ! (_ ∷ _ ∷ _ ∷ _ ∷ _ ∷ _ ∷ _ ∷ _ ∷ _ ∷ _ ∷ _ ∷ _ ∷ _ ∷ _ ∷ _ ∷ _ ∷ _ ∷ _ ∷ _ ∷ _ ∷ []) $
         keep ! (0 ∷ 1 ∷ 13 ∷ 2 ∷ 3 ∷ 4 ∷ 5 ∷ 6 ∷ 14 ∷ 8 ∷ 9 ∷ 10 ∷ 11 ∷ 12 ∷ 15 ∷ []) $
         leaving W f.ended (f.clauses 𝓤 H A at-mem run) y (vint w32 (r .number)) (r .number) (zs .0, (zs .1 .0, (t, zs .1 .1 .1))) (Says (r .number) zs t)

@@ -67,8 +67,8 @@ module _ {M : Type 1} (𝓤 : URA M) (H : Heap 𝓤) (A : Atoms 𝓤) (W : Given
   abbrev totals : RefT Totals
   totals = a .1 .1 .0
 
-  abbrev offset : ℕ
-  offset = a .1 .1 .1 .0
+  abbrev handle : ℕ
+  handle = a .1 .1 .1 .0
 
   abbrev value : RefT ℕ
   value = a .1 .1 .1 .1 .0
@@ -92,7 +92,7 @@ module _ {M : Type 1} (𝓤 : URA M) (H : Heap 𝓤) (A : Atoms 𝓤) (W : Given
 
   -- what the call leaves, and what is said of it
   abbrev G : Outcome (Kept (List ℕ))
-  G = call rowBytes (arena .now) (keptIn (room .now) (totals .now)) (measures offset)
+  G = call rowBytes (arena .now) (keptIn (room .now) (totals .now)) (measures handle)
 
   abbrev Says : ℕ → Lasts first.ended (to-first .0 .0) (to-first .0 .3) → List (Type 0)
   Says k zs = (k ≡ G .answer .number) ∷ (zs .1 .1 .1 .1 .0 ≡ getD (G .answer .values) 0 0) ∷ []
@@ -111,19 +111,19 @@ module _ {M : Type 1} (𝓤 : URA M) (H : Heap 𝓤) (A : Atoms 𝓤) (W : Given
         pass1 ! (init ! 1 refl (tt, (tt, (record { fits = are .0 .0 .1 .0 }, tt)))) $
         pass1 ! (init ! 2 refl (tt, (tt, (record { fits = are .1 .0 .0 .1 .0 }, tt)))) $ pass1 ! (init ! 3 refl (tt, tt)) $
         pass1 ! (init ! 4 refl (tt, record { fits = are .1 .1 .1 .0 .1 })) $ pass1 ! (init ! 5 refl (tt, tt)) $ pass0 ! $
-        -- [_0 … _7; what frees them; arena, room, totals, offset, value; tokens: arena, room, totals, value]
+        -- [_0 … _7; what frees them; arena, room, totals, handle, value; tokens: arena, room, totals, value]
         move ! (11 ∷ 16 ∷ []) $ reads ! 3 6 totals refl refl $ turns ! 2 $
-        -- [_0 … _7; what frees them; arena, room, offset, value; tokens: arena, room, value; the totals; tokens: totals]
+        -- [_0 … _7; what frees them; arena, room, handle, value; tokens: arena, room, value; the totals; tokens: totals]
         assigns ! (addr ! (from ! (hop ! (look ! 5 refl) (stop !)))) (from ! (stop !)) (init ! 7 refl (tt, tt)) $
         move ! (13 ∷ 14 ∷ 15 ∷ 9 ∷ 10 ∷ 16 ∷ 11 ∷ 12 ∷ []) $ calls-by W first.ended (first.clauses 𝓤 H A at-mem run) to-first ! fm known-first (id⊢ 𝓤 _)
         (takes ! (1 + 1) refl (takes ! (1 + 2) refl (takes ! (1 + 6) refl (takes ! (1 + 4) refl (takes ! (1 + 7) refl (no-more !))))))
         (λ w r zs. hears W (Says r zs) (λ es.
-        -- [its result; tokens: arena, room, value; last values: arena, room, totals, offset, value; _0 … _7; what frees them; tokens: totals]
+        -- [its result; tokens: arena, room, value; last values: arena, room, totals, handle, value; _0 … _7; what frees them; tokens: totals]
         peeks ! u32 (Is u32) (shows 𝓤 H A u32) r (w ∷ []) (λ is.
         land ! (from ! (stop !)) (init ! (9 + 0) refl (subst (λ (v : Val). Holds (hasTy (tyInt w32) v) × WT v) (sym (ap only (is .0)))
         (tt, record { fits = is .1 }))) $
         returns ! (look ! (9 + 0) refl) $
-        -- [its result; tokens: arena, room, value; last values: arena, room, totals, offset, value; _0 … _7; what frees them; tokens: totals]
+        -- [its result; tokens: arena, room, value; last values: arena, room, totals, handle, value; _0 … _7; what frees them; tokens: totals]
         turns ! 9 $ frees-all ! (_ ∷ _ ∷ _ ∷ _ ∷ _ ∷ _ ∷ _ ∷ _ ∷ []) $ keep ! (2 ∷ 3 ∷ 0 ∷ 4 ∷ 5 ∷ 6 ∷ 7 ∷ 8 ∷ 9 ∷ 1 ∷ []) $
         leaving W f.ended (f.clauses 𝓤 H A at-mem run) y w r zs (Says r zs) es (id⊢ 𝓤 _)))))
 

@@ -66,8 +66,8 @@ module _ {M : Type 1} (𝓤 : URA M) (H : Heap 𝓤) (A : Atoms 𝓤) (W : Given
   abbrev totals : RefT Totals
   totals = a .1 .1 .0
 
-  abbrev offset : ℕ
-  offset = a .1 .1 .1 .0
+  abbrev handle : ℕ
+  handle = a .1 .1 .1 .0
 
   -- the machine values
   abbrev vals : Vals f.signature κs
@@ -88,7 +88,7 @@ module _ {M : Type 1} (𝓤 : URA M) (H : Heap 𝓤) (A : Atoms 𝓤) (W : Given
 
   -- what the call leaves, and what is said of it
   abbrev G : Outcome (Kept (List ℕ))
-  G = call rowBytes (arena .now) (keptIn (room .now) (totals .now)) (releases offset)
+  G = call rowBytes (arena .now) (keptIn (room .now) (totals .now)) (releases handle)
 
   abbrev Says : ℕ → Lasts first.ended (to-first .0 .0) (to-first .0 .3) → Totals → List (Type 0)
   Says k zs t = (k ≡ G .answer .number) ∷ (zs .0 ≡ G .arena) ∷ (zs .1 .0 ≡ G .room .tables) ∷ (t ≡ G .room .totals) ∷ []
@@ -107,16 +107,16 @@ module _ {M : Type 1} (𝓤 : URA M) (H : Heap 𝓤) (A : Atoms 𝓤) (W : Given
         pass1 ! (init ! 1 refl (tt, (tt, (record { fits = are .0 .0 .1 .0 }, tt)))) $
         pass1 ! (init ! 2 refl (tt, (tt, (record { fits = are .1 .0 .0 .1 .0 }, tt)))) $ pass1 ! (init ! 3 refl (tt, tt)) $
         pass1 ! (init ! 4 refl (tt, record { fits = are .1 .1 .1 .0 .1 })) $ pass0 ! $
-        -- [_0 … _12; what frees them; arena, room, totals, offset; tokens: arena, room, totals]
+        -- [_0 … _12; what frees them; arena, room, totals, handle; tokens: arena, room, totals]
         relends ! 1 6 7 refl refl refl (are .0 .0 .1 .0) $ relends ! 2 8 9 refl refl refl (are .1 .0 .0 .1 .0) $ move ! (16 ∷ 20 ∷ []) $
         copies ! 3 10 totals refl refl $ turns ! 3 $
-        -- [_0 … _12; what frees them; arena, room, offset; tokens: arena, room; the totals; totals; tokens: totals]
+        -- [_0 … _12; what frees them; arena, room, handle; tokens: arena, room; the totals; totals; tokens: totals]
         move ! (17 ∷ 18 ∷ 14 ∷ 15 ∷ 19 ∷ 16 ∷ []) $ calls-by W first.ended (first.clauses 𝓤 H A at-mem run) to-first ! fm known-first (id⊢ 𝓤 _)
         (takes ! (1 + 7) refl (takes ! (1 + 9) refl (takes ! (1 + 10) refl (takes ! (1 + 4) refl (no-more !)))))
         (λ w r zs. hears W (Says (r .number) zs (r .totals)) (λ es.
-        -- [its result; tokens: arena, room; last values: arena, room, totals, offset; _0 … _12; what frees them; totals; tokens: totals]
+        -- [its result; tokens: arena, room; last values: arena, room, totals, handle; _0 … _12; what frees them; totals; tokens: totals]
         turns ! 7 $ move ! (16 ∷ 14 ∷ 15 ∷ []) $ tells ! at-mem run fm known-then 3 5 11 12 totals r refl refl refl refl refl refl (λ t e.
-        -- [tokens: totals; last values: the record; the number; _0 … _12; what frees them; tokens: arena, room; last values: arena, room, totals, offset]
+        -- [tokens: totals; last values: the record; the number; _0 … _12; what frees them; tokens: arena, room; last values: arena, room, totals, handle]
         turns ! 3 $ frees-all ! (_ ∷ _ ∷ _ ∷ _ ∷ _ ∷ _ ∷ _ ∷ _ ∷ _ ∷ _ ∷ _ ∷ _ ∷ _ ∷ []) $ keep ! (0 ∷ 1 ∷ 6 ∷ 2 ∷ 3 ∷ 7 ∷ 5 ∷ 8 ∷ []) $
         leaving W f.ended (f.clauses 𝓤 H A at-mem run) y (vint w32 (r .number)) (r .number) (zs .0, (zs .1 .0, (t, zs .1 .1 .1))) (Says (r .number) zs t)
         (subst (λ (t : Totals). both (Says (r .number) zs t)) (sym e) es) (id⊢ 𝓤 _)))))

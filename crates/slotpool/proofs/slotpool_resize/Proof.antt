@@ -67,8 +67,8 @@ module _ {M : Type 1} (𝓤 : URA M) (H : Heap 𝓤) (A : Atoms 𝓤) (W : Given
   abbrev totals : RefT Totals
   totals = a .1 .1 .0
 
-  abbrev offset : ℕ
-  offset = a .1 .1 .1 .0
+  abbrev handle : ℕ
+  handle = a .1 .1 .1 .0
 
   abbrev n : ℕ
   n = a .1 .1 .1 .1 .0
@@ -95,7 +95,7 @@ module _ {M : Type 1} (𝓤 : URA M) (H : Heap 𝓤) (A : Atoms 𝓤) (W : Given
 
   -- what the call leaves, and what is said of it
   abbrev G : Outcome (Kept (List ℕ))
-  G = call rowBytes (arena .now) (keptIn (room .now) (totals .now)) (resizes offset n)
+  G = call rowBytes (arena .now) (keptIn (room .now) (totals .now)) (resizes handle n)
 
   abbrev Says : ℕ → Lasts first.ended (to-first .0 .0) (to-first .0 .3) → Totals → List (Type 0)
   Says k zs t = (k ≡ G .answer .number) ∷ (zs .1 .1 .1 .1 .1 .0 ≡ getD (G .answer .values) 0 0) ∷ (zs .0 ≡ G .arena) ∷ (zs .1 .0 ≡ G .room .tables) ∷
@@ -116,19 +116,19 @@ module _ {M : Type 1} (𝓤 : URA M) (H : Heap 𝓤) (A : Atoms 𝓤) (W : Given
         pass1 ! (init ! 2 refl (tt, (tt, (record { fits = are .1 .0 .0 .1 .0 }, tt)))) $ pass1 ! (init ! 3 refl (tt, tt)) $
         pass1 ! (init ! 4 refl (tt, record { fits = are .1 .1 .1 .0 .1 })) $ pass1 ! (init ! 5 refl (tt, record { fits = are .1 .1 .1 .1 .0 .1 })) $
         pass1 ! (init ! 6 refl (tt, tt)) $ pass0 ! $
-        -- [_0 … _15; what frees them; arena, room, totals, offset, n, value; tokens: arena, room, totals, value]
+        -- [_0 … _15; what frees them; arena, room, totals, handle, n, value; tokens: arena, room, totals, value]
         relends ! 1 8 9 refl refl refl (are .0 .0 .1 .0) $ relends ! 2 10 11 refl refl refl (are .1 .0 .0 .1 .0) $ move ! (19 ∷ 25 ∷ []) $
         copies ! 3 12 totals refl refl $ turns ! 3 $
-        -- [_0 … _15; what frees them; arena, room, offset, n, value; tokens: arena, room, value; the totals; totals; tokens: totals]
+        -- [_0 … _15; what frees them; arena, room, handle, n, value; tokens: arena, room, value; the totals; totals; tokens: totals]
         assigns ! (addr ! (from ! (hop ! (look ! 6 refl) (stop !)))) (from ! (stop !)) (init ! 13 refl (tt, tt)) $
         move ! (22 ∷ 23 ∷ 24 ∷ 17 ∷ 18 ∷ 25 ∷ 19 ∷ 20 ∷ 21 ∷ []) $ calls-by W first.ended (first.clauses 𝓤 H A at-mem run) to-first ! fm known-first (id⊢ 𝓤 _)
         (takes ! (1 + 9) refl (takes ! (1 + 11) refl (takes ! (1 + 12) refl
         (takes ! (1 + 4) refl (takes ! (1 + 5) refl (takes ! (1 + 13) refl (no-more !)))))))
         (λ w r zs. hears W (Says (r .number) zs (r .totals)) (λ es.
-        -- [its result; tokens: arena, room, value; last values: arena, room, totals, offset, n, value; _0 … _15; what frees them; totals; tokens: totals]
+        -- [its result; tokens: arena, room, value; last values: arena, room, totals, handle, n, value; _0 … _15; what frees them; totals; tokens: totals]
         turns ! 10 $ move ! (19 ∷ 17 ∷ 18 ∷ []) $ tells ! at-mem run fm known-then 3 7 14 15 totals r refl refl refl refl refl refl (λ t e.
         -- [tokens: totals; last values: the record; the number; _0 … _15; what frees them; tokens: arena, room, value; last values: arena, room, totals,
-        --  offset, n, value]
+        --  handle, n, value]
         turns ! 3 $ frees-all ! (_ ∷ _ ∷ _ ∷ _ ∷ _ ∷ _ ∷ _ ∷ _ ∷ _ ∷ _ ∷ _ ∷ _ ∷ _ ∷ _ ∷ _ ∷ _ ∷ []) $
         keep ! (0 ∷ 1 ∷ 9 ∷ 2 ∷ 3 ∷ 4 ∷ 10 ∷ 6 ∷ 7 ∷ 8 ∷ 11 ∷ []) $
         leaving W f.ended (f.clauses 𝓤 H A at-mem run) y (vint w32 (r .number)) (r .number) (zs .0, (zs .1 .0, (t, zs .1 .1 .1))) (Says (r .number) zs t)
