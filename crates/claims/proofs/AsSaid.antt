@@ -16,7 +16,7 @@ use Rattle.model.proofs.Fresh.{fresh-formed, fresh-totals, set-up-done}
 use Rattle.model.proofs.Calls.{call-sound, carried-whole, measure-keeps, report-keeps}
 use Rattle.claims.specs.Demand2 as demand2
 use Rattle.claims.specs.AsSaid.{MadeFresh, SetsUpAsSaid, ReportsAsSaid, ZeroedOnly, NeverAtZero, ReadsOnly, Waits, Goes, ReleasesAsSaid}
-use Rattle.claims.proofs.Handles.{on-present}
+use Rattle.model.proofs.Handles.{on-present}
 use Rattle.claims.proofs.Cases.{release-parts}
 use Rattle.claims.proofs.Demand1.{starts-found}
 use Rattle.claims.proofs.Demand2.{set-up-accepted, Accepted, accepted, releases-exactly}

@@ -32,7 +32,7 @@ use Rattle.model.proofs.Formed.{code-kept}
 use Rattle.model.proofs.Lowest.{reserve-none, reserve-some}
 use Rattle.claims.specs.Demand1.{order, handleIn, FirstDue, refusedValues, StartsAt, LiveAt, headerDue, guardDue, TooLargeFor, Due, Demand1}
 use Rattle.claims.proofs.Codes.{no-code, some-code, enlarged-align, enlarged-code}
-use Rattle.claims.proofs.Handles.{by-bits}
+use Rattle.model.proofs.Handles.{by-bits}
 use Rattle.claims.proofs.Cases.{release-parts}
 use Rattle.claims.proofs.Meets.{too-long, short-enough, meets, meets-none}
 

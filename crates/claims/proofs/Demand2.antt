@@ -34,7 +34,7 @@ use Rattle.model.proofs.Lowest.{site-lowest, first-lowest}
 use Rattle.claims.specs.Demand1.{order, handleIn, FirstDue, StartsAt, LiveAt, headerDue, guardDue, Due}
 use Rattle.claims.specs.Demand2 as demand2
 use Rattle.claims.specs.Demand2.{ReleasesExactly, MeasuresExactly, GrantsExactly, GrantedBy, GrantsAsSaid, InBlock, NeverShared, LeavesSound}
-use Rattle.claims.proofs.Handles.{stepped-bits, start-cleared, by-bits}
+use Rattle.model.proofs.Handles.{stepped-bits, start-cleared, by-bits}
 use Rattle.claims.proofs.Cases.{refuses, by-call, on-grant}
 use Rattle.claims.proofs.Demand1.{blockFirst, starts-found, none-starts, starts-same, starts-alike, found-starts, demand1}
 

@@ -15,7 +15,7 @@ use Rattle.model.proofs.Blocks.{header-length, frame-length}
 use Rattle.model.proofs.Moves.{Old, old, old-apart, stays-start}
 use Rattle.model.proofs.Lists.{small, by-grants}
 use Rattle.claims.specs.Demand3.{GainsEach}
-use Rattle.claims.proofs.Handles.{start-cleared}
+use Rattle.model.proofs.Handles.{start-cleared}
 use Rattle.claims.proofs.Cases.{reserve-live}
 
 module _ (row : ℕ) where

@@ -29,7 +29,7 @@ use Rattle.model.proofs.Kept.{engine-lawful, kept-totals}
 use Rattle.model.proofs.Calls.{Asks}
 use Rattle.model.proofs.Moves.{Old, old, old-released}
 use Rattle.claims.specs.History.{Entry, Ledger, opening, without, enteredGrant, enteredEach, entered, Asked, booked, kept, Counts, Tells, History}
-use Rattle.claims.proofs.Handles.{same-start, stays-handle}
+use Rattle.model.proofs.Handles.{same-start, stays-handle}
 use Rattle.claims.proofs.Cases.{reserve-live, taken-same, refuses, by-call, Named, on-named, on-grant, on-aligned, on-resize}
 use Rattle.claims.proofs.Demand1.{demand1}
 use Rattle.claims.proofs.Demand2.{Accepted, accepted, set-up-accepted, sound-leaves}

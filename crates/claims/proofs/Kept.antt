@@ -14,7 +14,7 @@ use Rattle.model.proofs.Moves.{Old, old, stays-start}
 use Rattle.claims.specs.Demand1.{LiveAt}
 use Rattle.claims.specs.AsSaid.{sized}
 use Rattle.claims.specs.Alignment.{ResizesKeepAlignment}
-use Rattle.claims.proofs.Handles.{start-cleared}
+use Rattle.model.proofs.Handles.{start-cleared}
 use Rattle.claims.proofs.Cases.{refuses, Named, on-resize, reserve-live}
 use Rattle.claims.proofs.Demand2.{Accepted, accepted}
 use Rattle.claims.proofs.Stays.{discard-keeps, live-at, accepted-pool}

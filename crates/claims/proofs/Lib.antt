@@ -1,7 +1,6 @@
 pub mod Codes
 pub mod Tables
 pub mod Bench
-pub mod Handles
 pub mod Cases
 pub mod Meets
 pub mod Demand1

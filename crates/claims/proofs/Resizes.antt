@@ -29,7 +29,7 @@ use Rattle.model.proofs.Moves.{Old, old, old-released, old-apart, slot-owned, s
 use Rattle.claims.specs.Demand1.{order, headerDue, guardDue, Due}
 use Rattle.claims.specs.Demand2 as demand2
 use Rattle.claims.specs.AsSaid.{Waits, Goes, Near, Serves, sized, stay, InPlace, Moved, MovedBy, ResizesAsSaid}
-use Rattle.claims.proofs.Handles.{start-cleared, stays-handle, on-present}
+use Rattle.model.proofs.Handles.{start-cleared, stays-handle, on-present}
 use Rattle.claims.proofs.Cases.{release-parts, reserve-live}
 use Rattle.claims.proofs.Codes.{code-align, enlarged-align}
 use Rattle.claims.proofs.Demand1.{demand1, starts-found, resize-large}

@@ -15,21 +15,21 @@ use Rattle.model.specs.Calls.{KeptBytes, Result, soundKept, call}
 use Rattle.model.proofs.Fresh.{whole-units, fresh-formed}
 use Rattle.model.proofs.Tables.{sound-facts}
 use Rattle.model.proofs.Lookup.{fits, disp-inside, place-unique, owned-unique}
-use Rattle.model.proofs.Stays.{no-group}
+use Rattle.model.proofs.Stays.{slot-after, slot-back, no-group}
 use Rattle.model.proofs.Moves.{slot-owned, Old, old, old-released}
 use Rattle.model.proofs.Formed.{plan-formed}
 use Rattle.model.proofs.Calls.{Asks}
 use Rattle.claims.specs.Demand2.{Intact}
 use Rattle.claims.specs.History.{Asked}
 use Rattle.claims.specs.Stale.{Uses, Ends, Steps, StartsCleared, CountsStep, Remains, RemainsAll, after, StaleRefused}
-use Rattle.claims.proofs.Handles.{start-cleared}
+use Rattle.model.proofs.Handles.{start-cleared}
 use Rattle.claims.proofs.Cases.{refuses, by-call, Named, on-named, on-resize}
 use Rattle.claims.proofs.Demand1.{demand1}
 use Rattle.claims.proofs.Demand2.{Accepted, accepted, measures-exactly}
 use Rattle.claims.proofs.AsSaid.{sets-up-as-said, releases-as-said}
 use Rattle.claims.proofs.Resizes.{resizes-as-said}
 use Rattle.claims.proofs.Stays.{sound-formed, accepted-pool}
-use Rattle.claims.proofs.Slots.{slot-after, slot-back, given-back, as-it-was, plan-steps}
+use Rattle.claims.proofs.Slots.{given-back, as-it-was, plan-steps}
 
 pub starts-cleared : (row : ℕ) → StartsCleared row
 starts-cleared row n t p s e = start-cleared row (whole-units row n (sound-facts byMasks row n t s .lawful)) p

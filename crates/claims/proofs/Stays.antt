@@ -17,13 +17,13 @@ use Rattle.model.proofs.Kept.{engine-lawful}
 use Rattle.model.proofs.Fresh.{fresh-rows}
 use Rattle.model.proofs.Calls.{Asks}
 use Rattle.model.proofs.Lookup.{placed, same-placed, groupOf, lookup-found}
-use Rattle.model.proofs.Stays.{Stays, reserve-keeps, stays-before, stays-behind}
+use Rattle.model.proofs.Stays.{slot-after, Stays, reserve-keeps, stays-before, stays-behind}
 use Rattle.model.proofs.Moves.{live-granted, stays-start}
 use Rattle.model.proofs.Lists.{small, by-grants, on-list}
 use Rattle.model.proofs.Formed.{on-block, plan-formed}
 use Rattle.claims.specs.Demand1.{LiveAt}
 use Rattle.claims.specs.Alignment.{Names, OthersStay}
-use Rattle.claims.proofs.Handles.{stays-handle}
+use Rattle.model.proofs.Handles.{stays-handle}
 use Rattle.claims.proofs.Cases.{by-call, Named, on-named, on-grant, on-aligned, on-resize}
 use Rattle.claims.proofs.Demand2.{Accepted, accepted}
 
@@ -89,10 +89,7 @@ module _ (row : ℕ) where
 
   -- one change after another
   stays-twice : (p q r : Place) → Stays row p q → Stays row q r → Stays row p r
-  stays-twice p q r s u = record {
-    slot = record { first = u .slot .first ∙ s .slot .first; cls = u .slot .cls ∙ s .slot .cls; number = u .slot .number ∙ s .slot .number };
-    state = u .state ∙ s .state;
-  }
+  stays-twice p q r s u = record { slot = slot-after row p q r (s .slot) (u .slot); state = u .state ∙ s .state }
 
   -- ---- one slot changes, or one group's rows become free
 

@@ -27,7 +27,7 @@ use Rattle.model.proofs.Lookup.{Fits, fits, disp-inside}
 use Rattle.model.proofs.Reserve.{plain, Served, served, reserve-formed, refill-sound, reserve-size}
 use Rattle.model.proofs.Formed.{on-block, become-fits, vacant-sound}
 use Rattle.claims.specs.Demand3.{sizeAt, Gains, Cleared}
-use Rattle.claims.proofs.Handles.{start-cleared}
+use Rattle.model.proofs.Handles.{start-cleared}
 use Rattle.claims.proofs.Cases.{release-parts, Named, on-named, on-grant, on-aligned, on-resize, reserve-live, taken-same, refuses}
 use Rattle.claims.proofs.Gathers.{framed, list-clears}
 use Rattle.claims.proofs.Cells.{due, slotCells, slotsCells, pad, spanCells, cells, cells-append, cells-length, group-length, fresh-pool-cells, zeros-due}

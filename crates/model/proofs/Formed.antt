@@ -24,6 +24,7 @@ use Rattle.model.proofs.Bounds.{parts, freed-whole, here-aligned, becom
 use Rattle.model.proofs.Lookup.{Fits, fits, lookup-found}
 use Rattle.model.proofs.Lists.{small, by-grants, on-list}
 use Rattle.model.proofs.Reserve.{plain, Granted, reserve-formed}
+use Rattle.model.proofs.Handles.{by-bits}
 
 -- an element in the middle of a list
 pub any-middle : {A : Type 0} (f : A → Bool) (xs : List A) (y : A) (ys : List A) → any f (xs ++ (y ∷ ys)) ≡ (f y || any f (xs ++ ys))
@@ -179,7 +180,7 @@ module _ (row : ℕ) (pos : 0 < row) where
   on-handle M P h f not-so live-there =
       on-block M P (startOf h) (byHandle P h f) (not-so NoSuchBlock) (not-so AlreadyFree)
       (λ p e q l. choose-case M (eqb (h % 16) (useBits (count (p .state)))) (f p) (refused Stale P)
-      (λ b. live-there p e q l (omega (arith, lookup-found row pos P (startOf h) p e .2, eqb-true (h % 16) (useBits (count (p .state))) b)))
+      (λ b. live-there p e q l (by-bits row p h (lookup-found row pos P (startOf h) p e .2) .1 (eqb-true (h % 16) (useBits (count (p .state))) b)))
       (λ _. not-so Stale))
 
   -- ---- calls

@@ -11,6 +11,7 @@ pub mod Lowest
 pub mod Lists
 pub mod Proposals
 pub mod Blocks
+pub mod Handles
 pub mod Formed
 pub mod Calls
 pub mod Forms

@@ -1,7 +1,7 @@
 -- A granted slot is found by its start, and by nothing else.
 use Rattle.mem.proofs.Prelude.{_≡_, sym, ap, refl, ap₂, subst, true, Bool, false, not, inl, inr, _⊎_, some, none, Option, List, [], _∷_, _++_, append-assoc}
 use Rattle.mem.proofs.Prelude.{append-nil, _+_, ℕ, _<_, _≤_, _*_, _-_, suc, _/_, mul-comm, le-div-iff-mul-le, mul-add, arith, eq-eqb, leb-false, leb-true, T}
-use Rattle.mem.proofs.Prelude.{eqb, leb, eqb→eq, leb→le, ltb→lt, T-not, length, length-append}
+use Rattle.mem.proofs.Prelude.{eqb, eqb-true, eqb-false, leb, eqb→eq, leb→le, ltb→lt, T-not, length, length-append}
 use Prim.Native.Nat.{max}
 use native.Mathlib.Nat.{mul-le-mul-right, suc-mul, div-lt-iff-lt-mul}
 use Rattle.mem.specs.Lists.{choose, every, find}
@@ -328,6 +328,18 @@ module _ (row : ℕ) (pos : 0 < row) where
       one-slot s (slotNumber q) (slotNumber p) (i - (row * rows row (p .before) + 12))
       (omega (arith, o′ .from, b, m)) (omega (arith, o′ .to, b, m, ap slotBytes c, suc-mul (slotNumber q) s))
       (omega (arith, o .from)) (omega (arith, o .to, suc-mul (slotNumber p) s)))
+
+  -- two places of a pool are one or not
+  pub one-or-other : (p q : Place) → T (wellFormed (poolOf p)) → poolOf q ≡ poolOf p → (q ≡ p) ⊎ (q ≡ p → ⊥)
+  one-or-other p q w e = go (eqb (owned row q) (owned row p)) refl
+    where
+      go : (b : Bool) → eqb (owned row q) (owned row p) ≡ b → (q ≡ p) ⊎ (q ≡ p → ⊥)
+      go true h =
+          let i : owned row q ≡ owned row p = eqb-true (owned row q) (owned row p) h in
+          let v : T (wellFormed (poolOf q)) = subst (λ P. T (wellFormed P)) (sym e) w in
+          inl (owned-unique p q (owned row p) w e (record { from = omega arith; to = omega (arith, bytes-least (p .cls) (fits p w .class)) })
+          (record { from = omega (arith, i); to = omega (arith, i, bytes-least (q .cls) (fits q v .class)) }))
+      go false h = inr (λ z. eqb-false (owned row q) (owned row p) h (ap (owned row) z))
 
   -- a live slot's bytes lie outside the rows of a group that has no live slot but perhaps another
   pub outside-group : (p q : Place) (i : ℕ) → T (wellFormed (poolOf p)) → poolOf q ≡ poolOf p → (q ≡ p → ⊥) → T (isLive (q .state)) → Owns row q i

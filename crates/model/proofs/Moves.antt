@@ -2,11 +2,12 @@
 use Rattle.mem.proofs.Prelude.{_∙_, _≡_, sym, ap, ap₂, subst, ⊎-elim, inl, inr, _⊎_, some, _+_, ℕ, _<_, _≤_, _*_, arith, T}
 use Rattle.classes.specs.Classes.{slotBytes}
 use Rattle.classes.specs.Alignments.{Askable}
+use Rattle.classes.proofs.Laws.{bytes-least}
 use Rattle.model.specs.declared.Slot.{Slot}
 use Rattle.model.specs.declared.Slot.the-variants.{Fresh, Idle, Live}
 use Rattle.model.specs.State.{Pool, Place, isLive, granted, disp, wellFormed, poolOf, owned, start, SameSlot}
 use Rattle.model.specs.Plans.{onBlock, lookup, releaseAt, discard, reserve}
-use Rattle.model.proofs.Lookup.{lookup-start, owned-apart}
+use Rattle.model.proofs.Lookup.{fits, lookup-start, owned-unique, owned-apart}
 use Rattle.model.proofs.Calls.{on-live}
 use Rattle.model.proofs.Reserve.{reserve-formed}
 use Rattle.model.proofs.Stays.{Stays, reserve-keeps, reserve-other}
@@ -25,6 +26,14 @@ module _ (row : ℕ) where
   stays-start p q s = omega (arith, slot-owned p q (s .slot), ap disp (s .state))
 
   module _ (pos : 0 < row) where
+    -- a slot is one place of its pool
+    pub slot-unique : (p q : Place) → T (wellFormed (poolOf p)) → poolOf q ≡ poolOf p → SameSlot row p q → q ≡ p
+    slot-unique p q w e s =
+        let i : owned row q ≡ owned row p = slot-owned p q s in
+        let b : 0 < slotBytes (p .cls) = omega (arith, bytes-least (p .cls) (fits p w .class)) in
+        owned-unique row pos p q (owned row p) w e (record { from = omega arith; to = omega arith })
+        (record { from = omega (arith, i); to = omega (arith, i, ap slotBytes (s .cls)) })
+
     -- a live block is given back
     pub discard-found : (p : Place) → T (wellFormed (poolOf p)) → T (isLive (p .state)) → discard row (poolOf p) p ≡ releaseAt row p
     unfolding discard

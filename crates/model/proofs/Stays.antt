@@ -1,6 +1,6 @@
 -- What a grant makes of the slots of a pool: the one that it takes is not live before it and steps its count, any other keeps its count, and a live
 -- one its state. So it leaves every live block where it is.
-use Rattle.mem.proofs.Prelude.{_∙_, _≡_, sym, ap, refl, subst, true, false, ⊎-elim, inl, inr, _⊎_, some, List, [], _∷_}
+use Rattle.mem.proofs.Prelude.{_∙_, _≡_, sym, ap, refl, subst, true, false, true≢false, ⊎-elim, inl, inr, _⊎_, some, List, [], _∷_}
 use Rattle.mem.proofs.Prelude.{_++_, append-assoc, map, append-nil, _+_, ℕ, _<_, _%_, suc, zero, add-zero, arith, T}
 use Rattle.mem.proofs.Prelude.{length, length-append, length-map}
 use mathlib.Core.List.{map-append}
@@ -12,14 +12,27 @@ use Rattle.classes.specs.Alignments.{enlarged}
 use Rattle.classes.proofs.Laws.{rows-pos}
 use Rattle.model.specs.declared.Slot.{Slot}
 use Rattle.model.specs.declared.Slot.the-variants.{Fresh, Idle, Live}
-use Rattle.model.specs.State.{Span, Pool, Place, free, group, isLive, isReady, count, wellFormed, poolOf, rows, SameSlot}
+use Rattle.model.specs.State.{Span, Pool, Place, free, group, isLive, isReady, count, wellFormed, poolOf, become, rows, SameSlot}
 use Rattle.model.specs.Plans.{Site, turnReady, refill, grantSlot, grantIn, reserve, freshPool}
 use Rattle.model.proofs.Rooms.{rows-append}
 use Rattle.model.proofs.Fresh.{fresh-rows}
 use Rattle.model.proofs.Lookup.{placed, groupOf, InRows, span-unique, split-unique}
 use Rattle.model.proofs.Reserve.{Open, New, site-found, Taken, Served, served}
 
--- one slot of two pools, in the same state
+-- ---- one slot of several pools
+
+module _ (row : ℕ) where
+  pub slot-after : (p q r : Place) → SameSlot row p q → SameSlot row q r → SameSlot row p r
+  slot-after p q r s u = record { first = u .first ∙ s .first; cls = u .cls ∙ s .cls; number = u .number ∙ s .number }
+
+  pub slot-back : (p q : Place) → SameSlot row p q → SameSlot row q p
+  slot-back p q s = record { first = sym (s .first); cls = sym (s .cls); number = sym (s .number) }
+
+  -- a slot is the same whatever its state
+  pub slot-become : (p : Place) (x : Slot) (q : Place) → SameSlot row p q → SameSlot row (become p x) q
+  slot-become p x q s = record { first = s .first; cls = s .cls; number = s .number }
+
+-- in the same state
 pub record Stays (row : ℕ) (p q : Place) : Type 0 where
   pub slot : SameSlot row p q
   pub state : q .state ≡ p .state
@@ -53,6 +66,17 @@ ready-idle : (x : Slot) → T (isReady x) → isLive x ≡ false
 ready-idle Fresh r = refl
 ready-idle (Idle b k d) r = refl
 ready-idle (Live a) r = absurd r
+
+-- one grant after another
+pub goes-twice : (x y z : Slot) → Goes x y → Goes y z → Goes x z
+goes-twice x y z (inl a) (inl b) = inl (record {
+  counts = b .counts ∙ a .counts;
+  lives = b .lives ∙ a .lives;
+  same = λ l. b .same (subst T (sym (a .lives)) l) ∙ a .same l;
+})
+goes-twice x y z (inl a) (inr b) = inr (record { counts = b .counts ∙ ap (λ k. (k + 1) % 256) (a .counts); idle = sym (a .lives) ∙ b .idle; lives = b .lives })
+goes-twice x y z (inr a) (inl b) = inr (record { counts = b .counts ∙ a .counts; idle = a .idle; lives = b .lives ∙ a .lives })
+goes-twice x y z (inr a) (inr b) = absurd (true≢false (sym (a .lives) ∙ b .idle))
 
 -- a slot stays at its number in a refill
 refilled : (us : List Slot) (x : Slot) (vs : List Slot)

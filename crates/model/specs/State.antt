@@ -174,12 +174,12 @@ module _ (row : ℕ) where
   abbrev pub start : Place → ℕ
   start p = beginning p + 16 * disp (p .state)
 
+  -- the handle of a live block; 02 §7: "Callers get handles"
+  abbrev pub handle : Place → ℕ
+  handle p = start p + useBits (count (p .state))
+
   -- one slot of two pools: its group has the same class and the same first row, and it has the same number in it
   pub record SameSlot (p q : Place) : Type 0 where
     pub first : rows (q .before) ≡ rows (p .before)
     pub cls : q .cls ≡ p .cls
     pub number : slotNumber q ≡ slotNumber p
-
-  -- the handle of a live block; 02 §7: "Callers get handles"
-  abbrev pub handle : Place → ℕ
-  handle p = start p + useBits (count (p .state))

@@ -63,12 +63,12 @@ abbrev pub staysIn : Block → ℕ → Bool
 staysIn b n = leb n (slotBytes (b .class) - 4 - 16 * b .alloc .disp) && ownClass (b .class) (enlarged (b .alloc .align) n)
 
 module _ (row : ℕ) where
-  -- what is found at an offset: a live block with header and guard as due, or why not
+  -- a live block with header and guard as due, or why not
   abbrev pub byDamage : Block → Damage → Located
   byDamage b Intact = At b
   byDamage b (Damaged r) = Refused r
 
-  -- the block of a handle, a live one whose slot has that use count, by its damage
+  -- what is located by a handle with the bits of a use count; any other is stale
   abbrev pub byBits : (handle count : ℕ) → Located → Located
   byBits h k r = choose (eqb (h % 16) (useBits k)) r (Refused Stale)
 

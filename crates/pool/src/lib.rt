@@ -2,7 +2,7 @@
 // them gives those after it back.
 //
 // Each is a paragraph of document 01. It says with equations what it answers and what it leaves of arena, room and totals, for any bytes,
-// totals, offset and size.
+// totals, handle and size.
 ghost use mathlib.Core.Path.{_≡_};
 ghost use mathlib.Core.Bool.{true};
 ghost use Prim.Native.Nat.{_≤_, _<_};

@@ -12,6 +12,7 @@ use Rattle.trace.specs.declared.Step.{Step}
 use Rattle.trace.specs.declared.Step.the-variants.{Record, Bad, End}
 
 -- "Operations: 1 grant n, 2 release offset, 3 resize offset n, 4 measure offset, 5 store offset and the bytes that follow, 6 report."
+-- 02 §7: "traces (but for a store's offset, still an arena place) .. read handles"
 pub data Operation : Type 0 where
   grant : (n : ℕ) → Operation
   release : (handle : ℕ) → Operation
