@@ -8,7 +8,7 @@ use Rattle.classes.specs.Classes.{rowsOf}
 use Rattle.classes.specs.Alignments.{ordinary, codeOf, Askable}
 use Rattle.classes.proofs.Laws.{rows-pos}
 use Rattle.model.specs.declared.Slot.{Slot}
-use Rattle.model.specs.State.{Pool, Place, isLive, count, align, wellFormed, poolOf, become, rows, SameSlot}
+use Rattle.model.specs.State.{Pool, Place, isLive, align, wellFormed, poolOf, become, rows, SameSlot}
 use Rattle.model.specs.Plans.{Plan, reserve, reserveAll, poolAfter, vacant, releaseAt, release, resizeInPlace, moveTo}
 use Rattle.model.specs.Plans.{measure, measureAt, report, freshPool, plan}
 use Rattle.model.specs.Plans.{Call, setsUp, grants, grantsAligned, releases, resizes, measures, reports, grantsList}
@@ -20,13 +20,9 @@ use Rattle.model.proofs.Moves.{slot-unique, Old, old, old-released}
 use Rattle.model.proofs.Lists.{small, by-grants, on-list}
 use Rattle.model.proofs.Formed.{any-middle, vacant-sound, become-formed}
 use Rattle.model.proofs.Calls.{Asks}
-use Rattle.claims.specs.Stale.{Grants, Steps}
+use Rattle.claims.specs.Stale.{Grants, Fades, Steps}
 use Rattle.claims.proofs.Cases.{Named, on-named, on-grant, on-aligned, on-resize}
 use Rattle.claims.proofs.Stays.{KeptIn, become-keeps}
-
--- a slot that no grant takes
-abbrev pub Fades : Slot → Slot → Type 0
-Fades x y = (count y ≡ count x) × (T (isLive y) → T (isLive x))
 
 module _ (row : ℕ) (pos : 0 < row) where
   -- ---- one slot changes

@@ -193,8 +193,8 @@ module _ (row : ℕ) (pos : 0 < row) where
       (record { from = omega (arith, slot-owned row p q u, s); to = omega (arith, slot-owned row p q u, s, dp, ap slotBytes (u .cls), bytes-units (p .cls)) })
       (record { from = omega (arith, s′); to = omega (arith, s′, dr, bytes-units (r .cls)) }) in
       let j : useBits (count (q .state)) ≡ useBits (count (p .state)) =
-      ap (λ p. useBits (count (p .state))) (sym z)
-      ∙ one-handle (start row r) (start row p) (useBits (count (r .state))) (useBits (count (p .state))) (s′ ∙ sym s) (i′ ∙ sym i) in
+      subst (λ x. useBits (count (x .state)) ≡ useBits (count (p .state))) z
+      (one-handle (start row r) (start row p) (useBits (count (r .state))) (useBits (count (p .state))) (s′ ∙ sym s) (i′ ∙ sym i)) in
       bits-differ (count (p .state)) (n .times) (count (q .state)) (n .counts) (n .again (subst (λ p. T (isLive (p .state))) z l)) (n .few) j
 
 -- a live slot's count is a byte
