@@ -20,7 +20,7 @@ use Rattle.model.proofs.Moves.{slot-unique, Old, old, old-released}
 use Rattle.model.proofs.Lists.{small, by-grants, on-list}
 use Rattle.model.proofs.Formed.{any-middle, vacant-sound, become-formed}
 use Rattle.model.proofs.Calls.{Asks}
-use Rattle.claims.specs.Stale.{Grants, Fades, Steps}
+use Rattle.claims.specs.Stale.{Grants, NotGranted, Steps}
 use Rattle.claims.proofs.Cases.{Named, on-named, on-grant, on-aligned, on-resize}
 use Rattle.claims.proofs.Stays.{KeptIn, become-keeps}
 
@@ -85,7 +85,7 @@ module _ (row : ℕ) (pos : 0 < row) where
     -- its own slot, if the group stays, waits; any other keeps its state
     pub record GivenBack (q : Place) : Type 0 where
       pub own : SameSlot row o q → q .state ≡ vacant o
-      pub others : (p : Place) → poolOf p ≡ poolOf o → SameSlot row p q → Fades (p .state) (q .state)
+      pub others : (p : Place) → poolOf p ≡ poolOf o → SameSlot row p q → NotGranted (p .state) (q .state)
 
     pub given-back : (q : Place) → poolOf q ≡ releaseAt row o .pool → GivenBack q
     unfolding releaseAt
@@ -98,14 +98,14 @@ module _ (row : ℕ) (pos : 0 < row) where
         (true-T _ (any-middle isLive (o .lower) (vacant o) (o .upper) ∙ e)) (λ _. tt) .formed in
         record {
           own = λ s. ap (λ p. p .state) (slot-unique row pos b q v f (slot-become row o (vacant o) q s));
-          others = λ p i s. became o (vacant o) Fades w v (refl, λ z. absurd z) (λ y. (refl, λ z. z)) p q i f s;
+          others = λ p i s. became o (vacant o) NotGranted w v (refl, λ z. absurd z) (λ y. (refl, λ z. z)) p q i f s;
         })
         (λ e f. record {
           own = λ s. absurd (gone q f (s .first));
           others = λ p i s.
               let (p′, g, u) = freed q f in
               let z : p′ ≡ p = slot-unique row pos p p′ (subst (λ P. T (wellFormed P)) (sym i) w) (g ∙ sym i) (slot-after row p q p′ s (u .slot)) in
-              subst (Fades (p .state)) (ap (λ p. p .state) (sym z) ∙ u .state) (refl, λ z. z);
+              subst (NotGranted (p .state)) (ap (λ p. p .state) (sym z) ∙ u .state) (refl, λ z. z);
         })
 
   -- ---- calls
@@ -123,7 +123,7 @@ module _ (row : ℕ) (pos : 0 < row) where
     as-it-was c q f s = subst (Steps c (p .state)) (ap (λ p. p .state) (sym (slot-unique row pos p q formed (f ∙ sym e) s))) (inl (refl, λ z. z))
 
     -- a grant, and then perhaps what gives another block back
-    steps-after : (c : Call) → Grants c → (x y : Slot) → Goes (p .state) x → Fades x y → Steps c (p .state) y
+    steps-after : (c : Call) → Grants c → (x y : Slot) → Goes (p .state) x → NotGranted x y → Steps c (p .state) y
     steps-after c k x y (inl a) (b, d) = inl (b ∙ a .counts, λ z. subst T (a .lives) (d z))
     steps-after c k x y (inr a) (b, d) = inr (k, subst (λ v. T (not v)) (sym (a .idle)) tt, b ∙ a .counts)
 
@@ -132,7 +132,7 @@ module _ (row : ℕ) (pos : 0 < row) where
     goes-steps c k Q v (p′, a, s, g) q f u =
         let z : q ≡ p′ =
         slot-unique row pos p′ q (subst (λ P. T (wellFormed P)) (sym a) v) (f ∙ sym a) (slot-after row p′ p q (slot-back row p p′ s) u) in
-        steps-after c k (p′ .state) (q .state) g (subst (Fades (p′ .state)) (ap (λ p. p .state) (sym z)) (refl, λ z. z))
+        steps-after c k (p′ .state) (q .state) g (subst (NotGranted (p′ .state)) (ap (λ p. p .state) (sym z)) (refl, λ z. z))
 
     -- a move: a grant, and the old block is given back
     move-steps : (h n : ℕ) (o g : Place) → Named row P h o → Askable (align (o .state)) n → reserve row P (align (o .state)) n ≡ some g

@@ -50,12 +50,12 @@ Ends reports h r = ⊥
 Ends (grantsList total cap places ns) h r = ⊥
 
 -- a slot before and after a call that does not grant it: its count is the same, and it is live only if it was
-abbrev pub Fades : Slot → Slot → Type 0
-Fades x y = (count y ≡ count x) × (T (isLive y) → T (isLive x))
+abbrev pub NotGranted : Slot → Slot → Type 0
+NotGranted x y = (count y ≡ count x) × (T (isLive y) → T (isLive x))
 
 -- over any call: so, or it was not live, and is granted
 abbrev pub Steps : Call → Slot → Slot → Type 0
-Steps c x y = Fades x y ⊎ (Grants c × T (not (isLive x)) × (count y ≡ (count x + 1) % 256))
+Steps c x y = NotGranted x y ⊎ (Grants c × T (not (isLive x)) × (count y ≡ (count x + 1) % 256))
 
 module _ (row : ℕ) where
   -- "starts are handles with the low four bits cleared", in sound tables
