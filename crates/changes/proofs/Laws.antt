@@ -15,25 +15,26 @@ use Rattle.masks.specs.Sets.{refilled, toRefill, lowest, taken, givenBack}
 use Rattle.model.specs.declared.Alloc.{Alloc}
 use Rattle.model.specs.declared.Slot.{Slot}
 use Rattle.model.specs.declared.Slot.the-variants.{Fresh, Idle, Live}
-use Rattle.model.specs.State.{Place, group, isReady, isWaiting, isLive, count, disp, size, align, poolOf, become, slotNumber, rows, beginning}
-use Rattle.model.specs.Tables.{rowAt, roomBytes, byMasks, slotRecord, laterRecords, spanRecords, encode, rowRecordBytes}
+use Rattle.model.specs.State.{Place, group, isReady, isWaiting, isLive, count, disp, poolOf, become, slotNumber, rows, beginning}
+use Rattle.model.specs.Tables.{rowAt, byMasks, slotRecord, laterRecords, spanRecords, encode, rowRecordBytes}
 use Rattle.model.specs.Plans.{Site, turnReady, refill, grantSlot, grantIn, vacant, releaseAt}
-use Rattle.model.proofs.Tables.{masks-laws, encode-length}
-use Rattle.model.proofs.Rooms.{rows-append, encode-from}
-use Rattle.model.proofs.Lookup.{Fits, fits}
+use Rattle.model.proofs.Tables.{masks-laws}
+use Rattle.model.proofs.Rooms.{encode-from}
+use Rattle.model.proofs.Lookup.{Fits}
 use Rattle.model.proofs.Counts.{mask-ones, ones-live, none-live}
 use Rattle.model.proofs.Formed.{any-middle}
 use Rattle.model.proofs.Reserve as reserve
 use Rattle.rows.specs.declared.Block.{Block}
-use Rattle.rows.specs.Rows.{blockOf, Holds, Offers}
+use Rattle.rows.specs.Rows.{blockOf, resized, Holds, Offers}
 use Rattle.rows.proofs.Rooms.{group-first}
 use Rattle.rows.proofs.Spans.{dropped-encode}
+use Rattle.rows.proofs.Held.{held-fits, held-first, held-class, held-slot, taken-begins, block-taken}
 use Rattle.records.specs.Records.{masksIn, slotIn, stored}
 use Rattle.records.proofs.Laws.{masksOf, stored-encode, masks-read-span, slot-read-as, refill-records}
 use Rattle.totals.specs.Changes.{refills}
 use Rattle.changes.specs.declared.Left.{Left}
 use Rattle.changes.specs.declared.Left.the-variants.{Kept, Dropped}
-use Rattle.changes.specs.Changes.{leftAs, resized}
+use Rattle.changes.specs.Changes.{leftAs}
 
 -- ---- the masks of a group when one slot changes
 
@@ -151,11 +152,6 @@ module _ (row i c v n : ℕ) (g : Site) (t : List ℕ) (o : Offers byMasks row t
   k : reserve.Taken row c v n g q
   k = reserve.grant-taken row c v n g (o .spare)
 
-  -- where it begins
-  begins : row * rows row (g .before) + 16 + slotNumber q * slotBytes c ≡ beginning row q
-  unfolding grantIn
-  begins = refl
-
   -- the records from the group on
   here : List ℕ
   here = drop (rowAt i) t
@@ -212,20 +208,6 @@ module _ (row i c v n : ℕ) (g : Site) (t : List ℕ) (o : Offers byMasks row t
       (length-take-le j ss (omega arith) ∙ sym (length-take-le j rs (omega arith))) (omega (arith, length-drop (suc j) ss, length-drop (suc j) rs))
       (same-records ss rs (sym l) h j .0) (same-records ss rs (sym l) h (suc j) .1)
 
-block-taken : (row i c v n : ℕ) (g : Site) (j : ℕ) (a : Alloc) → i ≡ rows row (g .before) → j ≡ slotNumber (grantIn row c v n g)
-    → Live a ≡ grantIn row c v n g .state
-    → _≡_ {A = Block} (record { first = i; class = c; slot = j; alloc = a }) (blockOf row (grantIn row c v n g))
-unfolding grantIn
-block-taken row i c v n g j a f k e =
-    let z : Place = grantIn row c v n g in
-    ap₂ {C = Block} (λ f k. record { first = f; class = c; slot = k; alloc = a }) f k
-    ∙ ap {B = Block} (λ x. record {
-      first = rows row (g .before);
-      class = c;
-      slot = slotNumber z;
-      alloc = record { count = count x; disp = disp x; size = size x; align = align x };
-    }) e
-
 -- over what the calls give: the masks, the slot that is taken, and the room after it
 module _ (i c v n : ℕ) (t : List ℕ) (m₀ m : Masks) (e₀ : m₀ ≡ masksIn (drop (rowAt i) t)) (e : m ≡ refilled m₀) where
   -- what the code needs: a slot is ready, and its number is one of a group
@@ -255,7 +237,7 @@ module _ (i c v n : ℕ) (t : List ℕ) (m₀ m : Masks) (e₀ : m₀ ≡ masksI
       let fj : j ≡ slotNumber z = ej ∙ ap lowest f ∙ lowest-site row i c v n g t o in
       let fx : x₀ ≡ k row i c v n g t o .old = ex ∙ ap₂ (λ m j. slotIn m j (drop (rowAt i) t)) f fj ∙ slot-site row i c v n g t o in
       let fb : row * i + 16 + j * slotBytes c ≡ beginning row z =
-      ap₂ (λ r s. row * r + 16 + s * slotBytes c) (o .first) fj ∙ begins row i c v n g t o in
+      ap₂ (λ r s. row * r + 16 + s * slotBytes c) (o .first) fj ∙ taken-begins row i c v n g in
       let fa : Live a ≡ z .state = ea ∙ ap₂ (grantSlot c v n) fb fx ∙ sym (k row i c v n g t o .state) in
       let fm : m′ ≡ masksOf (z .lower ++ (z .state ∷ z .upper)) = em ∙ ap taken f ∙ masks-after row i c v n g t o in (
         block-taken row i c v n g j a (o .first) fj fa,
@@ -274,29 +256,16 @@ module _ (row : ℕ) (t : List ℕ) (b : Block) (p : Place) (h : Holds byMasks r
   slots = p .lower ++ (vacant p ∷ p .upper)
 
   f : Fits p
-  f = fits p (h .formed)
+  f = held-fits row t b p h
 
   first-row : b .first ≡ rows row (p .before)
-  first-row = ap (λ b. b .first) (h .block)
+  first-row = held-first row t b p h
 
   class : b .class ≡ p .cls
-  class = ap (λ b. b .class) (h .block)
+  class = held-class row t b p h
 
   slot : b .slot ≡ slotNumber p
-  slot = ap (λ b. b .slot) (h .block)
-
-  -- the group's rows are in the room, and its slot is one of a group's
-  pub held-rows : (b .class < 48) × (b .slot < 31) × (b .first + rowsOf row (b .class) ≤ 512) × (rowAt (b .first + rowsOf row (b .class)) ≤ length t)
-  unfolding roomBytes
-  held-rows =
-      let a : rows row (poolOf p) ≡ rows row (p .before) + (rowsOf row (p .cls) + rows row (p .after)) = rows-append row (p .before)
-      (group (p .cls) held ∷ p .after) in
-      let r : rowsOf row (b .class) ≡ rowsOf row (p .cls) = ap (rowsOf row) class in (
-        omega (arith, class, f .class),
-        omega (arith, slot, f .number, slots-small (p .cls)),
-        omega (arith, first-row, h .few),
-        omega (arith, first-row, ap length (h .bytes), encode-length masks-laws row (h .pos) (poolOf p) (h .formed)),
-      )
+  slot = held-slot row t b p h
 
   masks-group : masksIn (drop (rowAt (b .first)) t) ≡ masksOf held
   masks-group =

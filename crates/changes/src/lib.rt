@@ -1,16 +1,14 @@
 // Changes of one group in tables by masks: take a slot, give one back, change a live one's size.
 ghost use mathlib.Core.Path.{_≡_};
-ghost use Prim.Native.Nat.{ℕ, _+_, _≤_, _<_};
+ghost use Prim.Native.Nat.{ℕ, _+_, _≤_};
 ghost use Rattle.mem.specs.Lists.{any};
 ghost use Rattle.classes.specs.Classes.{Lawful, slotBytes};
-ghost use Rattle.model.specs.declared.Slot.{Slot};
-ghost use Rattle.model.specs.State.{Place, count, poolOf, become};
-ghost use Rattle.model.specs.Plans.{Site, displaced, grantSlot, grantIn, releaseAt};
+ghost use Rattle.model.specs.State.{Place, poolOf, become};
+ghost use Rattle.model.specs.Plans.{Site, grantIn, releaseAt};
 ghost use Rattle.model.specs.Tables.{byMasks, encode};
-ghost use Rattle.rows.specs.Rows.{blockOf, Holds, Offers};
+ghost use Rattle.rows.specs.Rows.{blockOf, resized, Holds, Offers};
 ghost use Rattle.totals.specs.Changes.{refills};
-ghost use Rattle.changes.specs.Changes.{leftAs, resized};
-use model::Alloc;
+ghost use Rattle.changes.specs.Changes.{leftAs};
 use model::Slot;
 use rows::Block;
 
@@ -26,49 +24,6 @@ pub enum Left {
     Dropped { ready: usize, waiting: usize },
 }
 
-fn count_of(x: Slot) -> u8
-    ensures { λ r. ⌜ r ≡ count x ⌝ }
-{
-    match x {
-        Slot::Fresh => 0,
-        Slot::Idle {
-            ready: _,
-            count,
-            disp: _,
-        } => count,
-        Slot::Live(a) => a.count,
-    }
-}
-
-// The displacement of a block of n bytes in a slot that begins at a byte of the arena: an ordinary block's goes by the slot's use count, an
-// aligned block starts at the first boundary.
-fn displacement(c: usize, code: u8, n: usize, begin: usize, uses: u8) -> usize
-    requires { ⌜ (c < 48) × (n + 4 ≤ slotBytes c) ⌝ }
-    requires { ⌜ (code ≤ 9) × (begin < 16777216) ⌝ }
-    ensures { λ r. ⌜ r ≡ displaced c code n begin uses ⌝ }
-{
-    if code <= classes::ORDINARY {
-        let t = (16 * classes::units(c) - 4 - n) / 16;
-        return mem::wide(uses) % (t + 1);
-    }
-    (classes::round_up(classes::align_of(code), begin) - begin) / 16
-}
-
-// What becomes of a slot by a grant of n bytes: its use count goes up by one, 255 becoming 0.
-fn grant_slot(c: usize, code: u8, n: usize, begin: usize, x: Slot) -> Alloc
-    requires { ⌜ (c < 48) × (n + 4 ≤ slotBytes c) ⌝ }
-    requires { ⌜ (code ≤ 9) × (begin < 16777216) ⌝ }
-    ensures { λ r. ⌜ Slot.Live r ≡ grantSlot c code n begin x ⌝ }
-{
-    let k = count_of(x);
-    Alloc {
-        count: std::num::wrapping_add_u8(k, 1),
-        disp: displacement(c, code, n, begin, k),
-        size: n,
-        align: code,
-    }
-}
-
 // Takes the lowest ready slot of the group of class c at row i, for n bytes. If none is ready, all waiting slots become ready first.
 pub fn take_slot(row: usize, room: &mut [u8], i: usize, c: usize, code: u8, n: usize) -> Taken
     requires { ⌜ ((g : Site) × Offers byMasks row (now room) i c g) ⌝ }
@@ -82,7 +37,7 @@ pub fn take_slot(row: usize, room: &mut [u8], i: usize, c: usize, code: u8, n: u
     let m = old.refill();
     let j = m.lowest();
     let begin = row * i + 16 + j as usize * (16 * classes::units(c));
-    let a = grant_slot(c, code, n, begin, records::slot_at(room, i, m, j));
+    let a = blocks::grant_slot(c, code, n, begin, records::slot_at(room, i, m, j));
     records::store(room, i, m.take(), j as usize, Slot::Live(a));
     Taken {
         block: Block {

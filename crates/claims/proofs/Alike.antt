@@ -7,11 +7,13 @@ use Rattle.model.specs.State.{Pool}
 use Rattle.model.specs.Answers.{done}
 use Rattle.model.specs.Plans.{freshPool}
 use Rattle.model.specs.Tables.{byMasks}
-use Rattle.model.specs.Calls.{Form, Outcome, Stands, FormLaws, callBy, setUpBy, setUpRightBy}
+use Rattle.model.specs.Calls.{Form, Outcome, Stands, FormLaws, engine, callBy, setUpBy, setUpRightBy}
+use Rattle.model.specs.Plain.{plainForm}
 use Rattle.model.proofs.Tables.{masks-laws}
+use Rattle.model.proofs.Plain.{plain-lawful}
 use Rattle.model.proofs.Kept.{layout-lawful, engine-lawful}
 use Rattle.model.proofs.Forms.{step, inRoom, call-step, Standing, step-stands, fresh-stands}
-use Rattle.claims.specs.Alike.{Store, stored, Round, Seen, seen, FormsAlike, FirstLawful, MaskedLawful, StoresAnywhere}
+use Rattle.claims.specs.Alike.{Store, stored, Round, Seen, seen, FormsAlike, FirstLawful, MaskedLawful, SecondLawful, TwoEngines, StoresAnywhere}
 
 stored-length : (a : List ℕ) (ss : List Store) → length (stored a ss) ≡ length a
 stored-length a [] = refl
@@ -63,3 +65,9 @@ module _ (row : ℕ) (pos : 0 < row) where
 
   pub masked-lawful : MaskedLawful row
   masked-lawful = layout-lawful byMasks masks-laws row pos
+
+  pub second-lawful : SecondLawful row
+  second-lawful = plain-lawful row pos
+
+  pub two-engines : TwoEngines row
+  two-engines = forms-alike (engine row) (plainForm row) first-lawful second-lawful

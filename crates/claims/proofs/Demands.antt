@@ -23,6 +23,7 @@ use Rattle.claims.proofs.Stale.{starts-cleared, counts-step, stale-refu
 use Rattle.claims.proofs.Flips.{flips-refused}
 use Rattle.claims.proofs.Record.{sound-exactly, keeps-record}
 use Rattle.claims.proofs.Lists.{plans-as-said, lists-as-grants, lists-exactly}
+use Rattle.claims.proofs.Alike.{two-engines, stores-anywhere}
 use Rattle.claims.proofs.Traces.{lines-modelled, stores-steer-nothing, replay-steers-nothing}
 
 some-bytes : 0 < rowBytes
@@ -66,6 +67,8 @@ demands = record {
   sound-exactly = sound-exactly rowBytes;
   keeps-record = keeps-record rowBytes some-bytes;
   flips-refused = flips-refused rowBytes some-bytes;
+  two-engines = two-engines rowBytes some-bytes;
+  stores-anywhere = stores-anywhere;
   all-classes = all-classes;
   bench = bench;
   too-large-anywhere = too-large-anywhere rowBytes some-bytes;

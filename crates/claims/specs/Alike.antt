@@ -9,6 +9,7 @@ use Rattle.mem.specs.Bytes.{put}
 use Rattle.model.specs.Answers.{Answer}
 use Rattle.model.specs.Plans.{Call}
 use Rattle.model.specs.Calls.{Form, FormLaws, masked, engine, callBy, setUpBy, setUpRightBy}
+use Rattle.model.specs.Plain.{plainForm}
 
 -- bytes stored anywhere in the arena; what would fall past its end is left out
 pub record Store : Type 0 where
@@ -53,6 +54,14 @@ module _ (row : ℕ) where
 
   abbrev pub MaskedLawful : Type 0
   MaskedLawful = FormLaws row (masked row)
+
+  -- and the second engine's, a plain record for each slot and no totals
+  abbrev pub SecondLawful : Type 0
+  SecondLawful = FormLaws row (plainForm row)
+
+  -- 02 §8: the two engines "give equal answers and equal arena bytes"
+  abbrev pub TwoEngines : Type 0
+  TwoEngines = Alike (engine row) (plainForm row)
 
 -- the stores reach every arena: any bytes can stand in it before a call
 abbrev pub StoresAnywhere : Type 0

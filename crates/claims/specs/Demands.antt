@@ -1,5 +1,6 @@
 -- All that is claimed, at one place. At the card's row size, `Demands rowBytes`, it speaks of `call rowBytes`, the definition that every
--- contract of the crates `pool` and `slotpool` is an equation with.
+-- contract of the crates `pool` and `slotpool` is an equation with: `callBy rowBytes (engine rowBytes)`. Those of the crates `plain` and
+-- `slotpool_plain` are equations with `callBy rowBytes (plainForm rowBytes)`, and `two-engines` is about both.
 use Prim.Native.Nat.{ℕ}
 use lib.Dec.{T}
 use Rattle.mem.specs.Lists.{every}
@@ -20,6 +21,7 @@ use Rattle.claims.specs.Demand3.{RoomFollows, SteersNothing, StoresAdmit
 use Rattle.claims.specs.Lists.{PlansAsSaid, ListsAsGrants, ListsExactly}
 use Rattle.claims.specs.History.{History}
 use Rattle.claims.specs.Record.{SoundExactly, KeepsRecord, FlipsRefused}
+use Rattle.claims.specs.Alike.{TwoEngines, StoresAnywhere}
 use Rattle.claims.specs.Traces.{LinesModelled, StoresSteerNothing, ReplaySteersNothing}
 
 pub record Demands (row : ℕ) : Type 0 where
@@ -66,6 +68,9 @@ pub record Demands (row : ℕ) : Type 0 where
   pub sound-exactly : SoundExactly row
   pub keeps-record : KeepsRecord row
   pub flips-refused : FlipsRefused row
+  -- the second engine: the same answers and the same arena bytes as the first, whatever is called, and whatever is stored in the arena between
+  pub two-engines : TwoEngines row
+  pub stores-anywhere : StoresAnywhere
   pub all-classes : AllClasses
   pub bench : T (every right sheet)
   pub too-large-anywhere : TooLargeAnywhere row

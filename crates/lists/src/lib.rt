@@ -11,11 +11,12 @@ ghost use Rattle.classes.specs.Classes.{Lawful, classOf, tooLarge};
 ghost use Rattle.classes.specs.Alignments.{ordinary};
 ghost use Rattle.model.specs.State.{handle};
 ghost use Rattle.model.specs.Plans.{reserve, enframe, reserveAll, poolAfter, totals};
-ghost use Rattle.model.specs.Tables.{sound, view, encode};
+ghost use Rattle.model.specs.Tables.{byMasks, sound, view, encode};
 ghost use Rattle.model.specs.Calls.{written};
-ghost use Rattle.search.specs.Found.{Passed};
+ghost use Rattle.rows.specs.Rows.{NoneOpen};
 ghost use Rattle.ops.specs.Blocks.{roomAfter};
-ghost use Rattle.lists.specs.Grants.{granted, handleOr, firstOr, totalsOr, arenaAfter};
+ghost use Rattle.frames.specs.Grants.{granted, handleOr, arenaAfter};
+ghost use Rattle.lists.specs.Grants.{firstOr, totalsOr};
 use classes::Sized;
 use model::Totals;
 use ops::Reserved;
@@ -37,7 +38,7 @@ fn grant_one(
     from: usize,
 ) -> Placed
     requires { ⌜ sound row (length (now arena)) (now room) ≡ true ⌝ }
-    requires { ⌜ (s .size < tooLarge) × (s .class ≡ classOf (s .size)) × (s .class < 48) × Passed row (now room) (s .class) from
+    requires { ⌜ (s .size < tooLarge) × (s .class ≡ classOf (s .size)) × (s .class < 48) × NoneOpen byMasks row (now room) (s .class) from
         × (t ≡ totals row (view row (now room))) ⌝ }
     requires { ⌜ Lawful row ⌝ }
     ensures { λ r. ⌜ (r .handle ≡ handleOr row (reserve row (view row (now (room .entry))) ordinary (s .size)))
@@ -62,7 +63,7 @@ fn grant_one(
             totals: t,
         };
     };
-    let handle = ops::lay_out(row, arena, b);
+    let handle = frames::lay_out(row, arena, b);
     Placed {
         handle: handle,
         first: b.first,

@@ -298,6 +298,14 @@ module _ {ℓ} {A : Type ℓ} where
   join-length f n h (x ∷ xs) =
       rw (length-append (f x) (join f xs), h x, join-length f n h xs, mul-suc) (add-comm n (n * length xs))
 
+  pub join-part : (f : A → List ℕ) (n : ℕ) → ((x : A) → length (f x) ≡ n) → (xs : List A) (rest : List ℕ) (j : ℕ) (d : A) → j < length xs
+      → part (n * j) n (join f xs ++ rest) ≡ f (getD xs j d)
+  join-part f n h [] rest j d l = absurd (omega arith)
+  join-part f n h (x ∷ xs) rest zero d l = rw (append-assoc (f x), mul-zero n) (take-at (f x) (join f xs ++ rest) n (h x))
+  join-part f n h (x ∷ xs) rest (suc j) d l =
+      let e : n * suc j ≡ length (f x) + n * j = mul-suc n j ∙ omega (arith, h x) in
+      rw (append-assoc (f x), e, part-back (n * j) n (f x) (join f xs ++ rest)) (join-part f n h xs rest j d (omega arith))
+
   -- where each piece of an element that passes a test has n elements
   pub join-length-of : (f : A → List ℕ) (n : ℕ) (ok : A → Bool) → ((x : A) → T (ok x) → length (f x) ≡ n)
       → (xs : List A) → T (every ok xs) → length (join f xs) ≡ n * length xs

@@ -43,9 +43,12 @@ pub starts-own : (x y : List ℕ) → T (starts (x ++ y) x)
 starts-own [] y = tt
 starts-own (a ∷ x) y = and-both (eqb a a) (starts (x ++ y) x) (eqb-refl a) (starts-own x y)
 
--- the test of zeros from a place on
+-- the test of a record, and of zeros, from a place on
+pub starts-part : (at n : ℕ) (s x : List ℕ) → length x ≡ n → same (part at n s) x ≡ starts (drop at s) x
+starts-part at n s x e = ap (λ (k : ℕ). same (take k (drop at s)) x) (sym e) ∙ starts-same (drop at s) x
+
 pub starts-zeros : (at n : ℕ) (s : List ℕ) → same (part at n s) (zeros n) ≡ starts (drop at s) (zeros n)
-starts-zeros at n s = ap (λ (k : ℕ). same (take k (drop at s)) (zeros n)) (sym (zeros-length n)) ∙ starts-same (drop at s) (zeros n)
+starts-zeros at n s = starts-part at n s (zeros n) (zeros-length n)
 
 -- the first two elements
 pub starts-two : (s : List ℕ) (at a b : ℕ) (x : List ℕ) → at + 2 ≤ length s

@@ -2,6 +2,7 @@ pub mod Bench
 pub mod Tables
 pub mod Rooms
 pub mod Kept
+pub mod Plain
 pub mod Fresh
 pub mod Bounds
 pub mod Lookup

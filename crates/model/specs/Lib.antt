@@ -5,4 +5,5 @@ pub mod Proposals
 pub mod Plans
 pub mod Tables
 pub mod Calls
+pub mod Plain
 pub mod Bench

@@ -1,5 +1,5 @@
--- A slot reserved in the tables, step by step as the code goes: a group that can serve, or a new one at a run of free rows.
-use Rattle.mem.proofs.Prelude.{_∙_, _≡_, sym, ap, refl, ap₂, subst, not, some, none, Option, List, [], _∷_, _++_, _+_, ℕ, _<_, _≤_, arith, T, length}
+-- A slot reserved in the first engine's tables, with the totals: the steps are those of any layout.
+use Rattle.mem.proofs.Prelude.{_∙_, _≡_, sym, ap, refl, ap₂, subst, not, some, none, Option, List, [], _∷_, _++_, _+_, ℕ, _<_, arith, T, length}
 use Rattle.mem.proofs.Prelude.{replicate}
 use Rattle.mem.specs.Lists.{any}
 use Rattle.mem.specs.Bytes.{put}
@@ -11,14 +11,14 @@ use Rattle.model.specs.declared.Totals.{Totals}
 use Rattle.model.specs.State.{group, isLive, poolOf, rows}
 use Rattle.model.specs.Plans.{Site, openFrom, runFrom, siteOr, site, reserveIn, reserve, grantIn, totals}
 use Rattle.model.specs.Tables.{rowAt, byMasks, encode, view, spanRecords}
-use Rattle.model.proofs.Tables.{masks-laws}
-use Rattle.model.proofs.Reserve.{Open, open-found, New, run-found, Ground, ground, reserve-formed}
+use Rattle.model.proofs.Reserve.{open-found, New, run-found, reserve-formed}
 use Rattle.model.proofs.Counts.{totals-few}
 use Rattle.rows.specs.declared.Found.the-variants.{At, Nothing}
 use Rattle.rows.specs.declared.Block.{Block}
 use Rattle.rows.specs.Rows.{Lent, siteFound, blockOf, Offers}
-use Rattle.rows.proofs.Rooms.{facts, few-rows, room-length}
-use Rattle.rows.proofs.Spans.{made-encode}
+use Rattle.rows.proofs.Rooms.{facts, few-rows}
+use Rattle.frames.proofs.Sites.{site-at, site-nowhere, site-run, run-inside}
+use Rattle.frames.proofs.Sites as any
 use Rattle.totals.specs.Changes.{refills, Small, Makes, Takes}
 use Rattle.totals.proofs.Laws.{totals-small, made-small, made-totals, taken-totals}
 use Rattle.ops.specs.declared.Opened.{Opened}
@@ -26,15 +26,6 @@ use Rattle.ops.specs.declared.Opened.the-variants.{In, Nowhere}
 use Rattle.ops.specs.declared.Reserved.{Reserved}
 use Rattle.ops.specs.declared.Reserved.the-variants.{Taken, NoRoom}
 use Rattle.ops.specs.Blocks.{opened, siteRoom, reservedAs, roomAfter}
-
--- a site that is found is one
-site-at : (row : ℕ) (o : Option Site) (i : ℕ) → siteFound row o ≡ At i → (s : Site) × (o ≡ some s) × (rows row (s .before) ≡ i)
-site-at row none i e = let z : _≡_ {A = ℕ} 0 1 = cc in absurd (omega arith)
-site-at row (some s) i e = let q : rows row (s .before) ≡ i = cc in (s, refl, q)
-
-site-nowhere : (row : ℕ) (o : Option Site) → siteFound row o ≡ Nothing → o ≡ none
-site-nowhere row none e = refl
-site-nowhere row (some s) e = let z : _≡_ {A = ℕ} 0 1 = cc in absurd (omega arith)
 
 opened-at : (row c : ℕ) (o : Option Site) (i : ℕ) (s : Totals) → opened row c o ≡ In i s
     → (g : Site) × (o ≡ some g) × (rows row (g .before) ≡ i) × (s ≡ totals row (g .before ++ (group c (g .slots) ∷ g .after)))
@@ -55,32 +46,19 @@ module _ {row len : ℕ} {t : List ℕ} (r : Lent byMasks row len t) (c : ℕ) (
   unfolding site
   site-open i e =
       let (g, f, k) = site-at row (openFrom [] c (view row t)) i (sym e) in
-      let o : Open (view row t) c g = open-found [] (view row t) c g f in
-      let s : site row (view row t) c ≡ some g = ap (λ o. siteOr o (runFrom row [] c (view row t))) f in (
-        ap₂ {C = Opened} In (sym k) (e₀ ∙ ap (totals row) (o .split)) ∙ ap (opened row c) (sym s),
-        facts r .form ∙ ap (encode row) (o .split) ∙ ap (siteRoom row c t) (sym s),
-      )
+      let s : site row (view row t) c ≡ some g = ap (λ o. siteOr o (runFrom row [] c (view row t))) f in
+      (ap₂ {C = Opened} In (sym k) (e₀ ∙ ap (totals row) (open-found [] (view row t) c g f .split)) ∙ ap (opened row c) (sym s), any.site-open r c i e .room)
 
   module _ (shut : Nothing ≡ siteFound row (openFrom [] c (view row t))) where
-    site-run : site row (view row t) c ≡ runFrom row [] c (view row t)
-    unfolding site
-    site-run = ap (λ o. siteOr o (runFrom row [] c (view row t))) (site-nowhere row (openFrom [] c (view row t)) (sym shut))
-
     -- no group, and no run of free rows
     pub site-none : Nothing ≡ siteFound row (runFrom row [] c (view row t))
         → (Nowhere ≡ opened row c (site row (view row t) c)) × (t ≡ siteRoom row c t (site row (view row t) c))
     site-none e =
-        let s : site row (view row t) c ≡ none = site-run ∙ site-nowhere row (runFrom row [] c (view row t)) (sym e) in
-        (ap (opened row c) (sym s), ap (siteRoom row c t) (sym s))
+        let a = any.site-none r c shut e in
+        (ap (opened row c) (sym (site-nowhere row (site row (view row t) c) (sym (a .found)))), a .room)
 
     -- a run of free rows, which are in the room, and the room with a new group there
     module _ (i : ℕ) (e : At i ≡ siteFound row (runFrom row [] c (view row t))) where
-      pub run-inside : (i + rowsOf row c ≤ 512) × (rowAt (i + rowsOf row c) ≤ length t)
-      run-inside =
-          let (g, f, k) = site-at row (runFrom row [] c (view row t)) i (sym e) in
-          let w : Ground row (view row t) c g = ground row (view row t) c g (facts r .formed) (site-run ∙ f) in
-          (omega (arith, k, w .long, few-rows r), omega (arith, k, w .long, room-length r))
-
       -- what the new group does to the totals
       pub site-counts : (s : Totals) × Makes (rowsOf row c) (slotsOf c) s₀ s × Small s × (In i s ≡ opened row c (site row (view row t) c))
       site-counts =
@@ -92,21 +70,16 @@ module _ {row len : ℕ} {t : List ℕ} (r : Lent byMasks row len t) (c : ℕ) (
             totals row P,
             subst (λ z. Makes (rowsOf row c) (slotsOf c) z (totals row P)) (sym e₀) d,
             made-small (rowsOf row c) (slotsOf c) (totals row (view row t)) (totals row P) d
-                (totals-few row (r .pos) (view row t) (facts r .formed) (few-rows r)) (omega (arith, run-inside .0)) (slots-small c),
-            ap (λ j. In j (totals row P)) (sym k) ∙ ap (opened row c) (sym (site-run ∙ f)),
+                (totals-few row (r .pos) (view row t) (facts r .formed) (few-rows r)) (omega (arith, run-inside r c shut i e .0)) (slots-small c),
+            ap (λ j. In j (totals row P)) (sym k) ∙ ap (opened row c) (sym (site-run r c shut ∙ f)),
           )
 
       pub site-made : (u : List ℕ) → u ≡ put (rowAt i) (spanRecords row (group c (replicate (slotsOf c) Fresh))) t
           → u ≡ siteRoom row c t (site row (view row t) c)
-      site-made u eu =
-          let (g, f, k) = site-at row (runFrom row [] c (view row t)) i (sym e) in
-          let m : New row (view row t) c g = run-found row [] (view row t) c g f in
-          let s : site row (view row t) c ≡ some g = site-run ∙ f in
-          let w : Ground row (view row t) c g = ground row (view row t) c g (facts r .formed) s in
-          eu ∙ ap₂ (λ j l. put (rowAt j) (spanRecords row (group c l)) t) (sym k) (sym (m .slots))
-          ∙ ap (put (rowAt (rows row (g .before))) (spanRecords row (group c (g .slots)))) (facts r .form ∙ ap (encode row) (m .split))
-          ∙ made-encode masks-laws row (r .pos) (g .before) c (g .slots) (g .after) (w .before) (omega (arith, w .slots, slots-small c))
-          ∙ ap (siteRoom row c t) (sym s)
+      site-made u eu = any.site-made r c shut i e u eu .room
+
+some-one : {g h : Site} → _≡_ {A = Option Site} (some g) (some h) → g ≡ h
+some-one e = cc
 
 -- at a site a slot can be taken
 pub site-offers : {row len : ℕ} {t : List ℕ} (r : Lent byMasks row len t) (c i : ℕ) (s : Totals) (u : List ℕ) → c < 48 → length u ≡ length t
@@ -114,24 +87,9 @@ pub site-offers : {row len : ℕ} {t : List ℕ} (r : Lent byMasks row len t) (c
     → (g : Site) × (site row (view row t) c ≡ some g) × Offers byMasks row u i c g × (s ≡ totals row (g .before ++ (group c (g .slots) ∷ g .after)))
 site-offers {row} {len} {t} r c i s u h l e eu =
     let (g, f, k, q) = opened-at row c (site row (view row t) c) i s (sym e) in
-    let w : Ground row (view row t) c g = ground row (view row t) c g (facts r .formed) f in (
-      g,
-      f,
-      record {
-        laws = masks-laws;
-        pos = r .pos;
-        bytes = eu ∙ ap (siteRoom row c t) f;
-        first = sym k;
-        few = omega (arith, k, w .long, few-rows r);
-        room = omega (arith, k, w .long, room-length r);
-        class = h;
-        before = w .before;
-        slots = w .slots;
-        sound = w .sound;
-        spare = w .room;
-      },
-      q,
-    )
+    let (g′, f′, o) = any.site-offers r c i u h l (record { found = ap At (sym k) ∙ ap (siteFound row) (sym f); room = eu }) in
+    let z : g′ ≡ g = some-one (sym f′ ∙ f) in
+    (g, f, subst (Offers byMasks row u i c) z o, q)
 
 -- ---- what is reserved, by the site of the size's class
 

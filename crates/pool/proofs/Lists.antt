@@ -1,25 +1,16 @@
--- The list call by the tests of the code, in their order; and the planner.
-use Rattle.mem.proofs.Prelude.{_∙_, _≡_, sym, ap, refl, true, false, _&&_, some, none, Option, List, [], _∷_, map, ℕ, arith, leb, length}
-use Rattle.mem.specs.Lists.{choose, isSome}
+-- What a refused list call tells and leaves; and the planner.
+use Rattle.mem.proofs.Prelude.{_∙_, _≡_, sym, ap, true, false, List, [], _∷_, ℕ, arith, length}
 use Rattle.mem.specs.Bytes.{put}
 use Rattle.mem.proofs.Tests.{choose-true, choose-false, T-true, true-T}
 use Rattle.mem.proofs.Laws.{put-nil}
 use Rattle.model.specs.declared.Refusal.{Refusal}
-use Rattle.model.specs.declared.Refusal.the-variants.{NoRoom, TooLong, BadProposal}
+use Rattle.model.specs.declared.Refusal.the-variants.{TooLong}
 use Rattle.model.specs.declared.Reply.{Reply}
 use Rattle.model.specs.declared.Answered.{Answered}
-use Rattle.model.specs.State.{Place, handle}
 use Rattle.model.specs.Answers.{Answer, listDone, refusal, replyAnswer}
 use Rattle.model.specs.Proposals.{entries, accepts, plannable, fullCaps, planned}
-use Rattle.model.specs.Plans.{grantsList, plan, refused, reserveAll, poolAfter, enframe, grantAllAt, grantList, totals}
-use Rattle.model.specs.Tables.{view, encode}
-use Rattle.model.specs.Calls.{KeptBytes, Result, engine, applied, call, carried, keeps, written}
-use Rattle.model.proofs.Calls.{call-sound, carried-whole}
+use Rattle.model.specs.Calls.{KeptBytes, Result, keeps}
 use Rattle.model.proofs.Proposals.{planned-accepted}
-use Rattle.model.proofs.Lists.{accepts-small, places-counted}
-use Rattle.rows.proofs.Rooms.{facts}
-use Rattle.ops.proofs.Calls.{Checked, kept}
-use Rattle.lists.specs.Grants.{granted}
 
 -- what a refusal tells and leaves, part by part, of a lent list too
 pub refused-parts : {w : Answered} (x : Refusal) {a : List ℕ} {t : KeptBytes} {r : Result} (l : List ℕ)
@@ -73,66 +64,3 @@ module _ (total cap : ℕ) (s : List ℕ) where
           ),
         ),
       )
-
-module _ {row : ℕ} {t : KeptBytes} (a : List ℕ) (r : Checked row a t) (total cap places : ℕ) (ns : List ℕ) where
-  abbrev asked : Result
-  asked = call row a t (grantsList total cap places ns)
-
-  asks : asked ≡ carried row a t (grantList row (view row (t .tables)) total cap places ns)
-  unfolding plan
-  asks = call-sound row a t (r .kept) (grantsList total cap places ns) tt
-
-  pub too-long : (plannable total cap && leb entries places) ≡ false → asked ≡ keeps (refusal TooLong) a t
-  unfolding grantList
-  too-long e = asks ∙ ap (carried row a t) (choose-false (plannable total cap && leb entries places) _ (refused TooLong (view row (t .tables))) e)
-      ∙ kept a r TooLong
-
-  module _ (h : (plannable total cap && leb entries places) ≡ true) where
-    short : asked
-        ≡ carried row a t (choose (accepts total cap ns) (grantAllAt row (view row (t .tables)) (reserveAll row (view row (t .tables)) ns))
-        (refused BadProposal (view row (t .tables))))
-    unfolding grantList
-    short = asks ∙ ap (carried row a t) (choose-true (plannable total cap && leb entries places) _ (refused TooLong (view row (t .tables))) h)
-
-    pub bad-proposal : accepts total cap ns ≡ false → asked ≡ keeps (refusal BadProposal) a t
-    bad-proposal e = short ∙ ap (carried row a t) (choose-false (accepts total cap ns) _ (refused BadProposal (view row (t .tables))) e) ∙ kept a r BadProposal
-
-    module _ (k : accepts total cap ns ≡ true) where
-      tried : asked ≡ carried row a t (grantAllAt row (view row (t .tables)) (reserveAll row (view row (t .tables)) ns))
-      tried = short ∙ ap (carried row a t) (choose-true (accepts total cap ns) _ (refused BadProposal (view row (t .tables))) k)
-
-      pub no-room : isSome (reserveAll row (view row (t .tables)) ns) ≡ false → asked ≡ keeps (refusal NoRoom) a t
-      no-room e = go (reserveAll row (view row (t .tables)) ns) refl e
-        where
-          go : (o : Option (List Place)) → reserveAll row (view row (t .tables)) ns ≡ o → isSome o ≡ false → asked ≡ keeps (refusal NoRoom) a t
-          go none f e = tried ∙ ap (λ o. carried row a t (grantAllAt row (view row (t .tables)) o)) f ∙ kept a r NoRoom
-          go (some qs) f e = let z : _≡_ {A = ℕ} 0 1 = cc in absurd (omega arith)
-
-      -- all of them granted
-      pub record Whole : Type 0 where
-        pub number : 0 ≡ asked .answer .number
-        pub values : length ns ∷ [] ≡ asked .answer .values
-        pub lent : map (handle row) (granted (reserveAll row (view row (t .tables)) ns)) ≡ asked .answer .lent
-        pub arena : written a (map (enframe row) (granted (reserveAll row (view row (t .tables)) ns))) ≡ asked .arena
-        pub room : encode row (poolAfter (view row (t .tables)) (granted (reserveAll row (view row (t .tables)) ns))) ≡ asked .room .tables
-        pub counts : totals row (poolAfter (view row (t .tables)) (granted (reserveAll row (view row (t .tables)) ns))) ≡ asked .room .totals
-
-      pub whole : isSome (reserveAll row (view row (t .tables)) ns) ≡ true → Whole
-      whole e = go (reserveAll row (view row (t .tables)) ns) refl e
-        where
-          go : (o : Option (List Place)) → reserveAll row (view row (t .tables)) ns ≡ o → isSome o ≡ true → Whole
-          go none f e = let z : _≡_ {A = ℕ} 0 1 = cc in absurd (omega arith)
-          go (some qs) f e =
-              let d : asked ≡ applied (engine row) a (grantAllAt row (view row (t .tables)) (some qs)) =
-              tried ∙ ap (λ o. carried row a t (grantAllAt row (view row (t .tables)) o)) f ∙ carried-whole row a t
-              (grantAllAt row (view row (t .tables)) (some qs)) refl in
-              let n : length (map (handle row) qs) ≡ length ns =
-              places-counted row (view row (t .tables)) ns qs (facts (r .room) .formed) (accepts-small total cap ns (true-T (accepts total cap ns) k)) f in
-              record {
-                number = sym (ap (λ (r : Result). r .answer .number) d);
-                values = ap (λ m. m ∷ []) (sym n) ∙ sym (ap (λ (r : Result). r .answer .values) d);
-                lent = ap (λ o. map (handle row) (granted o)) f ∙ sym (ap (λ (r : Result). r .answer .lent) d);
-                arena = ap (λ o. written a (map (enframe row) (granted o))) f ∙ sym (ap (λ (r : Result). r .arena) d);
-                room = ap (λ o. encode row (poolAfter (view row (t .tables)) (granted o))) f ∙ sym (ap (λ (r : Result). r .room .tables) d);
-                counts = ap (λ o. totals row (poolAfter (view row (t .tables)) (granted o))) f ∙ sym (ap (λ (r : Result). r .room .totals) d);
-              }

@@ -7,7 +7,7 @@ ghost use mathlib.Core.Path.{_≡_};
 ghost use mathlib.Core.Bool.{true};
 ghost use Prim.Native.Nat.{_≤_, _<_};
 ghost use lib.ListN.{length};
-ghost use Rattle.mem.specs.Bytes.{zeros, low, put};
+ghost use Rattle.mem.specs.Bytes.{put};
 ghost use Rattle.classes.specs.Classes.{rowBytes};
 ghost use Rattle.model.specs.declared.Reply.{Reply};
 ghost use Rattle.model.specs.Answers.{replyAnswer, reportAnswer};
@@ -16,23 +16,19 @@ ghost use Rattle.model.specs.Plans.{setsUp, grants, grantsAligned, releases, re
 ghost use Rattle.model.specs.Tables.{roomFor, view};
 ghost use Rattle.model.specs.Calls.{keptIn, soundKept, call};
 ghost use Rattle.ops.specs.Blocks.{CarriedOut};
+use frames::Located;
 use model::Answered;
 use model::Refusal;
 use model::Reply;
 use model::Report;
 use model::Totals;
-use ops::Located;
 use ops::Reserved;
 
 // The exact size of the table room for an arena, or 0 where the arena's length is outside the rule.
 pub fn room_len(arena_len: usize) -> usize
     ensures { λ r. ⌜ r ≡ roomFor rowBytes «arena_len» ⌝ }
 {
-    let n = rows::rows_in(classes::ROW, arena_len);
-    if n == 0 {
-        return 0;
-    }
-    rows::row_at(n)
+    fresh::room_len(arena_len)
 }
 
 // A refusal keeps the totals.
@@ -43,21 +39,6 @@ fn refused(r: Refusal, t: Totals) -> Answered
         reply: Reply::Refused(r),
         totals: t,
     }
-}
-
-// Writes tables with no groups, for an arena of len bytes.
-fn format(room: &mut [u8], len: usize)
-    requires { ⌜ (4 ≤ length (now room)) × (len < 4294967296) ⌝ }
-    ensures { λ _. ⌜ now (room .exit) ≡ put 0 (low 4 len) (zeros (length (now (room .entry)))) ⌝ }
-{
-    mem::fill_zero(room);
-    let head = [
-        (len % 256) as u8,
-        (len / 256 % 256) as u8,
-        (len / 256 / 256 % 256) as u8,
-        (len / 256 / 256 / 256 % 256) as u8,
-    ];
-    mem::copy_in(room, 0, &head);
 }
 
 // Set up: zero over the whole arena, tables with no groups, and their totals, whatever they were.
@@ -76,7 +57,7 @@ pub fn set_up(arena: &mut [u8], room: &mut [u8], t: Totals) -> Answered
         return refused(Refusal::BadArena, t);
     }
     mem::fill_zero(arena);
-    format(room, len);
+    fresh::format(room, len);
     Answered {
         reply: Reply::Done(0),
         totals: Totals {
@@ -104,7 +85,7 @@ fn grant_as(arena: &mut [u8], room: &mut [u8], t: Totals, code: u8, n: usize) ->
     let Reserved::Taken(b, taken) = ops::reserve_slot(classes::ROW, len, room, t, code, n) else {
         return refused(Refusal::NoRoom, t);
     };
-    let handle = ops::lay_out(classes::ROW, arena, b);
+    let handle = frames::lay_out(classes::ROW, arena, b);
     Answered {
         reply: Reply::Done(handle),
         totals: taken,
@@ -181,11 +162,11 @@ pub fn resize(arena: &mut [u8], room: &mut [u8], t: Totals, handle: usize, n: us
         return refused(Refusal::Unsound, t);
     }
     // The size goes by the alignment of a live block, before the handle's bits and the block's damage are looked at.
-    let found = search::find_block(classes::ROW, len, room, ops::start_in(handle));
-    if classes::too_large(ops::code_found(found), n) {
+    let found = search::find_block(classes::ROW, len, room, frames::start_in(handle));
+    if classes::too_large(frames::code_found(found), n) {
         return refused(Refusal::TooLarge, t);
     }
-    match ops::judge(classes::ROW, arena, found, handle) {
+    match frames::judge(classes::ROW, arena, found, handle) {
         Located::At(b) => ops::change_size(classes::ROW, arena, room, t, b, n),
         Located::Refused(r) => refused(r, t),
     }

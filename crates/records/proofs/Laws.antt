@@ -3,12 +3,11 @@ use Rattle.mem.proofs.Prelude.{_∙_, _≡_, sym, ap, refl, ap₂, Bool, List, 
 use Rattle.mem.proofs.Prelude.{suc, zero, _^_, arith, T, length, getD, length-append}
 use native.Mathlib.Nat.{pow-succ', div-one, div-div-eq-div-mul}
 use lib.ListN.{List·getD-map}
-use lib.Seq.{take-at}
 use Rattle.mem.specs.Lists.{every, any, join}
-use Rattle.mem.specs.Bytes.{zeros, low, bit, mask, part, put}
+use Rattle.mem.specs.Bytes.{zeros, low, mask, part, put}
 use Rattle.mem.proofs.Tests.{every-in, choose-case}
 use Rattle.mem.proofs.Masks.{low-test, rest-bits}
-use Rattle.mem.proofs.Laws.{join-append, put-at, part-back}
+use Rattle.mem.proofs.Laws.{join-append, join-part, put-at, part-back}
 use Rattle.classes.specs.Classes.{rowsOf}
 use Rattle.masks.specs.declared.Masks.{Masks}
 use Rattle.model.specs.declared.Slot.{Slot}
@@ -19,8 +18,8 @@ use Rattle.model.specs.State.{Pool, group, isReady, isWaiting, slotSound, wellF
 use Rattle.model.specs.Tables.{rowAt, byMasks, slotRecord, rowRecord, laterRecords, spanRecords, encode}
 use Rattle.model.specs.Plans.{turnReady, refill}
 use Rattle.model.proofs.Tables.{slot-length, slots-length, rowHead, head-length, row-parts, masks-laws, mask-read, view-slot}
-use Rattle.model.proofs.Rooms.{rows-append, roomFront, encode-split, front-length}
 use Rattle.rows.proofs.Rooms.{group-first}
+use Rattle.rows.proofs.Spans.{groupFront, groupBack, encode-round, group-front}
 use Rattle.records.specs.Records.{has, masksIn, slotIn, stored}
 
 -- the masks of a group's slots
@@ -81,30 +80,15 @@ module _ (us vs us′ vs′ : List Slot) (x y : Slot) (lu : length us ≡ length
       (kind-length c) (sets-length (us ++ (y ∷ vs))) (sets-length (us′ ++ (x ∷ vs′))) (omega (arith, slots-length us)) (slot-length y) (slot-length x)
       ∙ rw (ju, jv, n) (ap (λ t. front ++ t) (sym (row-round c us′ x vs′ rest))))
 
--- the room round a group's first row, which is the same whatever its slots
-module _ (row c : ℕ) (X Y : Pool) where
-  groupFront : List ℕ
-  groupFront = roomFront byMasks row (rows row X + (rowsOf row c + rows row Y)) X
-
-  groupBack : List ℕ
-  groupBack = laterRecords (rowsOf row c - 1) 1 ++ join (spanRecords row) Y
-
-  encode-round : (ss : List Slot) → encode row (X ++ (group c ss ∷ Y)) ≡ groupFront ++ (rowRecord (First c) ss ++ groupBack)
-  unfolding groupFront groupBack
-  encode-round ss =
-      encode-split byMasks row X (group c ss ∷ Y) ∙ ap₂ (λ n t. roomFront byMasks row n X ++ t) (rows-append row X (group c ss ∷ Y))
-      (group-first byMasks row c ss Y)
-
 -- one slot of a group becomes x, and of the others no record changes
 pub stored-encode : (row : ℕ) → 0 < row → (X : Pool) (c : ℕ) (us vs us′ vs′ : List Slot) (x y : Slot) (Y : Pool) → T (wellFormed X)
     → length us ≡ length us′ → length vs ≡ length vs′ → join slotRecord us ≡ join slotRecord us′ → join slotRecord vs ≡ join slotRecord vs′
     → stored (rowAt (rows row X)) (masksOf (us′ ++ (x ∷ vs′))) (length us′) x (encode row (X ++ (group c (us ++ (y ∷ vs)) ∷ Y)))
     ≡ encode row (X ++ (group c (us′ ++ (x ∷ vs′)) ∷ Y))
-unfolding groupFront
 stored-encode row pos X c us vs us′ vs′ x y Y w lu lv ju jv =
-    let l : length (groupFront row c X Y) ≡ rowAt (rows row X) = front-length masks-laws row pos (rows row X + (rowsOf row c + rows row Y)) X w in
-    rw (encode-round row c X Y (us ++ (y ∷ vs)), encode-round row c X Y (us′ ++ (x ∷ vs′)), ← l)
-    (row-stored us vs us′ vs′ x y lu lv ju jv c (groupFront row c X Y) (groupBack row c X Y))
+    let l : length (groupFront byMasks row c X Y) ≡ rowAt (rows row X) = group-front masks-laws row pos c X Y w in
+    rw (encode-round byMasks row c X Y (us ++ (y ∷ vs)), encode-round byMasks row c X Y (us′ ++ (x ∷ vs′)), ← l)
+    (row-stored us vs us′ vs′ x y lu lv ju jv c (groupFront byMasks row c X Y) (groupBack byMasks row c X Y))
 
 -- ---- reads of a group's first row
 
@@ -123,17 +107,10 @@ has-slot f (x ∷ ss) zero h = rw (div-one (mask (f x ∷ map f ss))) (low-test 
 has-slot f (x ∷ ss) (suc j) h =
     rw (pow-succ' 2 j, ← div-div-eq-div-mul (mask (f x ∷ map f ss)) 2 (2 ^ j), rest-bits (f x) (map f ss)) (has-slot f ss j (omega arith))
 
-slots-part : (ss : List Slot) (rest : List ℕ) (j : ℕ) → j < length ss → part (8 * j) 8 (join slotRecord ss ++ rest) ≡ slotRecord (getD ss j Fresh)
-slots-part [] rest j h = absurd (omega arith)
-slots-part (x ∷ ss) rest zero h = rw (append-assoc (slotRecord x)) (take-at (slotRecord x) (join slotRecord ss ++ rest) 8 (slot-length x))
-slots-part (x ∷ ss) rest (suc j) h =
-    let e : 8 * suc j ≡ length (slotRecord x) + 8 * j = omega (arith, slot-length x) in
-    rw (append-assoc (slotRecord x), e, part-back (8 * j) 8 (slotRecord x) (join slotRecord ss ++ rest)) (slots-part ss rest j (omega arith))
-
 row-slot : (h : Holder) (ss : List Slot) (rest : List ℕ) (j : ℕ) → j < length ss → part (16 + 8 * j) 8 (rowRecord h ss ++ rest) ≡ slotRecord (getD ss j Fresh)
 row-slot h ss rest j l =
     let e : 16 + 8 * j ≡ length (rowHead h ss) + 8 * j = omega (arith, head-length h ss) in
-    rw (row-parts h ss, append-assoc (rowHead h ss), append-assoc (join slotRecord ss), e, part-back) (slots-part ss _ j l)
+    rw (row-parts h ss, append-assoc (rowHead h ss), append-assoc (join slotRecord ss), e, part-back) (join-part slotRecord 8 slot-length ss _ j Fresh l)
 
 module _ (c : ℕ) (ss : List Slot) (rest : List ℕ) (j : ℕ) (l : j < length ss) where
   -- with any masks whose bits are those of a slot with that record

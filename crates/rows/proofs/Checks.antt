@@ -1,8 +1,8 @@
 -- Soundness row by row, in any layout: a span that passes its test is one, and a room whose spans pass is sound.
 use Rattle.mem.proofs.Prelude.{_∙_, _≡_, sym, ap, refl, ap₂, subst, true, Bool, false, _&&_, and-false, ⊎-elim, List, [], _∷_, _++_, append-assoc}
 use Rattle.mem.proofs.Prelude.{_+_, ℕ, _<_, _≤_, _*_, _-_, suc, _/_, _^_, _%_, add-zero, le-div-iff-mul-le, add-one, arith, eq-eqb, le-ltb, T, eqb}
-use Rattle.mem.proofs.Prelude.{leb, lit≤, ltb, eqb→eq, leb→le, le→leb, length, drop, getD, length-append, length-drop, take-append-drop, drop-drop}
-use Rattle.mem.proofs.Prelude.{getD-drop, drop-at}
+use Rattle.mem.proofs.Prelude.{lit≤, ltb, eqb→eq, leb→le, le→leb, length, drop, getD, length-append, length-drop, take-append-drop, drop-drop}
+use Rattle.mem.proofs.Prelude.{getD-drop, drop-at, eqb-true, eqb-false}
 use mathlib.Core.Path.{subst⁻¹}
 use native.Mathlib.Nat.{div-add-mod, div-eq-of-eq-mul-right, mul-one}
 use denote.Enum.Declared.{tagOf}
@@ -25,7 +25,7 @@ use Rattle.model.proofs.Tables.{row-length, later-length, span-length, spans-le
 use Rattle.model.proofs.Tables.{group-few, holder-free, holder-later}
 use Rattle.rows.specs.declared.Tile.the-variants.{Rows, Unsound}
 use Rattle.rows.specs.Rows.{arenaRows}
-use Rattle.rows.specs.Checks.{groupChecked, heldChecked, tile, spanChecked, rowsChecked, roomChecked}
+use Rattle.rows.specs.Checks.{roomRows, groupChecked, heldChecked, tile, spanChecked, rowsChecked, roomChecked}
 
 -- ---- rows that keep no slots
 
@@ -103,15 +103,6 @@ laters-turn s i m k h =
 pub no-class : (L : Layout) (at c : ℕ) (t : List ℕ) → 48 ≤ c → groupChecked L at c t ≡ false
 unfolding groupChecked spanSound
 no-class L at c t h = rw (le-ltb c 48 h) (ap (λ b. b && slotsAligned c (at + 16) (L .slotsIn c t)) (and-false (starts t (L .firstRow c (L .slotsIn c t)))))
-
--- the group whose first row is row i, over what the calls give
-pub held-law : (L : Layout) (row at n i c k : ℕ) (s : List ℕ) → viewHolder (drop (rowAt i) s) ≡ First c → k ≡ rowsOf row c
-    → spanChecked L row at n (drop (rowAt i) s)
-    ≡ choose (leb k n && groupChecked L at c (drop (rowAt i) s) && starts (drop (rowAt (i + 1)) s) (laterRecords (k - 1) 1)) (Rows k) Unsound
-unfolding spanChecked heldChecked
-held-law L row at n i c k s h e =
-    let f : rowAt i + rowRecordBytes ≡ rowAt (i + 1) = omega arith in
-    rw (h, e, drop-drop rowRecordBytes (rowAt i) s, f)
 
 same-front : (x r y : List ℕ) → same (x ++ r) (x ++ y) ≡ same r y
 same-front [] r y = refl
@@ -328,3 +319,43 @@ some-rows-in row n f = go (arenaRight row n) refl f
     go : (b : Bool) → arenaRight row n ≡ b → (choose b (n / row) 0 ≡ 0 → ⊥) → T (arenaRight row n) × (n / row ≡ choose b (n / row) 0)
     go true h q = (true-T (arenaRight row n) h, refl)
     go false h q = absurd (q refl)
+
+-- ---- the head of a room
+
+module _ {L : Layout} (law : LayoutLaws L) (row : ℕ) (pos : 0 < row) (small : 512 * row < 256 ^ 4) (n : ℕ) (t : List ℕ)
+    (B : (i : ℕ) → getD t i 0 < 256) where
+  abbrev headRight : Bool
+  headRight = eqb (length t) (rowAt (arenaRows row n)) && eqb (number (part 0 4 t)) n && same (part 4 12 t) (zeros 12)
+
+  head-law : (arenaRows row n ≡ 0 → ⊥) → soundBy L row n t ≡ (headRight && rowsChecked L row 0 (arenaRows row n) (drop 16 t))
+  unfolding roomChecked
+  head-law f = let q = some-rows-in row n f in sound-law law row pos n t (q .0) small B ∙ rw (q .1)
+
+  outside : arenaRows row n ≡ 0 → soundBy L row n t ≡ false
+  unfolding soundBy
+  outside e = rw (no-rows row n pos e)
+
+  -- a room with no rows is not sound
+  pub under-none : roomRows row n t ≡ 0 → soundBy L row n t ≡ false
+  unfolding roomRows choose
+  under-none = go headRight refl (eqb (arenaRows row n) 0) refl
+    where
+      go : (b : Bool) → headRight ≡ b → (z : Bool) → eqb (arenaRows row n) 0 ≡ z → choose b (arenaRows row n) 0 ≡ 0 → soundBy L row n t ≡ false
+      go true e z f q = outside q
+      go false e true f q = outside (eqb-true (arenaRows row n) 0 f)
+      go false e false f q = head-law (eqb-false (arenaRows row n) 0 f) ∙ ap (λ b. b && rowsChecked L row 0 (arenaRows row n) (drop 16 t)) e
+
+  -- one with rows is, if its rows are
+  pub under-some : (roomRows row n t ≡ 0 → ⊥)
+      → (length t ≡ rowAt (roomRows row n t)) × (soundBy L row n t ≡ rowsChecked L row 0 (roomRows row n t) (drop 16 t))
+  unfolding roomRows choose
+  under-some = go headRight refl
+    where
+      go : (b : Bool) → headRight ≡ b → (choose b (arenaRows row n) 0 ≡ 0 → ⊥)
+          → (length t ≡ rowAt (choose b (arenaRows row n) 0)) × (soundBy L row n t ≡ rowsChecked L row 0 (choose b (arenaRows row n) 0) (drop 16 t))
+      go true e f =
+          let u : T headRight = true-T headRight e in (
+            eqb→eq (length t) (rowAt (arenaRows row n)) (search (and-left, and-right)),
+            head-law f ∙ ap (λ b. b && rowsChecked L row 0 (arenaRows row n) (drop 16 t)) e,
+          )
+      go false e f = absurd (f refl)

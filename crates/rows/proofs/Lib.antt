@@ -4,3 +4,6 @@ pub mod Spans
 pub mod Holders
 pub mod Runs
 pub mod RunSteps
+pub mod Walks
+pub mod Held
+pub mod Counts

@@ -1,5 +1,5 @@
--- Whole spans written into a room, in any layout: a group made in free rows, and its rows made free.
-use Rattle.mem.proofs.Prelude.{_∙_, _≡_, sym, ap, refl, ap₂, List, [], _∷_, _++_, append-nil, _+_, ℕ, _<_, _≤_, _*_, suc, zero, arith, T, length}
+-- Whole spans written into a room, in any layout: a group made in free rows, and its rows made free; and the room round a group's slots.
+use Rattle.mem.proofs.Prelude.{_∙_, _≡_, sym, ap, refl, ap₂, List, [], _∷_, _++_, append-nil, _+_, ℕ, _<_, _≤_, _*_, _-_, suc, zero, arith, T, length}
 use Rattle.mem.proofs.Prelude.{replicate}
 use Rattle.mem.specs.Lists.{join}
 use Rattle.mem.specs.Bytes.{zeros, put}
@@ -7,10 +7,11 @@ use Rattle.mem.proofs.Laws.{zeros-length, zeros-none, zeros-add, join-append, p
 use Rattle.classes.specs.Classes.{rowsOf}
 use Rattle.model.specs.declared.Slot.{Slot}
 use Rattle.model.specs.State.{Pool, free, group, wellFormed, rows}
-use Rattle.model.specs.Tables.{Layout, LayoutLaws, rowAt, rowRecord, spanRecordsBy, encodeBy, rowRecordBytes}
+use Rattle.model.specs.Tables.{Layout, LayoutLaws, rowAt, rowRecord, laterRecords, spanRecordsBy, encodeBy, rowRecordBytes}
 use Rattle.model.proofs.Tables.{group-length}
 use Rattle.model.proofs.Rooms.{rows-append, roomFront, encode-split, front-length}
 use Rattle.model.proofs.Fresh.{fresh-rows}
+use Rattle.rows.proofs.Rooms.{group-first}
 
 module _ (L : Layout) (row : ℕ) where
   free-record : spanRecordsBy L row free ≡ zeros rowRecordBytes
@@ -22,6 +23,24 @@ module _ (L : Layout) (row : ℕ) where
   free-records (suc n) =
       let e : rowRecordBytes + rowRecordBytes * n ≡ rowRecordBytes * suc n = omega arith in
       ap₂ (λ s t. s ++ t) free-record (free-records n) ∙ sym (zeros-add rowRecordBytes (rowRecordBytes * n)) ∙ ap zeros e
+
+-- the room round a group's first row, which is the same whatever its slots
+module _ (L : Layout) (row c : ℕ) (X Y : Pool) where
+  pub groupFront : List ℕ
+  groupFront = roomFront L row (rows row X + (rowsOf row c + rows row Y)) X
+
+  pub groupBack : List ℕ
+  groupBack = laterRecords (rowsOf row c - 1) 1 ++ join (spanRecordsBy L row) Y
+
+  pub encode-round : (ss : List Slot) → encodeBy L row (X ++ (group c ss ∷ Y)) ≡ groupFront ++ (L .firstRow c ss ++ groupBack)
+  unfolding groupFront groupBack
+  encode-round ss =
+      encode-split L row X (group c ss ∷ Y) ∙ ap₂ (λ n t. roomFront L row n X ++ t) (rows-append row X (group c ss ∷ Y)) (group-first L row c ss Y)
+
+pub group-front : {L : Layout} → LayoutLaws L → (row : ℕ) → 0 < row → (c : ℕ) (X Y : Pool) → T (wellFormed X)
+    → length (groupFront L row c X Y) ≡ rowAt (rows row X)
+unfolding groupFront
+group-front law row pos c X Y w = front-length law row pos (rows row X + (rowsOf row c + rows row Y)) X w
 
 module _ {L : Layout} (law : LayoutLaws L) (row : ℕ) (pos : 0 < row) where
   -- spans are written over others with as many rows

@@ -2,7 +2,7 @@
 use Prim.Native.Nat.{ℕ, _+_, _-_, _/_}
 use mathlib.Core.Bool.{Bool, _&&_}
 use mathlib.Core.List.{List}
-use lib.Dec.{leb, eqb}
+use lib.Dec.{leb, ltb, eqb}
 use lib.ListN.{length, drop}
 use Rattle.mem.specs.Lists.{choose, join, starts}
 use Rattle.mem.specs.Bytes.{zeros, number, same, part}
@@ -11,8 +11,25 @@ use Rattle.model.specs.declared.Holder.{Holder}
 use Rattle.model.specs.declared.Holder.the-variants.{Free, First, Later}
 use Rattle.model.specs.State.{group, spanSound, wellFormed, slotsAligned, alignedFrom}
 use Rattle.model.specs.Tables.{Layout, headBytes, rowRecordBytes, rowAt, laterRecords, spanRecordsBy, viewHolder, viewRowsBy}
+use Rattle.rows.specs.Rows.{arenaRows}
+use Rattle.rows.specs.declared.Frame.{Frame}
 use Rattle.rows.specs.declared.Tile.{Tile}
 use Rattle.rows.specs.declared.Tile.the-variants.{Rows, Unsound}
+
+-- the rows of a room whose head is right under an arena of n bytes; 0 of another
+unfoldable pub roomRows : (row n : ℕ) → List ℕ → ℕ
+roomRows row n t =
+    let k = arenaRows row n in choose (eqb (length t) (rowAt k) && eqb (number (part 0 4 t)) n && same (part 4 12 t) (zeros 12)) k 0
+
+-- what begins here by its first row's holder, where n rows are left, whatever stands in a group's slots
+abbrev pub frameHeld : (row n : ℕ) → List ℕ → Holder → Frame
+frameHeld row n t Free = choose (starts t (zeros rowRecordBytes)) Frame.Free Frame.Unsound
+frameHeld row n t (First c) =
+    let k = rowsOf row c in choose (ltb c 48 && leb k n && starts (drop rowRecordBytes t) (laterRecords (k - 1) 1)) (Frame.Group c k) Frame.Unsound
+frameHeld row n t (Later k) = Frame.Unsound
+
+unfoldable pub frameIn : (row n : ℕ) → List ℕ → Frame
+frameIn row n t = frameHeld row n t (viewHolder t)
 
 -- Each piece over the arena's byte that its first row has first.
 module _ (L : Layout) where

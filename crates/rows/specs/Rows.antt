@@ -3,20 +3,24 @@ use Prim.Native.Nat.{ℕ, _+_, _*_, _-_, _/_, _≤_, _<_}
 use mathlib.Core.Path.{_≡_}
 use mathlib.Core.Bool.{Bool, true, not}
 use mathlib.Core.Option.{Option, none, some}
-use mathlib.Core.List.{List, _∷_, _++_}
+use mathlib.Core.List.{List, [], _∷_, _++_}
 use lib.Dec.{T, leb}
 use lib.ListN.{length}
 use Rattle.mem.specs.Lists.{choose, every, any}
 use Rattle.classes.specs.Classes.{slotBytes, slotsOf, rowsOf}
 use Rattle.model.specs.declared.Holder.{Holder}
 use Rattle.model.specs.declared.Holder.the-variants.{Free, First, Later}
-use Rattle.model.specs.State.{Place, group, isLive, count, disp, size, align, slotSound, wellFormed, useBits, poolOf, slotNumber, rows}
-use Rattle.model.specs.Plans.{Site}
-use Rattle.model.specs.Tables.{Layout, LayoutLaws, rowAt, arenaRight, encodeBy, soundBy}
+use Rattle.model.specs.declared.Slot.{Slot}
+use Rattle.model.specs.declared.Slot.the-variants.{Live}
+use Rattle.model.specs.State.{Pool, Place, group, isLive, count, disp, size, align, slotSound, wellFormed, useBits, poolOf, slotNumber, rows}
+use Rattle.model.specs.Plans.{Site, openFrom}
+use Rattle.model.specs.Tables.{Layout, LayoutLaws, rowAt, arenaRight, encodeBy, viewBy, soundBy}
 use Rattle.rows.specs.declared.Found.{Found}
 use Rattle.rows.specs.declared.Found.the-variants.{At, Nothing}
 use Rattle.rows.specs.declared.Run.{Run}
 use Rattle.rows.specs.declared.Block.{Block}
+use Rattle.rows.specs.declared.Looked.{Looked}
+use Rattle.rows.specs.declared.Looked.the-variants.{Present, Freed, Absent}
 
 -- a room that is sound under an arena of n bytes, in rows of a size and in a lawful layout
 pub record Lent (L : Layout) (row n : ℕ) (t : List ℕ) : Type 0 where
@@ -73,6 +77,11 @@ module _ (row : ℕ) where
     alloc = record { count = count (p .state); disp = disp (p .state); size = size (p .state); align = align (p .state) };
   }
 
+  -- what is looked up, as the code has it
+  abbrev pub looked : Option Place → Looked
+  looked none = Absent
+  looked (some p) = choose (isLive (p .state)) (Present (blockOf p)) Freed
+
   abbrev pub ownedAt : Block → ℕ
   ownedAt b = row * b .first + 12 + b .slot * slotBytes (b .class)
 
@@ -81,6 +90,22 @@ module _ (row : ℕ) where
 
   abbrev pub handleAt : Block → ℕ
   handleAt b = startAt b + useBits (b .alloc .count)
+
+-- a live slot with another size
+abbrev pub resized : Place → ℕ → Slot
+resized p n = Live (record { count = count (p .state); disp = disp (p .state); size = n; align = align (p .state) })
+
+-- the spans of the first i rows, which do not matter: what is looked for, behind what was passed by, is in what is left
+pub record Passed {A : Type 0} (L : Layout) (row : ℕ) (t : List ℕ) (f : Pool → Pool → A) (i : ℕ) : Type 0 where
+  pub before : Pool
+  pub after : Pool
+  pub split : viewBy L row t ≡ before ++ after
+  pub count : rows row before ≡ i
+  pub same : f [] (viewBy L row t) ≡ f before after
+
+-- no group of class c before row i serves
+abbrev pub NoneOpen : Layout → (row : ℕ) → List ℕ → (c i : ℕ) → Type 0
+NoneOpen L row t c i = Passed L row t (λ X Y. openFrom X c Y) i
 
 -- a room that is the form of the pool of a live place, whose block is b
 pub record Holds (L : Layout) (row : ℕ) (t : List ℕ) (b : Block) (p : Place) : Type 0 where

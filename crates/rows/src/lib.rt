@@ -8,12 +8,15 @@ ghost use lib.ListN.{length, drop};
 ghost use Rattle.mem.specs.Lists.{starts};
 ghost use Rattle.mem.specs.Bytes.{zeros, put};
 ghost use Rattle.classes.specs.Classes.{Lawful};
-ghost use Rattle.model.specs.declared.Holder.the-variants.{Later};
+ghost use Rattle.model.specs.declared.Holder.the-variants.{First, Later};
 ghost use Rattle.model.specs.Plans.{runFrom};
 ghost use Rattle.model.specs.Tables.{rowAt, rowRecordBytes, rowRecord, holderBytes, laterRecords, viewHolder, Layout, viewBy};
+ghost use Rattle.rows.specs.Checks.{roomRows, frameHeld, frameIn};
+ghost use Rattle.rows.specs.Counts.{allRows, PerRow, plus};
 ghost use Rattle.rows.specs.Rows.{Lent, arenaRows, classHeld, rowsHeld, nextRun, reaches, firstOf, siteFound};
 use model::Alloc;
 use model::Holder;
+use model::Totals;
 
 // The first row of what was looked for.
 pub enum Found {
@@ -35,10 +38,47 @@ pub struct Block {
     pub alloc: Alloc,
 }
 
+// What stands at an offset: a live block, the last start of a slot that is not live, or nothing.
+pub enum Looked {
+    Present(Block),
+    Freed,
+    Absent,
+}
+
 // The span that begins at a row: how many rows it has, or that it is no span of sound tables.
 pub enum Tile {
     Rows(usize),
     Unsound,
+}
+
+// What begins at a row, whatever stands in a group's slots: a free row, a group with its class and its rows, or no span of sound tables.
+pub enum Frame {
+    Free,
+    Group { class: usize, rows: usize },
+    Unsound,
+}
+
+// What is counted of rows that are sound, or that they are not.
+pub enum Counted {
+    Sound(Totals),
+    Unsound,
+}
+
+// The totals of rows and of further rows.
+pub fn plus(a: Totals, b: Totals) -> Totals
+    requires { ⌜ PerRow a ⌝ }
+    requires { ⌜ PerRow b ⌝ }
+    requires { ⌜ allRows a + allRows b ≤ 512 ⌝ }
+    ensures { λ r. ⌜ r ≡ plus a b ⌝ }
+{
+    Totals {
+        blocks: a.blocks + b.blocks,
+        bytes: a.bytes + b.bytes,
+        held: a.held + b.held,
+        free: a.free + b.free,
+        ready: a.ready + b.ready,
+        waiting: a.waiting + b.waiting,
+    }
 }
 
 // The rows of an arena, or 0 where its length is outside the rule.
@@ -65,6 +105,25 @@ pub fn row_at(i: usize) -> usize
     ensures { λ r. ⌜ r ≡ rowAt i ⌝ }
 {
     model::HEAD + model::ROW_RECORD * i
+}
+
+// The rows of a room whose head is right under an arena of len bytes, or 0.
+pub fn rows_under(row: usize, len: usize, room: &[u8]) -> usize
+    requires { ⌜ Lawful row ⌝ }
+    ensures { λ r. ⌜ r ≡ roomRows row len (now (room .entry)) ⌝ }
+    ensures small { λ r. ⌜ r ≤ 512 ⌝ }
+{
+    let n = rows_in(row, len);
+    if room.len() != row_at(n) {
+        return 0;
+    }
+    if mem::quad(room, 0) as usize != len {
+        return 0;
+    }
+    if !mem::zeros_at(room, 4, model::HEAD - 4) {
+        return 0;
+    }
+    n
 }
 
 // Who holds a row.
@@ -189,6 +248,45 @@ pub fn laters_sound(room: &[u8], i: usize, m: usize) -> bool
         k += 1;
     }
     true
+}
+
+// A group of class c that begins at row i, where n rows are left.
+fn group_frame(row: usize, room: &[u8], i: usize, n: usize, c: usize) -> Frame
+    requires { ⌜ (0 < n) × (i + n ≤ 512) × (rowAt (i + n) ≤ length (now room)) ⌝ }
+    requires { ⌜ Lawful row ⌝ }
+    ensures { λ r. ⌜ r ≡ frameHeld row n (drop (rowAt i) (now (room .entry))) (First c) ⌝ }
+{
+    // There is such a class.
+    if classes::CLASSES <= c {
+        return Frame::Unsound;
+    }
+    // Its rows are in the arena, and say how far they are from its first.
+    let k = classes::rows(row, c);
+    if n < k {
+        return Frame::Unsound;
+    }
+    if !laters_sound(room, i, k - 1) {
+        return Frame::Unsound;
+    }
+    Frame::Group { class: c, rows: k }
+}
+
+// What begins at row i, where n rows are left.
+pub fn frame_at(row: usize, room: &[u8], i: usize, n: usize) -> Frame
+    requires { ⌜ (0 < n) × (i + n ≤ 512) × (rowAt (i + n) ≤ length (now room)) ⌝ }
+    requires { ⌜ Lawful row ⌝ }
+    ensures { λ r. ⌜ r ≡ frameIn row n (drop (rowAt i) (now (room .entry))) ⌝ }
+{
+    match holder_at(room, i) {
+        Holder::Free => {
+            if mem::zeros_at(room, row_at(i), model::ROW_RECORD) {
+                return Frame::Free;
+            }
+            Frame::Unsound
+        }
+        Holder::First(c) => group_frame(row, room, i, n, mem::wide(c)),
+        Holder::Later(_) => Frame::Unsound,
+    }
 }
 
 fn holder_bytes(h: Holder) -> [u8; 2]

@@ -15,8 +15,9 @@ use Rattle.model.specs.Plans.{lookup}
 use Rattle.model.proofs.Tables.{group-slots}
 use Rattle.model.proofs.Rooms.{rows-append}
 use Rattle.model.proofs.Lookup.{placed, Fits, fits, disp-inside, InRows, start-row, span-unique, lookup-start, lookup-found}
-use Rattle.search.specs.declared.Looked.the-variants.{Freed, Absent}
-use Rattle.search.specs.Found.{looked, slotLooked, groupLooked}
+use Rattle.rows.specs.declared.Looked.the-variants.{Freed, Absent}
+use Rattle.rows.specs.Rows.{looked}
+use Rattle.search.specs.Found.{slotLooked, groupLooked}
 
 -- i slots of s bytes and 16d bytes less than one more
 slot-of : (s i d : ℕ) → d < s → ((s * i + d) / s ≡ i) × ((s * i + d) % s ≡ d)

@@ -15,13 +15,13 @@ use Rattle.model.specs.Tables.{rowAt, byMasks, spanRecords, rowRecord, laterRec
 use Rattle.model.proofs.Tables.{masks-laws, group-slots, group-few}
 use Rattle.model.proofs.Lookup.{InRows}
 use Rattle.rows.specs.declared.Found.the-variants.{At, Nothing}
-use Rattle.rows.specs.Rows.{Lent, reaches, firstOf}
+use Rattle.rows.specs.Rows.{Lent, looked, reaches, firstOf}
 use Rattle.rows.proofs.Rooms.{held-class, group-first, facts, row-inside, before-sound, span-sound, span-rows, span-from, span-holder}
 use Rattle.rows.proofs.Holders.{holder-read-free, holder-read-first, holder-read-later}
 use Rattle.records.specs.Records.{masksIn, slotIn, slotsHere}
 use Rattle.records.proofs.Laws.{masks-read, slot-read}
-use Rattle.search.specs.declared.Looked.the-variants.{Absent}
-use Rattle.search.specs.Found.{looked, slotLooked, groupLooked}
+use Rattle.rows.specs.declared.Looked.the-variants.{Absent}
+use Rattle.search.specs.Found.{slotLooked, groupLooked}
 use Rattle.search.proofs.Blocks.{looked-group, looked-free, looked-past, AtRow, at-row}
 
 -- only the slots that a group has are looked at

@@ -5,22 +5,16 @@ ghost use mathlib.Core.List.{[]};
 ghost use Prim.Native.Nat.{_+_, _≤_, _<_};
 ghost use lib.ListN.{length, drop};
 ghost use Rattle.classes.specs.Classes.{Lawful};
-ghost use Rattle.model.specs.Tables.{rowAt, rowRecordBytes, sound, view};
+ghost use Rattle.model.specs.Tables.{rowAt, rowRecordBytes, byMasks, sound, view};
 ghost use Rattle.model.specs.Plans.{openFrom, lookup};
-ghost use Rattle.rows.specs.Rows.{siteFound};
+ghost use Rattle.rows.specs.Rows.{siteFound, looked, NoneOpen};
 ghost use Rattle.records.specs.Records.{slotsHere};
-ghost use Rattle.search.specs.Found.{opensIn, Passed, looked, slotLooked, groupLooked, dispSmall};
+ghost use Rattle.search.specs.Found.{opensIn, slotLooked, groupLooked, dispSmall};
 use model::Holder;
 use model::Slot;
 use rows::Block;
 use rows::Found;
-
-// What stands at an offset: a live block, the last start of a slot that is not live, or nothing.
-pub enum Looked {
-    Present(Block),
-    Freed,
-    Absent,
-}
+use rows::Looked;
 
 // Whether the group whose first row it is has class c and a slot that is not live.
 fn opens_at(room: &[u8], i: usize, c: usize) -> bool
@@ -44,7 +38,7 @@ fn opens_at(room: &[u8], i: usize, c: usize) -> bool
 // The lowest group of a class with a slot that is not live, looked for from a row on before which there is none.
 pub fn find_open(row: usize, len: usize, room: &[u8], c: usize, from: usize) -> Found
     requires { ⌜ sound row len (now room) ≡ true ⌝ }
-    requires { ⌜ (c < 48) × Passed row (now room) c from ⌝ }
+    requires { ⌜ (c < 48) × NoneOpen byMasks row (now room) c from ⌝ }
     requires { ⌜ Lawful row ⌝ }
     ensures { λ r. ⌜ r ≡ siteFound row (openFrom [] c (view row (now (room .entry)))) ⌝ }
 {

@@ -14,16 +14,12 @@ ghost use Rattle.model.specs.Tables.{headBytes, rowRecordBytes, mostSlots, slot
 ghost use Rattle.model.specs.Calls.{keptIn, sameTotals, soundKept};
 ghost use Rattle.rows.specs.Checks.{groupChecked};
 ghost use Rattle.soundness.specs.Checks.{recordChecked, alikeChecked, liveChecked, exactChecked, slotsChecked, slotsExactly, membersChecked};
-ghost use Rattle.soundness.specs.Counts.{allRows, PerRow, plus, countedIf, groupTotals, masksTotals, spanCounted, rowsCounted};
+ghost use Rattle.rows.specs.Counts.{countedIf, groupTotals, spanCounted, rowsCounted};
+ghost use Rattle.soundness.specs.Counts.{masksTotals};
 use masks::Masks;
-use model::Holder;
 use model::Totals;
-
-// What is counted of rows that are sound, or that they are not.
-pub enum Counted {
-    Sound(Totals),
-    Unsound,
-}
+use rows::Counted;
+use rows::Frame;
 
 // Whether bit i of a mask is set.
 fn has(m: u32, i: usize) -> bool
@@ -476,66 +472,23 @@ fn group_counted(row: usize, room: &[u8], i: usize, c: usize, k: usize) -> Count
     members_counted(room, at, c, n, k, row * i + 16)
 }
 
-// The group of class c whose first row is row i, where n rows are left.
-fn held_counted(row: usize, room: &[u8], i: usize, n: usize, c: usize) -> Counted
-    requires { ⌜ (0 < n) × (i + n ≤ 512) × (rowAt (i + n) ≤ length (now room)) ⌝ }
-    requires { ⌜ viewHolder (drop (rowAt i) (now room)) ≡ First c ⌝ }
-    requires { ⌜ Lawful row ⌝ }
-    ensures { λ r. ⌜ r ≡ spanCounted row (row * i) n (drop (rowAt i) (now (room .entry))) ⌝ }
-{
-    if classes::CLASSES <= c {
-        return Counted::Unsound;
-    }
-    let k = classes::rows(row, c);
-    if n < k {
-        return Counted::Unsound;
-    }
-    if !rows::laters_sound(room, i, k - 1) {
-        return Counted::Unsound;
-    }
-    group_counted(row, room, i, c, k)
-}
-
 // The span that begins at row i, where n rows are left: a free row, or a group.
 fn span_counted(row: usize, room: &[u8], i: usize, n: usize) -> Counted
     requires { ⌜ (0 < n) × (i + n ≤ 512) × (rowAt (i + n) ≤ length (now room)) ⌝ }
     requires { ⌜ Lawful row ⌝ }
-    ensures { λ r. ⌜ r ≡ spanCounted row (row * i) n (drop (rowAt i) (now (room .entry))) ⌝ }
+    ensures { λ r. ⌜ r ≡ spanCounted byMasks row (row * i) n (drop (rowAt i) (now (room .entry))) ⌝ }
 {
-    match rows::holder_at(room, i) {
-        Holder::Free => {
-            if mem::zeros_at(room, rows::row_at(i), model::ROW_RECORD) {
-                Counted::Sound(Totals {
-                    blocks: 0,
-                    bytes: 0,
-                    held: 0,
-                    free: 1,
-                    ready: 0,
-                    waiting: 0,
-                })
-            } else {
-                Counted::Unsound
-            }
-        }
-        Holder::First(c) => held_counted(row, room, i, n, mem::wide(c)),
-        Holder::Later(_) => Counted::Unsound,
-    }
-}
-
-// The totals of rows and of further rows.
-fn plus(a: Totals, b: Totals) -> Totals
-    requires { ⌜ PerRow a ⌝ }
-    requires { ⌜ PerRow b ⌝ }
-    requires { ⌜ allRows a + allRows b ≤ 512 ⌝ }
-    ensures { λ r. ⌜ r ≡ plus a b ⌝ }
-{
-    Totals {
-        blocks: a.blocks + b.blocks,
-        bytes: a.bytes + b.bytes,
-        held: a.held + b.held,
-        free: a.free + b.free,
-        ready: a.ready + b.ready,
-        waiting: a.waiting + b.waiting,
+    match rows::frame_at(row, room, i, n) {
+        Frame::Free => Counted::Sound(Totals {
+            blocks: 0,
+            bytes: 0,
+            held: 0,
+            free: 1,
+            ready: 0,
+            waiting: 0,
+        }),
+        Frame::Group { class, rows } => group_counted(row, room, i, class, rows),
+        Frame::Unsound => Counted::Unsound,
     }
 }
 
@@ -543,7 +496,7 @@ fn plus(a: Totals, b: Totals) -> Totals
 fn rows_counted(row: usize, room: &[u8], n: usize) -> Counted
     requires { ⌜ (n ≤ 512) × (length (now room) ≡ rowAt n) ⌝ }
     requires { ⌜ Lawful row ⌝ }
-    ensures { λ r. ⌜ r ≡ rowsCounted row 0 n (drop headBytes (now (room .entry))) ⌝ }
+    ensures { λ r. ⌜ r ≡ rowsCounted byMasks row 0 n (drop headBytes (now (room .entry))) ⌝ }
 {
     let mut s = Totals {
         blocks: 0,
@@ -557,7 +510,7 @@ fn rows_counted(row: usize, room: &[u8], n: usize) -> Counted
         let i = s.held + s.free;
         match span_counted(row, room, i, n - i) {
             Counted::Sound(u) => {
-                s = plus(s, u);
+                s = rows::plus(s, u);
             }
             Counted::Unsound => {
                 return Counted::Unsound;
@@ -582,17 +535,8 @@ pub fn sound(row: usize, len: usize, room: &[u8], t: Totals) -> bool
     requires { ⌜ Lawful row ⌝ }
     ensures { λ r. ⌜ r ≡ soundKept row len (keptIn (now (room .entry)) t) ⌝ }
 {
-    let n = rows::rows_in(row, len);
+    let n = rows::rows_under(row, len, room);
     if n == 0 {
-        return false;
-    }
-    if room.len() != rows::row_at(n) {
-        return false;
-    }
-    if mem::quad(room, 0) as usize != len {
-        return false;
-    }
-    if !mem::zeros_at(room, 4, model::HEAD - 4) {
         return false;
     }
     match rows_counted(row, room, n) {

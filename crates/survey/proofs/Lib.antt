@@ -1,4 +1,1 @@
-pub mod MapRuns
-pub mod Serving
-pub mod Notes
-pub mod Sizes
+pub mod Idle

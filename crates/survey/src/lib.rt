@@ -3,44 +3,24 @@
 ghost use mathlib.Core.Path.{_≡_};
 ghost use mathlib.Core.Bool.{true};
 ghost use mathlib.Core.List.{[], _∷_, _++_};
-ghost use Prim.Native.Nat.{ℕ, _/_, _≤_, _<_};
+ghost use Prim.Native.Nat.{ℕ, _/_};
 ghost use lib.Dec.{ltb};
 ghost use Rattle.mem.specs.Lists.{every, isSome};
 ghost use Rattle.mem.specs.Bytes.{zeros};
-ghost use Rattle.classes.specs.Classes.{Lawful, classOf, tooLarge};
+ghost use Rattle.classes.specs.Classes.{Lawful, tooLarge};
 ghost use Rattle.model.specs.State.{Span, Pool, rowsIn};
 ghost use Rattle.model.specs.Plans.{reserveAll};
-ghost use Rattle.model.specs.Tables.{sound, view};
-ghost use Rattle.survey.specs.Survey.{lowestRun, runFound, Tells, Serves};
-ghost use Rattle.survey.specs.Walk.{Next, Noted};
-use classes::Sized;
+ghost use Rattle.model.specs.Tables.{byMasks, sound, view};
+ghost use Rattle.serving.specs.Survey.{Tells};
+ghost use Rattle.serving.specs.Walk.{Next, Noted};
 use model::Holder;
-use rows::Found;
-
-// The lowest run of free rows in a map, where 1 stands for a free row.
-fn lowest_run(map: &[u8], need: usize) -> Found
-    requires { ⌜ 1 ≤ need ⌝ }
-    ensures { λ r. ⌜ r ≡ runFound (lowestRun need 0 (now (map .entry))) ⌝ }
-{
-    let mut from = 0;
-    let mut i = 0;
-    while i < map.len() {
-        if map[i] != 1 {
-            from = i + 1;
-        }
-        i += 1;
-        if i - from == need {
-            return Found::At(from);
-        }
-    }
-    Found::Nothing
-}
 
 // Notes of one span, whose first row is row i: a free row, or a group's slots that are not live. How many rows it has.
 fn note_span(row: usize, room: &[u8], i: usize, spare: &mut [usize], map: &mut [u8]) -> usize
-    requires { ⌜ ((len : ℕ) × (X : Pool) × (s : Span) × (Y : Pool) × Next row len (now room) i X s Y × Noted row (len / row) X (now spare) (now map)) ⌝ }
+    requires { ⌜ ((len : ℕ) × (X : Pool) × (s : Span) × (Y : Pool) × Next byMasks row len (now room) i X s Y
+        × Noted row (len / row) X (now spare) (now map)) ⌝ }
     requires { ⌜ Lawful row ⌝ }
-    ensures { λ r. ⌜ ((len : ℕ) (X : Pool) (s : Span) (Y : Pool) → Next row len (now (room .entry)) i X s Y
+    ensures { λ r. ⌜ ((len : ℕ) (X : Pool) (s : Span) (Y : Pool) → Next byMasks row len (now (room .entry)) i X s Y
         → Noted row (len / row) X (now (spare .entry)) (now (map .entry))
         → (r ≡ rowsIn row s) × Noted row (len / row) (X ++ (s ∷ [])) (now (spare .exit)) (now (map .exit))) ⌝ }
 {
@@ -70,47 +50,6 @@ fn note(row: usize, len: usize, room: &[u8], spare: &mut [usize], map: &mut [u8]
     }
 }
 
-// Whether a slot of class c can be taken, and what is left then: a slot of a group that is there, or of a new one.
-fn serve(row: usize, c: usize, spare: &mut [usize], map: &mut [u8]) -> bool
-    requires { ⌜ ((P : Pool) × Tells row P (now spare) (now map)) ⌝ }
-    requires { ⌜ c < 48 ⌝ }
-    requires { ⌜ Lawful row ⌝ }
-    ensures { λ r. ⌜ ((P : Pool) (n : ℕ) → Tells row P (now (spare .entry)) (now (map .entry)) → c ≡ classOf n → n < tooLarge
-        → Serves row P n r (now (spare .exit)) (now (map .exit))) ⌝ }
-{
-    let k = spare[c];
-    if 0 < k {
-        spare[c] = k - 1;
-        return true;
-    }
-    let need = classes::rows(row, c);
-    let Found::At(i) = lowest_run(map, need) else {
-        return false;
-    };
-    mem::clear(map, i, i + need);
-    spare[c] = classes::slots(c) - 1;
-    true
-}
-
-// Whether slots for sizes can be taken, one after the other.
-fn serve_all(row: usize, sizes: &[usize], spare: &mut [usize], map: &mut [u8]) -> bool
-    requires { ⌜ ((P : Pool) × Tells row P (now spare) (now map)) ⌝ }
-    requires { ⌜ every (λ n. ltb n tooLarge) (now sizes) ≡ true ⌝ }
-    requires { ⌜ Lawful row ⌝ }
-    ensures { λ r. ⌜ ((P : Pool) → Tells row P (now (spare .entry)) (now (map .entry)) → r ≡ isSome (reserveAll row P (now (sizes .entry)))) ⌝ }
-{
-    let mut last = Sized { size: 0, class: 0 };
-    let mut i = 0;
-    while i < sizes.len() {
-        last = classes::with_class(sizes[i], last);
-        if !serve(row, last.class, spare, map) {
-            return false;
-        }
-        i += 1;
-    }
-    true
-}
-
 // Whether sizes can all be granted, one after the other.
 pub fn fits(row: usize, len: usize, room: &[u8], sizes: &[usize]) -> bool
     requires { ⌜ sound row len (now room) ≡ true ⌝ }
@@ -122,5 +61,5 @@ pub fn fits(row: usize, len: usize, room: &[u8], sizes: &[usize]) -> bool
     let mut map = [0u8; 512];
     let n = len / row;
     note(row, len, room, &mut spare, &mut map[0..n]);
-    serve_all(row, sizes, &mut spare, &mut map[0..n])
+    serving::serve_all(row, sizes, &mut spare, &mut map[0..n])
 }

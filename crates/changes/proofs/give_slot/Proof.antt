@@ -1,10 +1,10 @@
 -- `give_slot` meets its contract.
 use Rattle.mem.proofs.Prelude.{_+_, _<_, _≤_, arith, now, needs, length}
 use lib.Count.{ones-le}
-use Rattle.classes.proofs.Laws.{rows-pos}
 use Rattle.classes.specs.Classes.{rowsOf}
 use Rattle.model.specs.Tables.{rowAt, rowRecordBytes}
-use Rattle.changes.proofs.Laws.{held-rows, given-fits, given-few, given-last, given-back}
+use Rattle.rows.proofs.Held.{held-rows, held-inside}
+use Rattle.changes.proofs.Laws.{given-fits, given-few, given-last, given-back}
 use Rattle.changes.proofs.give_slot.Statement.{statement}
 use Rattle.changes.proofs.give_slot.Tie as tie
 
@@ -14,9 +14,7 @@ held s = held-rows (s .args .row) (now (s .args .room)) (s .args .b) (s .pre .0 
 
 -- the group's first row stands in the room
 inside : (s : tie.Start) → (s .args .b .first < 512) × (rowAt (s .args .b .first) + rowRecordBytes ≤ length (now (s .args .room)))
-inside s =
-    let k = rows-pos (s .args .row) (s .args .b .class) (s .pre .0 .1 .pos) in
-    (omega (arith, held s .2), omega (arith, held s .3))
+inside s = held-inside (s .args .row) (now (s .args .room)) (s .args .b) (s .pre .0 .0) (s .pre .0 .1)
 
 give-back-requires : tie.Need-give-back-requires
 give-back-requires c κs =

@@ -1,9 +1,9 @@
 -- `resize_slot` meets its contract.
-use Rattle.mem.proofs.Prelude.{ap, _+_, _<_, _≤_, arith, now, needs, length}
-use Rattle.classes.proofs.Laws.{rows-pos}
+use Rattle.mem.proofs.Prelude.{ap, _+_, _<_, _≤_, now, needs, length}
 use Rattle.model.specs.declared.Slot.{Slot}
 use Rattle.model.specs.Tables.{rowAt, rowRecordBytes}
-use Rattle.changes.proofs.Laws.{held-rows, resized-slot}
+use Rattle.rows.proofs.Held.{held-rows, held-inside}
+use Rattle.changes.proofs.Laws.{resized-slot}
 use Rattle.changes.proofs.resize_slot.Statement.{statement}
 use Rattle.changes.proofs.resize_slot.Tie as tie
 
@@ -12,9 +12,8 @@ inside : (s : tie.Start)
     → ((s .args .b .first < 512) × (rowAt (s .args .b .first) + rowRecordBytes ≤ length (now (s .args .room)))) × (s .args .b .slot < 31)
 inside s =
     let q = s .pre in
-    let d = held-rows (q .0) (now (s .args .room)) (s .args .b) (q .1) (q .2) in
-    let k = rows-pos (q .0) (s .args .b .class) (q .2 .pos) in
-    ((omega (arith, d .2), omega (arith, d .3)), d .1)
+    let t = now (s .args .room) in
+    (held-inside (q .0) t (s .args .b) (q .1) (q .2), held-rows (q .0) t (s .args .b) (q .1) (q .2) .1)
 
 returns : tie.Need-returns
 returns c row p h =

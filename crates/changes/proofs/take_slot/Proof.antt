@@ -1,20 +1,18 @@
 -- `take_slot` meets its contract.
 use Rattle.mem.proofs.Prelude.{_∙_, ap, _+_, _*_, _<_, _≤_, arith, now, needs, length}
 use Rattle.classes.specs.Classes.{slotBytes}
-use Rattle.classes.proofs.Laws.{rows-pos, few-bytes, small-product}
+use Rattle.classes.proofs.Laws.{few-bytes, small-product}
 use Rattle.masks.specs.Sets.{lowest}
 use Rattle.model.specs.Tables.{rowAt, rowRecordBytes}
 use Rattle.model.specs.Plans.{grantSlot}
+use Rattle.rows.proofs.Held.{offered-inside}
 use Rattle.changes.proofs.Laws.{ready-number, refilled-site, taken-slot}
 use Rattle.changes.proofs.take_slot.Statement.{statement}
 use Rattle.changes.proofs.take_slot.Tie as tie
 
 -- the group's first row stands in the room
 inside : (s : tie.Start) → (s .args .i < 512) × (rowAt (s .args .i) + rowRecordBytes ≤ length (now (s .args .room)))
-inside s =
-    let o = s .pre .0 .1 in
-    let k = rows-pos (s .args .row) (s .args .c) (o .pos) in
-    (omega (arith, o .few), omega (arith, o .room))
+inside s = offered-inside (s .args .row) (now (s .args .room)) (s .args .i) (s .args .c) (s .pre .0 .0) (s .pre .0 .1)
 
 -- a slot is ready, and its number is one of a group's
 ready : (c : tie.After-refill) → (0 < c .refill .result .ready) × (lowest (c .refill .result) < 31)

@@ -7,7 +7,8 @@ use Rattle.model.specs.Tables.{byMasks, view}
 use Rattle.rows.specs.Rows.{Lent}
 use Rattle.rows.proofs.Rooms.{by-masks}
 use Rattle.ops.proofs.Moves.{reserved-none}
-use Rattle.lists.specs.Grants.{handleOr, firstOr, totalsOr, arenaAfter}
+use Rattle.frames.specs.Grants.{handleOr, arenaAfter}
+use Rattle.lists.specs.Grants.{firstOr, totalsOr}
 use Rattle.lists.proofs.Grants.{GrantedOne, granted-one}
 use Rattle.lists.proofs.grant_one.Statement.{statement}
 use Rattle.lists.proofs.grant_one.Tie as tie

@@ -7,8 +7,8 @@ use Rattle.model.specs.Plans.{resizeInPlace, resizeAt, inPlace}
 use Rattle.model.specs.Tables.{byMasks}
 use Rattle.rows.specs.Rows.{handleAt, Holds}
 use Rattle.rows.proofs.Rooms.{by-masks}
-use Rattle.ops.specs.Blocks.{Standing, staysIn}
-use Rattle.ops.proofs.Places.{held-stands}
+use Rattle.frames.specs.Blocks.{Standing, staysIn}
+use Rattle.frames.proofs.Places.{held-stands}
 use Rattle.ops.proofs.change_size.Statement.{statement}
 use Rattle.ops.proofs.change_size.Tie as tie
 

@@ -3,8 +3,8 @@ use Rattle.mem.proofs.Prelude.{_∙_, sym, ap, subst, now, needs, length}
 use Rattle.model.specs.Plans.{lookup}
 use Rattle.model.specs.Tables.{view}
 use Rattle.rows.proofs.Rooms.{by-masks}
-use Rattle.ops.specs.Blocks.{Lies, judged, located}
-use Rattle.ops.proofs.Places.{found-lies, judged-looked}
+use Rattle.frames.specs.Blocks.{Lies, judged, located}
+use Rattle.frames.proofs.Places.{found-lies, judged-looked}
 use Rattle.ops.proofs.locate.Statement.{statement}
 use Rattle.ops.proofs.locate.Tie as tie
 

@@ -2,7 +2,8 @@
 use Rattle.mem.proofs.Prelude.{_∙_, ap, arith, now, needs}
 use Rattle.classes.specs.Classes.{classOf}
 use Rattle.classes.proofs.Alignments.{enlarged-least}
-use Rattle.search.proofs.Steps.{open-start}
+use Rattle.model.specs.Tables.{byMasks}
+use Rattle.rows.proofs.Walks.{open-start}
 use Rattle.ops.proofs.reserve_slot.Statement.{statement}
 use Rattle.ops.proofs.reserve_slot.Tie as tie
 
@@ -23,7 +24,7 @@ reserve-in-requires c κs =
       s .pre .0,
       (
         s .pre .1 .0,
-        ((e, k .class-of .ensures .1, open-start (s .args .row) (now (s .args .room)) (k .class-of .result), s .pre .1 .1 .0), s .pre .1 .1 .1),
+        ((e, k .class-of .ensures .1, open-start byMasks (s .args .row) (now (s .args .room)) (k .class-of .result), s .pre .1 .1 .0), s .pre .1 .1 .1),
       ),
     )
 

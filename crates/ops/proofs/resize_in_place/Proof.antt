@@ -1,12 +1,13 @@
 -- The frame is written anew, and the slot's record.
-use Rattle.mem.proofs.Prelude.{_∙_, _<_, arith, now, needs, length}
+use Rattle.mem.proofs.Prelude.{_∙_, ap, _<_, arith, now, needs, length}
 use Rattle.classes.specs.Classes.{tooLarge}
 use Rattle.classes.proofs.Alignments.{enlarged-least}
+use Rattle.model.specs.Tables.{encode}
 use Rattle.rows.proofs.Rooms.{by-masks}
-use Rattle.ops.specs.Blocks.{Standing}
-use Rattle.ops.proofs.Places.{held-stands}
+use Rattle.frames.specs.Blocks.{Standing}
+use Rattle.frames.proofs.Places.{held-stands}
 use Rattle.ops.proofs.Counts.{sized-counts}
-use Rattle.ops.proofs.Plans.{stays-fits, in-place-writes, in-place-pool}
+use Rattle.frames.proofs.Plans.{stays-fits, in-place-writes, in-place-pool}
 use Rattle.ops.proofs.resize_in_place.Statement.{statement}
 use Rattle.ops.proofs.resize_in_place.Tie as tie
 
@@ -47,7 +48,7 @@ returns c p h =
     let a = s .args in (
       in-place-writes h (now (a .arena)) (a .n) (r .before .owned-of .result) (kept .result) (r .reframe-at .last .0) (r .before .owned-of .ensures .0)
           (kept .ensures) (r .reframe-at .ensures),
-      c .before .before .before .resize-slot .ensures (a .row) p h ∙ in-place-pool (a .row) p (a .n),
+      c .before .before .before .resize-slot .ensures (a .row) p h ∙ ap (encode (a .row)) (in-place-pool (a .row) p (a .n)),
       c .sized .ensures _ (sized-counts h (a .t) (s .pre .0 .1) (a .n) (small s) .0),
     )
 

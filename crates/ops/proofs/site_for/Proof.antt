@@ -10,7 +10,8 @@ use Rattle.rows.proofs.Rooms.{by-masks}
 use Rattle.totals.specs.Changes.{Small, Makes}
 use Rattle.ops.specs.declared.Opened.the-variants.{In}
 use Rattle.ops.specs.Blocks.{opened}
-use Rattle.ops.proofs.Reserving.{site-open, site-none, run-inside, site-counts, site-made}
+use Rattle.frames.proofs.Sites.{run-inside}
+use Rattle.ops.proofs.Reserving.{site-open, site-none, site-counts, site-made}
 use Rattle.ops.proofs.site_for.Statement.{statement}
 use Rattle.ops.proofs.site_for.Tie as tie
 
@@ -45,7 +46,7 @@ run c =
 make-group-requires : tie.Need-make-group-requires
 make-group-requires c κs =
     let s = c .before .before .before .before .before .before .before .before .before .before .before in
-    let m = run-inside (room s) (s .args .c) (s .args .t) (s .pre .1 .0 .2) (shut (c .before .before .before .before .before .before))
+    let m = run-inside (room s) (s .args .c) (shut (c .before .before .before .before .before .before))
     (c .before .before .i2 .given .0 .0)
     (run (c .before)) in
     ((s .pre .1 .0 .0, m .0), (m .1, search needs))

@@ -8,13 +8,14 @@ use Rattle.model.specs.Proposals.{entries, accepts, plannable}
 use Rattle.model.specs.declared.Refusal.the-variants.{Unsound, NoRoom, TooLong, BadProposal}
 use Rattle.model.specs.Plans.{grantsList, reserveAll, totals}
 use Rattle.model.specs.Tables.{view}
-use Rattle.model.specs.Calls.{keptIn}
+use Rattle.model.specs.Calls.{KeptBytes, keptIn}
 use Rattle.model.proofs.Kept.{kept-totals}
 use Rattle.model.proofs.Calls.{call-unsound}
 use Rattle.model.proofs.Lists.{small, accepts-small, accepts-few}
-use Rattle.ops.proofs.Calls.{Checked, by-check}
+use Rattle.ops.proofs.Calls.{Checked, by-check, form}
 use Rattle.pool.proofs.Fresh.{card-row}
-use Rattle.pool.proofs.Lists.{refused-parts, too-long, bad-proposal, no-room, whole}
+use Rattle.frames.proofs.Lists.{too-long, bad-proposal, no-room, whole}
+use Rattle.pool.proofs.Lists.{refused-parts}
 use Rattle.pool.proofs.grant_list.Statement.{statement}
 use Rattle.pool.proofs.grant_list.Tie as tie
 
@@ -50,7 +51,7 @@ returns-2 z =
     let a = d .before .before .before .before .before .before .before .args in
     let w = c .before .plannable in
     refused-parts TooLong (now (a .handles)) (z .refused2 .ensures)
-    (too-long (now (a .arena)) (lent d) (a .total) (a .cap) (length (now (a .handles))) (now (a .sizes))
+    (too-long (form (now (a .arena)) (lent d)) (a .total) (a .cap) (length (now (a .handles))) (now (a .sizes))
     (ap (λ b. b && leb entries (length (now (a .handles)))) (sym (w .ensures) ∙ not-true (w .result) (c .if2 .taken))))
 
 returns-3 : tie.Need-returns-3
@@ -61,7 +62,7 @@ returns-3 z =
     let a = d .before .before .before .before .before .before .before .args in
     let e = lt-leb entries (length (now (a .handles))) (c .if3 .taken) in
     refused-parts TooLong (now (a .handles)) (z .refused3 .ensures)
-    (too-long (now (a .arena)) (lent d) (a .total) (a .cap) (length (now (a .handles))) (now (a .sizes))
+    (too-long (form (now (a .arena)) (lent d)) (a .total) (a .cap) (length (now (a .handles))) (now (a .sizes))
     (ap (λ b. plannable (a .total) (a .cap) && b) e ∙ and-false (plannable (a .total) (a .cap))))
 
 -- the list is short enough, and has its places
@@ -82,7 +83,7 @@ returns-4 z =
     let a = s .before .before .before .before .before .before .before .args in
     let w = c .before .accepts in
     refused-parts BadProposal (now (a .handles)) (z .refused4 .ensures)
-    (bad-proposal (now (a .arena)) (lent s) (a .total) (a .cap) (length (now (a .handles))) (now (a .sizes)) (short d)
+    (bad-proposal (form (now (a .arena)) (lent s)) (a .total) (a .cap) (length (now (a .handles))) (now (a .sizes)) (short d)
     (sym (w .ensures) ∙ not-true (w .result) (c .if4 .taken)))
 
 -- the proposal is accepted, so its sizes are small and few
@@ -108,7 +109,7 @@ returns-5 z =
     let a = s .before .before .before .before .before .before .before .args in
     let w = c .before .fits2 in
     refused-parts NoRoom (now (a .handles)) (z .refused5 .ensures)
-    (no-room (now (a .arena)) (lent s) (a .total) (a .cap) (length (now (a .handles))) (now (a .sizes)) (short k) (right d)
+    (no-room (form (now (a .arena)) (lent s)) (a .total) (a .cap) (length (now (a .handles))) (now (a .sizes)) (short k) (right d)
     (sym (w .ensures) ∙ not-true (w .result) (c .if5 .taken)))
 
 -- all of it fits
@@ -144,13 +145,16 @@ returns-6 c =
     let k = d .before .before in
     let s = k .before .before .before in
     let a = s .before .before .before .before .before .before .before .args in
-    let w = whole (now (a .arena)) (lent s) (a .total) (a .cap) (length (now (a .handles))) (now (a .sizes)) (short k) (right d) (fit e) in (
+    let w = whole (form (now (a .arena)) (lent s)) (a .total) (a .cap) (length (now (a .handles))) (now (a .sizes)) (short k) (right d) (fit e) in (
       w .number,
       (
         w .values,
         (
           g .ensures .1 .1 .0 ∙ ap (λ l. put 0 l (now (a .handles))) (w .lent),
-          (g .ensures .0 ∙ w .arena, (g .ensures .1 .0 ∙ w .room, g .ensures .1 .1 .1 ∙ w .counts)),
+          (
+            g .ensures .0 ∙ w .arena,
+            (g .ensures .1 .0 ∙ ap (λ (k : KeptBytes). k .tables) (w .room), g .ensures .1 .1 .1 ∙ ap (λ (k : KeptBytes). k .totals) (w .room)),
+          ),
         ),
       ),
     )

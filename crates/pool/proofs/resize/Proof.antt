@@ -10,9 +10,10 @@ use Rattle.model.proofs.Kept.{kept-totals}
 use Rattle.model.proofs.Calls.{call-unsound}
 use Rattle.model.proofs.Lookup.{fits}
 use Rattle.model.proofs.Formed.{code-kept}
-use Rattle.search.specs.Found.{looked}
-use Rattle.ops.specs.Blocks.{codeFound, judged, located, CarriedOut}
-use Rattle.ops.proofs.Places.{held-pool, Known, found-known, judged-looked, new-size}
+use Rattle.rows.specs.Rows.{looked}
+use Rattle.frames.specs.Blocks.{codeFound, judged, located}
+use Rattle.ops.specs.Blocks.{CarriedOut}
+use Rattle.frames.proofs.Places.{held-pool, Known, found-known, judged-looked, new-size}
 use Rattle.ops.proofs.Calls.{Checked, by-check, Called, called-at, called-refused, resizing, resize-names, resize-too-large}
 use Rattle.pool.proofs.Fresh.{card-row, parts, refused-as, carried-as}
 use Rattle.pool.proofs.resize.Statement.{statement}

@@ -1,11 +1,12 @@
 -- Refused by the room's size, or done: zeros, and tables with no groups.
-use Rattle.mem.proofs.Prelude.{_∙_, sym, _≤_, _*_, _/_, arith, now, needs, leb→le, length}
+use Rattle.mem.proofs.Prelude.{_∙_, sym, refl, _≤_, _*_, _/_, arith, now, needs, leb→le, length}
 use Rattle.mem.proofs.Tests.{and-left, and-right}
 use Rattle.classes.specs.Classes.{rowBytes}
-use Rattle.model.specs.Tables.{arenaRight, roomBytes}
-use Rattle.model.specs.Calls.{keptIn}
+use Rattle.model.specs.Tables.{byMasks, arenaRight, roomBytes}
+use Rattle.model.specs.Calls.{keptIn, engine}
 use Rattle.model.proofs.Fresh.{fresh-totals}
-use Rattle.pool.proofs.Fresh.{parts, refused-as, Fitting, fitting, set-up-refused, set-up-made, formatted}
+use Rattle.fresh.proofs.SetUp.{Fitting, fitting, set-up-refused, set-up-made, formatted}
+use Rattle.pool.proofs.Fresh.{parts, refused-as}
 use Rattle.pool.proofs.set_up.Statement.{statement}
 use Rattle.pool.proofs.set_up.Tie as tie
 
@@ -14,7 +15,8 @@ returns d =
     let c = d .before in
     let a = c .before .before .before .before .args in
     let r = c .before .room-len in
-    let e = sym (set-up-refused rowBytes (now (a .arena)) (keptIn (now (a .room)) (a .t)) (λ h. sym (r .ensures) ∙ c .if1 .taken)) in
+    let e = sym (set-up-refused rowBytes (engine rowBytes) (now (a .arena)) (keptIn (now (a .room)) (a .t)) (now (a .room)) refl (λ h. sym (r .ensures)
+    ∙ c .if1 .taken)) in
     refused-as (d .refused .ensures) (parts e)
 
 returns-2 : tie.Need-returns-2
@@ -22,7 +24,8 @@ returns-2 d =
     let c = d .before in
     let a = c .before .before .before .before .before .args in
     let r = c .before .before .room-len in
-    let e = sym (set-up-refused rowBytes (now (a .arena)) (keptIn (now (a .room)) (a .t)) (λ h. absurd (c .if2 .taken (h ∙ sym (r .ensures))))) in
+    let e = sym (set-up-refused rowBytes (engine rowBytes) (now (a .arena)) (keptIn (now (a .room)) (a .t)) (now (a .room)) refl (λ h. absurd (c .if2 .taken
+    (h ∙ sym (r .ensures))))) in
     refused-as (d .refused2 .ensures) (parts e)
 
 format-requires : tie.Need-format-requires
@@ -31,8 +34,9 @@ format-requires c κs =
     let a = c .before .before .before .before .before .before .before .before .before .before .args in
     let r = c .before .before .before .before .before .before .before .room-len in
     let m = length (now (a .arena)) in
-    let f : Fitting rowBytes (now (a .arena)) (keptIn (now (a .room)) (a .t)) =
-    fitting rowBytes (now (a .arena)) (keptIn (now (a .room)) (a .t)) (c .before .before .before .before .before .if2 .left ∙ r .ensures)
+    let f : Fitting rowBytes (engine rowBytes) (now (a .arena)) (keptIn (now (a .room)) (a .t)) (now (a .room)) refl =
+    fitting rowBytes (engine rowBytes) (now (a .arena)) (keptIn (now (a .room)) (a .t)) (now (a .room)) refl
+    (c .before .before .before .before .before .if2 .left ∙ r .ensures)
     (λ z. c .before .before .before .before .before .before .if1 .left (r .ensures ∙ z)) in
     let t = f .lawful in
     let l : m ≤ 512 * 512 = leb→le m (512 * 512) (search (and-left, and-right)) in
@@ -44,15 +48,16 @@ returns-3 c =
     let a = c .before .before .before .before .before .before .before .before .before .before .before .before .before .args in
     let r = c .before .before .before .before .before .before .before .before .before .before .room-len in
     let f =
-    fitting rowBytes (now (a .arena)) (keptIn (now (a .room)) (a .t))
+    fitting rowBytes (engine rowBytes) (now (a .arena)) (keptIn (now (a .room)) (a .t)) (now (a .room)) refl
     (c .before .before .before .before .before .before .before .before .if2 .left ∙ r .ensures)
     (λ z. c .before .before .before .before .before .before .before .before .before .if1 .left (r .ensures ∙ z)) in
-    let e = parts (sym (set-up-made rowBytes (now (a .arena)) (keptIn (now (a .room)) (a .t)) f)) in (
+    let e = parts (sym (set-up-made rowBytes (engine rowBytes) (now (a .arena)) (keptIn (now (a .room)) (a .t)) (now (a .room)) refl f)) in (
       e .0,
       (
         c .before .before .before .before .before .before .fill-zero .ensures ∙ e .1 .0,
         (
-          c .before .before .format .ensures ∙ formatted rowBytes (now (a .arena)) (keptIn (now (a .room)) (a .t)) f ∙ e .1 .1 .0,
+          c .before .before .format .ensures ∙ formatted rowBytes (engine rowBytes) (now (a .arena)) (keptIn (now (a .room)) (a .t)) (now
+              (a .room)) refl byMasks f ∙ e .1 .1 .0,
           sym (fresh-totals rowBytes (length (now (a .arena)) / rowBytes)) ∙ e .1 .1 .1,
         ),
       ),

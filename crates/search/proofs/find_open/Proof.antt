@@ -1,15 +1,16 @@
 -- `find_open` meets its contract. The invariant: the search of the whole is that of what is left.
 use Rattle.mem.proofs.Prelude.{_∙_, sym, _+_, _<_, _≤_, _-_, arith, now, needs, length}
 use Rattle.model.specs.Tables.{rowAt, byMasks, rowRecordBytes}
-use Rattle.rows.specs.Rows.{Lent}
+use Rattle.rows.specs.Rows.{Lent, NoneOpen}
 use Rattle.rows.proofs.Rooms.{by-masks, row-inside, row-below, row-past}
-use Rattle.search.specs.Found.{Passed}
-use Rattle.search.proofs.Steps.{OpenStep, open-step, open-end}
+use Rattle.rows.proofs.Walks.{OpenStep, open-step, open-end}
+use Rattle.search.specs.Found.{opensIn}
+use Rattle.search.proofs.Steps.{span-open}
 use Rattle.search.proofs.find_open.Statement.{statement}
 use Rattle.search.proofs.find_open.Tie as tie
 
 abbrev Inv-loop : tie.InvT-loop
-Inv-loop row len room c from n i₀ i = Passed row room c i
+Inv-loop row len room c from n i₀ i = NoneOpen byMasks row room c i
 
 abbrev μ-loop : tie.MeasureT-loop
 μ-loop row len room c from n i₀ i = n - i
@@ -27,11 +28,13 @@ inside c =
     let r = room (c .before .before .before) in
     row-inside r (c .before .loop .i) (row-below r (c .before .loop .i) (c .loop-test .taken))
 
-step : (c : tie.In-loop Inv-loop μ-loop) → (let a = c .before .before .before .args in OpenStep (a .row) (now (a .room)) (a .c) (c .before .loop .i))
+step : (c : tie.In-loop Inv-loop μ-loop) → (let a = c .before .before .before .args in OpenStep byMasks (a .row) (now (a .room)) (a .c) (opensIn (a .c))
+    (c .before .loop .i))
 step c =
     let r = room (c .before .before .before) in
     let l = c .before .loop in
-    open-step r (c .before .before .before .args .c) (l .i) (l .inv) (row-below r (l .i) (c .loop-test .taken))
+    let k = c .before .before .before .args .c in
+    open-step r k (l .i) (l .inv) (opensIn k) (span-open r k) (row-below r (l .i) (c .loop-test .taken))
 
 returns : tie.Need-returns Inv-loop μ-loop
 returns c = sym (step (c .before .before) .hit (sym (c .before .opens-at .ensures) ∙ c .if1 .taken))

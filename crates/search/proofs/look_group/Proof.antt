@@ -14,8 +14,8 @@ use Rattle.model.specs.declared.Slot.the-variants.{Fresh, Idle}
 use Rattle.model.specs.State.{disp}
 use Rattle.model.specs.Tables.{rowAt, viewSlot}
 use Rattle.records.specs.Records.{has, masksIn, slotIn, slotsHere}
-use Rattle.search.specs.declared.Looked.{Looked}
-use Rattle.search.specs.declared.Looked.the-variants.{Absent}
+use Rattle.rows.specs.declared.Looked.{Looked}
+use Rattle.rows.specs.declared.Looked.the-variants.{Absent}
 use Rattle.search.specs.Found.{dispSmall, slotLooked, groupLooked}
 use Rattle.search.proofs.look_group.Statement.{statement}
 use Rattle.search.proofs.look_group.Tie as tie

@@ -3,9 +3,9 @@ use Rattle.mem.proofs.Prelude.{_∙_, _≡_, sym, ap, true, _&&_, not, eqb, _+_
 use Rattle.mem.proofs.Prelude.{eq-eqb, ne-eqb, ones}
 use Rattle.mem.proofs.Tests.{true-T, choose-true, choose-false}
 use Rattle.model.specs.Tables.{viewGroup}
-use Rattle.soundness.specs.declared.Counted.the-variants.{Sound, Unsound}
+use Rattle.rows.specs.declared.Counted.the-variants.{Sound, Unsound}
 use Rattle.soundness.specs.Checks.{membersChecked}
-use Rattle.soundness.specs.Counts.{groupTotals}
+use Rattle.rows.specs.Counts.{groupTotals}
 use Rattle.soundness.proofs.Laws.{members-law, slots-few}
 use Rattle.soundness.proofs.Counts.{members-totals}
 use Rattle.soundness.proofs.members_counted.Statement.{statement}

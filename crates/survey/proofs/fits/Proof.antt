@@ -4,7 +4,7 @@ use Rattle.mem.specs.Bytes.{zeros}
 use Rattle.model.specs.Tables.{byMasks, view}
 use Rattle.rows.specs.Rows.{Lent}
 use Rattle.rows.proofs.Rooms.{by-masks, row-count, few-rows}
-use Rattle.survey.proofs.Notes.{whole-map, zeros-front, told-front}
+use Rattle.serving.proofs.Notes.{whole-map, zeros-front, told-front}
 use Rattle.survey.proofs.fits.Statement.{statement}
 use Rattle.survey.proofs.fits.Tie as tie
 

@@ -4,12 +4,12 @@ use Rattle.mem.proofs.Laws.{zeros-length}
 use Rattle.model.specs.Tables.{byMasks}
 use Rattle.rows.specs.Rows.{Lent}
 use Rattle.rows.proofs.Rooms.{by-masks}
-use Rattle.survey.proofs.Notes.{Passed, Further, begin, ahead, further, end, whole-map}
+use Rattle.serving.proofs.Notes.{Passed, Further, begin, ahead, further, end, whole-map}
 use Rattle.survey.proofs.note.Statement.{statement}
 use Rattle.survey.proofs.note.Tie as tie
 
 abbrev Inv-loop : tie.InvT-loop
-Inv-loop row len room spare₀ map₀ n i₀ spare map i = Passed row len room i spare map
+Inv-loop row len room spare₀ map₀ n i₀ spare map i = Passed byMasks row len room i spare map
 
 abbrev μ-loop : tie.MeasureT-loop
 μ-loop row len room spare₀ map₀ n i₀ spare map i = n - i
@@ -17,7 +17,7 @@ abbrev μ-loop : tie.MeasureT-loop
 loop-holds : tie.Need-loop-holds Inv-loop μ-loop
 loop-holds c =
     let s = c .before .before .before in
-    begin (s .args .row) (s .args .len) (now (s .args .room)) (now (s .args .spare)) (now (s .args .map)) (s .pre .1 .0 .0) (s .pre .1 .0 .1)
+    begin byMasks (s .args .row) (s .args .len) (now (s .args .room)) (now (s .args .spare)) (now (s .args .map)) (s .pre .1 .0 .0) (s .pre .1 .0 .1)
 
 -- the room as its laws take it
 lent : (s : tie.Start Inv-loop μ-loop) → Lent byMasks (s .args .row) (s .args .len) (now (s .args .room))
@@ -34,7 +34,7 @@ turn : (c : tie.After-note-span Inv-loop μ-loop)
     → let l = c .before .before .before .before in
     let a = l .before .before .before .before .args in
     let x = c .note-span in
-    Further (a .row) (a .len) (now (a .room)) (l .loop .i) (x .result) (x .last .1 .1 .1 .0) (x .last .1 .1 .1 .1 .0)
+    Further byMasks (a .row) (a .len) (now (a .room)) (l .loop .i) (x .result) (x .last .1 .1 .1 .0) (x .last .1 .1 .1 .1 .0)
 turn c =
     let l = c .before .before .before .before in
     further (lent (l .before .before .before .before)) (l .loop .inv) (c .before .before .before .loop-test .taken) (c .note-span .ensures)

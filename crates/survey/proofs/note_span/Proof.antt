@@ -1,6 +1,7 @@
 -- `note_span` meets its contract.
-use Rattle.mem.proofs.Prelude.{ap, _+_, _≤_, arith, now, needs, ones}
-use Rattle.survey.proofs.Notes.{Countable, span-inside, span-place, free-next, countable, group-next}
+use Rattle.mem.proofs.Prelude.{_∙_, ap, _+_, _≤_, arith, now, needs, ones}
+use Rattle.serving.proofs.Notes.{Countable, span-inside, span-place, free-next, countable, idle-slots, group-next}
+use Rattle.survey.proofs.Idle.{masks-idle}
 use Rattle.survey.proofs.note_span.Statement.{statement}
 use Rattle.survey.proofs.note_span.Tie as tie
 
@@ -18,7 +19,7 @@ masks-at-requires c κs = span-inside (c .before .before .before .before .before
 
 -- what is known of the group
 known : (c : tie.After-wide)
-    → let a = c .before .before .before .before .before .before .before .before .args in Countable (now (a .room)) (a .i) (c .wide .result) (now (a .spare))
+    → let a = c .before .before .before .before .before .before .before .before .args in Countable (c .wide .result) (now (a .spare))
 known c =
     let b = c .before .before .before .before in
     let p = b .before .before .before .before .pre .0 in
@@ -26,7 +27,13 @@ known c =
     rw (c .wide .ensures .0) (countable (p .4) (p .5) (b .holder-at .result) (b .holder-at .ensures) (k .0 .0) (k .1))
 
 few : (c : tie.After-masks-at) → ones (c .masks-at .result .ready) + ones (c .masks-at .result .waiting) ≤ 31
-few c = rw (c .masks-at .ensures) (known (c .before) .idle)
+few c =
+    let b = c .before .before .before .before .before in
+    let p = b .before .before .before .before .pre .0 in
+    let k = c .before .before .before .h .given in
+    let h = b .holder-at in
+    rw (c .masks-at .ensures)
+    (omega (arith, masks-idle (p .4) (p .5) (h .result) (h .ensures) (k .0 .0) (k .1), idle-slots (p .4) (p .5) (h .result) (h .ensures) (k .0 .0) (k .1)))
 
 add-idle : tie.Need-add-idle
 add-idle c = omega (arith, few (c .before .before))
@@ -53,7 +60,8 @@ returns-2 c =
     let h = w .before .before .before .before .holder-at in
     let k = w .before .before .h .given in
     let e = ap (λ m. ones (m .ready) + ones (m .waiting)) (m .masks-at .ensures) in
-    λ len X s Y x n. rw (c .rows .ensures .0, w .wide .ensures .0) (group-next x n (h .result) (h .ensures) (k .0 .0) (k .1) _ e)
+    λ len X s Y x n. rw (c .rows .ensures .0, w .wide .ensures .0) (group-next x n (h .result) (h .ensures) (k .0 .0) (k .1) _
+    (e ∙ masks-idle x n (h .result) (h .ensures) (k .0 .0) (k .1)))
 
 pub note-span-spec : {M : Type 1} → statement M
 note-span-spec =

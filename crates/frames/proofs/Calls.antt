@@ -1,0 +1,251 @@
+-- The calls by what the code finds, in any lawful form of the tables: a grant by what is reserved, and the calls on a block by what is located.
+use Rattle.mem.proofs.Prelude.{_∙_, _≡_, sym, ap, refl, subst, true, Bool, false, some, none, Option, List, [], _∷_, _++_, ℕ, _<_, _≤_, arith}
+use Rattle.mem.proofs.Prelude.{le-leb, lt-leb, lt-ltb, T, eqb, leb, ltb, length, _%_}
+use Rattle.mem.specs.Lists.{any, choose}
+use Rattle.mem.specs.Bytes.{put}
+use Rattle.mem.proofs.Tests.{choose-case, choose-true, choose-false, true-T}
+use Rattle.classes.specs.Classes.{tooLarge}
+use Rattle.classes.specs.Alignments.{ordinary, codeOf, enlarged, Askable}
+use Rattle.model.specs.declared.Refusal.{Refusal}
+use Rattle.model.specs.declared.Refusal.the-variants.{TooLarge, NoSuchBlock, AlreadyFree, Stale, NoRoom, BadAlignment}
+use Rattle.model.specs.declared.Damage.{Damage}
+use Rattle.model.specs.declared.Damage.the-variants.{Intact, Damaged}
+use Rattle.model.specs.declared.Reply.{Reply}
+use Rattle.model.specs.State.{Pool, Place, isLive, count, align, useBits, startOf, poolOf}
+use Rattle.model.specs.Blocks.{damage, frame}
+use Rattle.model.specs.Answers.{done, refusal}
+use Rattle.model.specs.Plans.{Plan, Call, setsUp, grants, grantsAligned, releases, resizes, measures, reports, grantsList, refused, plan, grantAs, grantAligned}
+use Rattle.model.specs.Plans.{grantAt, reserve, enframe, lookup, onBlock, byHandle, onHandle, newSize}
+use Rattle.model.specs.Plans.{release, releaseAt, resize, resizeAt, resizeInPlace, resizeMove, moveTo, inPlace, measure, measureAt}
+use Rattle.model.specs.Calls.{Form, FormLaws, callBy, checkedBy, carriedBy, applied, damaged, keeps, unless, unsound}
+use Rattle.model.proofs.Calls.{Asks, on-live}
+use Rattle.rows.specs.declared.Block.{Block}
+use Rattle.rows.specs.Rows.{blockOf, looked, ownedAt, handleAt}
+use Rattle.frames.specs.declared.Located.{Located}
+use Rattle.frames.specs.declared.Located.the-variants.{At, Refused}
+use Rattle.frames.specs.Blocks.{codeFound, byDamage, located, CarriedOutBy}
+use Rattle.frames.proofs.Places.{new-size}
+
+module _ (row : ℕ) (F : Form) (a : List ℕ) (t : F .Room) where
+  call-checked : (c : Call) → Asks c → callBy row F a t c ≡ checkedBy row F a t c
+  unfolding callBy
+  call-checked setsUp k = absurd k
+  call-checked (grants n) k = refl
+  call-checked (grantsAligned n b) k = refl
+  call-checked (releases o) k = refl
+  call-checked (resizes o n) k = refl
+  call-checked (measures o) k = refl
+  call-checked reports k = refl
+  call-checked (grantsList total cap places sizes) k = refl
+
+  -- unsound tables
+  pub call-unsound : (c : Call) → Asks c → F .sound (length a) t ≡ false → callBy row F a t c ≡ keeps (unsound c) a t
+  unfolding checkedBy
+  call-unsound c k e = call-checked c k ∙ choose-false (F .sound (length a) t) _ _ e
+
+  -- a plan that names no block, and one that names a block that is not damaged, or is
+  pub carried-whole : (p : Plan) → damaged row a (p .checks) ≡ Intact → carriedBy row F a t p ≡ applied F a p
+  unfolding carriedBy unless
+  carried-whole p e = ap (λ d. unless d (applied F a p) (λ r. keeps (refusal r) a t)) e
+
+  pub carried-damaged : (p : Plan) (r : Refusal) → damaged row a (p .checks) ≡ Damaged r → carriedBy row F a t p ≡ keeps (refusal r) a t
+  unfolding carriedBy unless
+  carried-damaged p r e = ap (λ d. unless d (applied F a p) (λ r. keeps (refusal r) a t)) e
+
+-- what is lent passed the check
+pub record Checked (row : ℕ) (F : Form) (a : List ℕ) (t : F .Room) : Type 0 where
+  pub laws : FormLaws row F
+  pub sound : F .sound (length a) t ≡ true
+
+module _ {row : ℕ} {F : Form} {a : List ℕ} {t : F .Room} (r : Checked row F a t) where
+  pub same-room : F .encode (F .view t) ≡ t
+  same-room = sym (r .laws .only (length a) t (true-T (F .sound (length a) t) (r .sound)) .1)
+
+  pub call-sound : (c : Call) → Asks c → callBy row F a t c ≡ carriedBy row F a t (plan row (F .view t) c)
+  unfolding checkedBy
+  call-sound c k = call-checked row F a t c k ∙ choose-true (F .sound (length a) t) _ _ (r .sound)
+
+  -- a plan that refuses, carried out on sound tables, keeps every byte
+  pub kept : (x : Refusal) → carriedBy row F a t (refused x (F .view t)) ≡ keeps (refusal x) a t
+  kept x = carried-whole row F a t (refused x (F .view t)) refl ∙ ap (keeps (refusal x) a) same-room
+
+  -- and leaves what is lent
+  pub refused-out : (x : Refusal) → CarriedOutBy F a (refused x (F .view t)) (Reply.Refused x) a t
+  refused-out x = record { answer = refl; arena = refl; room = sym same-room }
+
+  -- ---- grant
+
+  module _ (k n : ℕ) where
+    -- the plan of a grant, with an alignment
+    abbrev asked : Plan
+    asked = grantAs row (F .view t) k n
+
+    abbrev found : Option Place
+    found = reserve row (F .view t) k n
+
+    pub grant-too-large : tooLarge ≤ enlarged k n → CarriedOutBy F a asked (Reply.Refused TooLarge) a t
+    unfolding grantAs
+    grant-too-large h = rw (choose-true (leb tooLarge (enlarged k n)) _ _ (le-leb tooLarge (enlarged k n) h)) (refused-out TooLarge)
+
+    module _ (small : Askable k n) where
+      granting : asked ≡ grantAt row (F .view t) found
+      unfolding grantAs
+      granting = choose-false (leb tooLarge (enlarged k n)) _ _ (lt-leb tooLarge (enlarged k n) (small .small))
+
+      pub granted-none : found ≡ none → CarriedOutBy F a asked (Reply.Refused NoRoom) a t
+      granted-none q = rw (granting, ap (grantAt row (F .view t)) q) (refused-out NoRoom)
+
+      -- what a grant of a reserved block leaves
+      pub granted-at : (q : Place) → found ≡ some q → (b : Block) → b ≡ blockOf row q → (u : F .Room) → u ≡ F .encode (poolOf q)
+          → CarriedOutBy F a asked (Reply.Done (handleAt row b)) (put (ownedAt row b) (frame (b .class) (b .slot) (b .alloc .disp) (b .alloc .size)) a) u
+      unfolding enframe
+      granted-at q f b e u eu = rw (granting, ap (grantAt row (F .view t)) f, e) (record { answer = refl; arena = refl; room = eu })
+
+  -- a plan that names no block is what the call does
+  pub record Does (c : Call) (p : Plan) : Type 0 where
+    pub plans : plan row (F .view t) c ≡ p
+    pub unnamed : p .checks ≡ none
+    pub asks : Asks c
+
+  pub called : (c : Call) (p : Plan) → Does c p → callBy row F a t c ≡ applied F a p
+  called c p d = call-sound c (d .asks) ∙ ap (carriedBy row F a t) (d .plans) ∙ carried-whole row F a t p (ap (damaged row a) (d .unnamed))
+
+  grant-unnamed : (k n : ℕ) → asked k n .checks ≡ none
+  unfolding grantAs
+  grant-unnamed k n = choose-case (λ (p : Plan). p .checks ≡ none) (leb tooLarge (enlarged k n)) _ _ (λ _. refl) (λ _. at (found k n))
+    where
+      at : (o : Option Place) → grantAt row (F .view t) o .checks ≡ none
+      at none = refl
+      at (some q) = refl
+
+  pub grant-does : (n : ℕ) → Does (grants n) (asked ordinary n)
+  unfolding plan
+  grant-does n = record { plans = refl; unnamed = grant-unnamed ordinary n; asks = tt }
+
+  -- an aligned grant: of no alignment, and of one
+  pub aligned-none : (n b : ℕ) → codeOf b ≡ 0 → Does (grantsAligned n b) (refused BadAlignment (F .view t))
+  unfolding plan grantAligned
+  aligned-none n b e = record { plans = choose-false (ltb 0 (codeOf b)) _ _ (ap (ltb 0) e); unnamed = refl; asks = tt }
+
+  pub aligned-does : (n b : ℕ) → 0 < codeOf b → Does (grantsAligned n b) (asked (codeOf b) n)
+  unfolding plan grantAligned
+  aligned-does n b h = record { plans = choose-true (ltb 0 (codeOf b)) _ _ (lt-ltb 0 (codeOf b) h); unnamed = grant-unnamed (codeOf b) n; asks = tt }
+
+  -- ---- a call on a block
+
+  module _ (h : ℕ) (k : Place → Plan) (named : (p : Place) → k p .checks ≡ some p) where
+    -- the pool, and what is done with a place that is looked up
+    abbrev P : Pool
+    P = F .view t
+
+    abbrev does : Option Place → Plan
+    does q = onBlock P (byHandle P h k) q
+
+    -- what the call does, by what is located
+    data Comes (q : Option Place) : Located → Type 0 where
+      acts : (p : Place) → q ≡ some p → T (isLive (p .state)) → carriedBy row F a t (does q) ≡ applied F a (k p) → Comes q (At (blockOf row p))
+      refuses : (x : Refusal) → carriedBy row F a t (does q) ≡ keeps (refusal x) a t → Comes q (Refused x)
+
+    comes : (q : Option Place) → Comes q (located row a h q)
+    comes none = refuses NoSuchBlock (kept NoSuchBlock)
+    comes (some p) = go (isLive (p .state)) refl
+      where
+        same-bits : Bool
+        same-bits = eqb (h % 16) (useBits (count (p .state)))
+
+        judged-by : Located
+        judged-by = byDamage row (blockOf row p) (damage row a p)
+
+        tested : T (isLive (p .state)) → carriedBy row F a t (does (some p)) ≡ carriedBy row F a t (k p) → (d : Damage) → damage row a p ≡ d
+            → Comes (some p) (byDamage row (blockOf row p) d)
+        tested l i Intact e = acts p refl l (i ∙ carried-whole row F a t (k p) (ap (damaged row a) (named p) ∙ e))
+        tested l i (Damaged x) e = refuses x (i ∙ carried-damaged row F a t (k p) x (ap (damaged row a) (named p) ∙ e))
+
+        by-bits : (v : Bool) → same-bits ≡ v → T (isLive (p .state)) → Comes (some p) (choose same-bits judged-by (Refused Stale))
+        by-bits true e l =
+            subst (Comes (some p)) (sym (choose-true same-bits _ _ e))
+            (tested l (ap (carriedBy row F a t) (on-live P (byHandle P h k) p l ∙ choose-true same-bits _ _ e)) (damage row a p) refl)
+        by-bits false e l =
+            subst (Comes (some p)) (sym (choose-false same-bits _ _ e))
+            (refuses Stale (ap (carriedBy row F a t) (on-live P (byHandle P h k) p l ∙ choose-false same-bits _ _ e) ∙ kept Stale))
+
+        go : (v : Bool) → isLive (p .state) ≡ v → Comes (some p) (located row a h (some p))
+        go true e = subst (Comes (some p)) (sym (choose-true (isLive (p .state)) _ _ e)) (by-bits same-bits refl (true-T (isLive (p .state)) e))
+        go false e =
+            subst (Comes (some p)) (sym (choose-false (isLive (p .state)) _ _ e))
+            (refuses AlreadyFree (ap (carriedBy row F a t) (choose-false (isLive (p .state)) _ _ e) ∙ kept AlreadyFree))
+
+    -- the block's place, and that the call carries out the plan for it
+    pub record Called (b : Block) : Type 0 where
+      pub place : Place
+      pub looked-up : lookup row P (startOf h) ≡ some place
+      pub block : b ≡ blockOf row place
+      pub live : T (isLive (place .state))
+      pub result : carriedBy row F a t (onHandle row P h k) ≡ applied F a (k place)
+
+    pub called-at : (b : Block) → At b ≡ located row a h (lookup row P (startOf h)) → Called b
+    unfolding onHandle
+    called-at b e = go (located row a h (lookup row P (startOf h))) (comes (lookup row P (startOf h))) (sym e)
+      where
+        go : (l : Located) → Comes (lookup row P (startOf h)) l → l ≡ At b → Called b
+        go (At c) (acts p f l d) e =
+            let g : blockOf row p ≡ b = cc in
+            record { place = p; looked-up = f; block = sym g; live = l; result = d }
+        go (Refused x) (refuses y d) e = let z : _≡_ {A = ℕ} 0 1 = cc in absurd (omega arith)
+
+    pub called-refused : (x : Refusal) → Refused x ≡ located row a h (lookup row P (startOf h))
+        → carriedBy row F a t (onHandle row P h k) ≡ keeps (refusal x) a t
+    unfolding onHandle
+    called-refused x e = go (located row a h (lookup row P (startOf h))) (comes (lookup row P (startOf h))) (sym e)
+      where
+        go : (l : Located) → Comes (lookup row P (startOf h)) l → l ≡ Refused x → carriedBy row F a t (does (lookup row P (startOf h))) ≡ keeps (refusal x) a t
+        go (At c) (acts p f l d) e = let z : _≡_ {A = ℕ} 0 1 = cc in absurd (omega arith)
+        go (Refused y) (refuses z d) e = let g : y ≡ x = cc in d ∙ ap (λ x. keeps (refusal x) a t) g
+
+  -- each call on a block, as what is done with it
+
+  pub releasing : (h : ℕ) → callBy row F a t (releases h) ≡ carriedBy row F a t (onHandle row (F .view t) h (releaseAt row))
+  unfolding plan release
+  releasing h = call-sound (releases h) tt
+
+  pub measuring : (h : ℕ) → callBy row F a t (measures h) ≡ carriedBy row F a t (onHandle row (F .view t) h (measureAt row (F .view t)))
+  unfolding plan measure
+  measuring h = call-sound (measures h) tt
+
+  -- a resize whose size is too large, by what is looked up, and another
+  module _ (h n : ℕ) where
+    -- the place at the handle's start
+    abbrev at-start : Option Place
+    at-start = lookup row (F .view t) (startOf h)
+
+    pub resize-too-large : leb tooLarge (enlarged (codeFound (looked row at-start)) n) ≡ true → callBy row F a t (resizes h n) ≡ keeps (refusal TooLarge) a t
+    unfolding plan resize
+    resize-too-large e =
+        call-sound (resizes h n) tt
+        ∙ ap (carriedBy row F a t) (choose-true (leb tooLarge (newSize at-start n)) _ _ (ap (leb tooLarge) (sym (new-size row at-start n)) ∙ e))
+        ∙ kept TooLarge
+
+    pub resizing : leb tooLarge (enlarged (codeFound (looked row at-start)) n) ≡ false
+        → callBy row F a t (resizes h n) ≡ carriedBy row F a t (onHandle row (F .view t) h (resizeAt row (F .view t) n))
+    unfolding plan resize
+    resizing e =
+        call-sound (resizes h n) tt
+        ∙ ap (carriedBy row F a t) (choose-false (leb tooLarge (newSize at-start n)) _ _ (ap (leb tooLarge) (sym (new-size row at-start n)) ∙ e))
+
+-- ---- the block that a plan names
+
+pub release-names : (row : ℕ) (p : Place) → releaseAt row p .checks ≡ some p
+unfolding releaseAt
+release-names row p = choose-case (λ (r : Plan). r .checks ≡ some p) (any isLive (p .lower ++ p .upper)) _ _ (λ e. refl) (λ e. refl)
+
+pub release-done : (row : ℕ) (p : Place) → releaseAt row p .answer ≡ done (0 ∷ [])
+unfolding releaseAt
+release-done row p = choose-case (λ (r : Plan). r .answer ≡ done (0 ∷ [])) (any isLive (p .lower ++ p .upper)) _ _ (λ e. refl) (λ e. refl)
+
+pub resize-names : (row : ℕ) (P : Pool) (n : ℕ) (p : Place) → resizeAt row P n p .checks ≡ some p
+unfolding resizeAt resizeInPlace resizeMove
+resize-names row P n p = choose-case (λ (r : Plan). r .checks ≡ some p) (inPlace p n) _ _ (λ e. refl) (λ e. moved (reserve row P (align (p .state)) n))
+  where
+    moved : (o : Option Place) → moveTo row P p n o .checks ≡ some p
+    moved none = refl
+    moved (some q) = refl

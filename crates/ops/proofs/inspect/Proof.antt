@@ -1,9 +1,0 @@
-use Rattle.mem.proofs.Prelude.{needs}
-use Rattle.ops.proofs.inspect.Statement.{statement}
-use Rattle.ops.proofs.inspect.Tie as tie
-
-returns : tie.Need-returns
-returns c = rw (← c .before .owned-of .ensures .0) (c .inspect-at .ensures)
-
-pub inspect-spec : {M : Type 1} → statement M
-inspect-spec = tie.close (tie.spec (λ c κs. search needs) (λ c κs. search needs) returns)

@@ -1,0 +1,34 @@
+-- By what is counted.
+use Rattle.mem.proofs.Prelude.{_∙_, sym, ap, now, needs, length}
+use Rattle.classes.specs.Classes.{rowBytes}
+use Rattle.model.specs.Answers.{done, listed}
+use Rattle.model.specs.Plans.{reports, totals}
+use Rattle.model.specs.Tables.{soundBy, viewBy}
+use Rattle.model.specs.Plain.{bySlots, plainForm}
+use Rattle.frames.proofs.Calls.{call-unsound}
+use Rattle.plain.proofs.Calls.{by-check, parts, reporting, counted-sound, counted-unsound}
+use Rattle.plain.proofs.report.Statement.{statement}
+use Rattle.plain.proofs.report.Tie as tie
+
+returns : tie.Need-returns
+unfolding rowBytes
+returns c =
+    let k = c .before .before .before in
+    let a = k .before .before .before .args in
+    let x = c .before .t .given in
+    let q = counted-sound (soundBy bySlots rowBytes (length (now (a .arena))) (now (a .room))) (totals rowBytes (viewBy bySlots rowBytes (now (a .room))))
+    (x .0 .0)
+    (sym (x .1) ∙ k .counted .ensures) in
+    ap (λ t. done (listed t)) (q .1) ∙ sym (reporting (by-check (now (a .arena)) (now (a .room)) (q .0)))
+
+returns-2 : tie.Need-returns-2
+unfolding rowBytes
+returns-2 c =
+    let k = c .before .before in
+    let a = k .before .before .before .args in
+    parts (sym (call-unsound rowBytes (plainForm rowBytes) (now (a .arena)) (now (a .room)) reports tt
+    (counted-unsound (soundBy bySlots rowBytes (length (now (a .arena))) (now (a .room))) (totals rowBytes (viewBy bySlots rowBytes (now (a .room))))
+    (sym (c .enum-told .given .1) ∙ k .counted .ensures)))) .0
+
+pub report-spec : {M : Type 1} → statement M
+report-spec = tie.close (tie.spec (λ c κs. search needs) (λ c. search needs) (λ c. search needs) returns returns-2)

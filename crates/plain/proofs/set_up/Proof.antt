@@ -1,0 +1,61 @@
+-- Refused by the room's size, or done: zeros, and tables with no groups.
+use Rattle.mem.proofs.Prelude.{_∙_, sym, refl, _≤_, _*_, arith, now, needs, leb→le, length}
+use Rattle.mem.proofs.Tests.{and-left, and-right}
+use Rattle.classes.specs.Classes.{rowBytes}
+use Rattle.model.specs.Tables.{arenaRight, roomBytes}
+use Rattle.model.specs.Plain.{bySlots, plainForm}
+use Rattle.fresh.proofs.SetUp.{Fitting, fitting, set-up-refused, set-up-made, formatted}
+use Rattle.plain.proofs.Calls.{parts}
+use Rattle.plain.proofs.set_up.Statement.{statement}
+use Rattle.plain.proofs.set_up.Tie as tie
+
+returns : tie.Need-returns
+returns c =
+    let a = c .before .before .before .before .args in
+    let r = c .before .room-len in
+    parts (sym (set-up-refused rowBytes (plainForm rowBytes) (now (a .arena)) (now (a .room)) (now (a .room)) refl (λ h. sym (r .ensures) ∙ c .if1 .taken)))
+
+returns-2 : tie.Need-returns-2
+returns-2 c =
+    let a = c .before .before .before .before .before .args in
+    let r = c .before .before .room-len in
+    parts (sym (set-up-refused rowBytes (plainForm rowBytes) (now (a .arena)) (now (a .room)) (now (a .room)) refl
+    (λ h. absurd (c .if2 .taken (h ∙ sym (r .ensures))))))
+
+-- the room has the size that the arena asks for
+fit : (c : tie.Else2) → (let a = c .before .before .before .before .before .args in
+    Fitting rowBytes (plainForm rowBytes) (now (a .arena)) (now (a .room)) (now (a .room)) refl)
+fit c =
+    let a = c .before .before .before .before .before .args in
+    let r = c .before .before .room-len in
+    fitting rowBytes (plainForm rowBytes) (now (a .arena)) (now (a .room)) (now (a .room)) refl (c .if2 .left ∙ r .ensures)
+    (λ z. c .before .if1 .left (r .ensures ∙ z))
+
+format-requires : tie.Need-format-requires
+unfolding rowBytes arenaRight roomBytes
+format-requires c κs =
+    let e = c .before .before .before .before .before in
+    let m = length (now (e .before .before .before .before .before .args .arena)) in
+    let f = fit e in
+    let t = f .lawful in
+    let l : m ≤ 512 * 512 = leb→le m (512 * 512) (search (and-left, and-right)) in
+    (omega (arith, f .long), omega arith)
+
+returns-3 : tie.Need-returns-3
+unfolding rowBytes
+returns-3 c =
+    let w = c .before .before in
+    let z = w .before .before .before .before in
+    let e = z .before .before in
+    let a = e .before .before .before .before .before .args in
+    let p = parts (sym (set-up-made rowBytes (plainForm rowBytes) (now (a .arena)) (now (a .room)) (now (a .room)) refl (fit e))) in (
+      p .0,
+      (
+        z .fill-zero .ensures ∙ p .1 .0,
+        w .format .ensures ∙ formatted rowBytes (plainForm rowBytes) (now (a .arena)) (now (a .room)) (now (a .room)) refl bySlots (fit e) ∙ p .1 .1,
+      ),
+    )
+
+pub set-up-spec : {M : Type 1} → statement M
+set-up-spec =
+    tie.close (tie.spec (λ c κs. search needs) returns returns-2 (λ c κs. search needs) format-requires (λ c. search needs) (λ c. search needs) returns-3)

@@ -1,0 +1,64 @@
+// Whether sizes can all be granted, one after the other, found without a change of plain tables: by the slots of each class that are
+// not live, and the rows that are free.
+ghost use mathlib.Core.Path.{_≡_};
+ghost use mathlib.Core.Bool.{true};
+ghost use mathlib.Core.List.{[], _∷_, _++_};
+ghost use Prim.Native.Nat.{ℕ, _/_};
+ghost use lib.Dec.{ltb};
+ghost use Rattle.mem.specs.Lists.{every, isSome};
+ghost use Rattle.mem.specs.Bytes.{zeros};
+ghost use Rattle.classes.specs.Classes.{Lawful, tooLarge};
+ghost use Rattle.model.specs.State.{Span, Pool, rowsIn};
+ghost use Rattle.model.specs.Plans.{reserveAll};
+ghost use Rattle.model.specs.Tables.{soundBy, viewBy};
+ghost use Rattle.model.specs.Plain.{bySlots};
+ghost use Rattle.serving.specs.Survey.{Tells};
+ghost use Rattle.serving.specs.Walk.{Next, Noted};
+use model::Holder;
+
+// Notes of one span, whose first row is row i: a free row, or a group's slots that are not live. How many rows it has.
+fn note_span(row: usize, room: &[u8], i: usize, spare: &mut [usize], map: &mut [u8]) -> usize
+    requires { ⌜ ((len : ℕ) × (X : Pool) × (s : Span) × (Y : Pool) × Next bySlots row len (now room) i X s Y
+        × Noted row (len / row) X (now spare) (now map)) ⌝ }
+    requires { ⌜ Lawful row ⌝ }
+    ensures { λ r. ⌜ ((len : ℕ) (X : Pool) (s : Span) (Y : Pool) → Next bySlots row len (now (room .entry)) i X s Y
+        → Noted row (len / row) X (now (spare .entry)) (now (map .entry))
+        → (r ≡ rowsIn row s) × Noted row (len / row) (X ++ (s ∷ [])) (now (spare .exit)) (now (map .exit))) ⌝ }
+{
+    let h = rows::holder_at(room, i);
+    let Holder::First(k) = h else {
+        map[i] = 1;
+        return 1;
+    };
+    let c = mem::wide(k);
+    spare[c] += classes::slots(c) - plain_find::live_in(room, i, c);
+    classes::rows(row, c)
+}
+
+// Notes of sound tables, in counts and a map that are zero: the slots of each class that are not live, and the free rows.
+fn note(row: usize, len: usize, room: &[u8], spare: &mut [usize], map: &mut [u8])
+    requires { ⌜ soundBy bySlots row len (now room) ≡ true ⌝ }
+    requires { ⌜ (now spare ≡ zeros 48) × (now map ≡ zeros (len / row)) ⌝ }
+    requires { ⌜ Lawful row ⌝ }
+    ensures { λ _. ⌜ Tells row (viewBy bySlots row (now (room .entry))) (now (spare .exit)) (now (map .exit)) ⌝ }
+{
+    let n = len / row;
+    let mut i = 0;
+    while i < n {
+        i += note_span(row, room, i, spare, map);
+    }
+}
+
+// Whether sizes can all be granted, one after the other.
+pub fn fits(row: usize, len: usize, room: &[u8], sizes: &[usize]) -> bool
+    requires { ⌜ soundBy bySlots row len (now room) ≡ true ⌝ }
+    requires { ⌜ every (λ n. ltb n tooLarge) (now sizes) ≡ true ⌝ }
+    requires { ⌜ Lawful row ⌝ }
+    ensures { λ r. ⌜ r ≡ isSome (reserveAll row (viewBy bySlots row (now (room .entry))) (now (sizes .entry))) ⌝ }
+{
+    let mut spare = [0usize; 48];
+    let mut map = [0u8; 512];
+    let n = len / row;
+    note(row, len, room, &mut spare, &mut map[0..n]);
+    serving::serve_all(row, sizes, &mut spare, &mut map[0..n])
+}

@@ -1,0 +1,4 @@
+pub mod MapRuns
+pub mod Serving
+pub mod Notes
+pub mod Sizes
