@@ -10,9 +10,7 @@ use Rattle.classes.proofs.Alignments.{round-near, align-least}
 use Rattle.model.specs.declared.Slot.{Slot}
 use Rattle.model.specs.State.{Pool, Place, count, disp, beginning, start}
 use Rattle.model.specs.Plans.{Call, grantsAligned, displaced, grantSlot, grantAs, grantAligned, grantAt, plan, reserve, NoPlace}
-use Rattle.model.specs.Tables.{view}
-use Rattle.model.specs.Calls.{Result, Stands, engine, soundKept, applied, call, callBy, checkedBy}
-use Rattle.model.proofs.Kept.{engine-lawful}
+use Rattle.model.specs.Calls.{Form, FormLaws, Outcome, Stands, applied, callBy, checkedBy}
 use Rattle.model.proofs.Fresh.{whole-units}
 use Rattle.model.proofs.Bounds.{rounded, grant-aligned, begins-on-unit}
 use Rattle.model.proofs.Reserve.{reserve-align}
@@ -33,11 +31,11 @@ ordinary-plan row P n b e =
     choose-true (ltb 0 (codeOf b)) _ _ (lt-ltb 0 (codeOf b) (omega (arith, e))) ∙ ap (λ k. grantAs row P k n) e
 
 -- "Alignments 1, 2, 4, 8 and 16 are an ordinary grant."
-pub aligned-ordinary : (row : ℕ) → AlignedOrdinary row
+pub aligned-ordinary : (row : ℕ) (F : Form) → AlignedOrdinary row F
 unfolding callBy checkedBy plan
-aligned-ordinary row a t n j h =
+aligned-ordinary row F a t n j h =
     let e : max 1 (j - 3) ≡ 1 = omega arith in
-    rw (ordinary-plan row (view row (t .tables)) n (2 ^ j) (power-code j (omega arith) ∙ e)) refl
+    rw (ordinary-plan row (F .view t) n (2 ^ j) (power-code j (omega arith) ∙ e)) refl
 
 -- ---- the boundary
 
@@ -85,23 +83,23 @@ module _ (row : ℕ) (q : Place) (c k n : ℕ) (old : Slot) (s : q .state ≡ gr
 -- ---- what an aligned grant refuses, and what it gives
 
 -- it is refused exactly if a reason that it tests is due
-pub aligned-exactly : (row : ℕ) → 0 < row → AlignedExactly row
-aligned-exactly row pos a t n b = (
+pub aligned-exactly : (row : ℕ) → 0 < row → (F : Form) → FormLaws row F → AlignedExactly row F
+aligned-exactly row pos F L a t n b = (
   why d,
-  λ x e. let (n₂, (n₁₃, (n₃, (n₈, _)))) = none-due (Due row a t asks) (order asks) k d e in ⊎-elim n₁₃ (⊎-elim n₃ (⊎-elim n₂ n₈)) x,
+  λ x e. let (n₂, (n₁₃, (n₃, (n₈, _)))) = none-due (Due row F a t asks) (order asks) k d e in ⊎-elim n₁₃ (⊎-elim n₃ (⊎-elim n₂ n₈)) x,
 )
   where
     asks : Call
     asks = grantsAligned n b
 
     k : ℕ
-    k = call row a t asks .answer .number
+    k = callBy row F a t asks .answer .number
 
-    d : FirstDue (Due row a t asks) (order asks) k
-    d = demand1 row pos a t asks .number
+    d : FirstDue (Due row F a t asks) (order asks) k
+    d = demand1 row pos F L a t asks .number
 
-    why : FirstDue (Due row a t asks) (order asks) k → (k ≡ 0 → ⊥)
-        → NoAlignment b ⊎ ((tooLarge ≤ n + (b - 16)) ⊎ (T (not (soundKept row (length a) t)) ⊎ NoPlace row (view row (t .tables)) (classOf (n + (b - 16)))))
+    why : FirstDue (Due row F a t asks) (order asks) k → (k ≡ 0 → ⊥)
+        → NoAlignment b ⊎ ((tooLarge ≤ n + (b - 16)) ⊎ (T (not (F .sound (length a) t)) ⊎ NoPlace row (F .view t) (classOf (n + (b - 16)))))
     why (inl (_, x)) z = inr (inr (inl x))
     why (inr (_, inl (_, x))) z = inl x
     why (inr (_, inr (_, inl (_, x)))) z = inr (inl x)
@@ -109,33 +107,33 @@ aligned-exactly row pos a t n b = (
     why (inr (_, inr (_, inr (_, inr (_, e))))) z = absurd (z e)
 
 -- an accepted one is the grant of its alignment's code, and the start is the lowest multiple
-pub aligned-as-said : (row : ℕ) → 0 < row → AlignedAsSaid row
+pub aligned-as-said : (row : ℕ) → 0 < row → (F : Form) → FormLaws row F → AlignedAsSaid row F
 unfolding plan
-aligned-as-said row pos a t n b z =
-    on-aligned row pos P (λ p. p .answer .number ≡ 0 → call row a t asks ≡ applied (engine row) a p → (q : Place) × GrantedAligned row a t n b q)
-    (λ r z. absurd (refuses r z)) n b (λ q h e _ l. (q, said q h e l)) (ap (λ (r : Result). r .answer .number) (sym (y .left)) ∙ z) (y .left)
+aligned-as-said row pos F L a t n b z =
+    on-aligned row pos P (λ p. p .answer .number ≡ 0 → callBy row F a t asks ≡ applied F a p → (q : Place) × GrantedAligned row F a t n b q)
+    (λ r z. absurd (refuses r z)) n b (λ q h e _ l. (q, said q h e l)) (ap (λ (r : Outcome (F .Room)). r .answer .number) (sym (y .left)) ∙ z) (y .left)
   where
     P : Pool
-    P = view row (t .tables)
+    P = F .view t
 
     asks : Call
     asks = grantsAligned n b
 
-    y : Accepted row pos a t asks
-    y = accepted row pos a t asks tt z
+    y : Accepted row pos F L a t asks
+    y = accepted row pos F L a t asks tt z
 
     stands : Stands row (length a) P
-    stands = engine-lawful row pos .only (length a) t (y .sound-tables) .0
+    stands = L .only (length a) t (y .sound-tables) .0
 
-    said : (q : Place) → Askable (codeOf b) n → reserve row P (codeOf b) n ≡ some q → call row a t asks ≡ applied (engine row) a (grantAt row P (some q))
-        → GrantedAligned row a t n b q
+    said : (q : Place) → Askable (codeOf b) n → reserve row P (codeOf b) n ≡ some q → callBy row F a t asks ≡ applied F a (grantAt row P (some q))
+        → GrantedAligned row F a t n b q
     said q h e l =
         let k : ℕ = codeOf b in
         let (j, _, p) = coded-power b (h .some-code) in
         let m : alignOf k ≡ max 16 b = align-code b (h .some-code) in
         let i : enlarged k n ≡ n + (b - 16) = enlarged-code b n (h .some-code) in
-        let g : GrantedBy row a t asks k n (classOf (n + (b - 16))) q =
-        subst (λ x. GrantedBy row a t asks k n (classOf x) q) i (granted-by row pos a t asks k n stands q h e l) in
+        let g : GrantedBy row F a t asks k n (classOf (n + (b - 16))) q =
+        subst (λ x. GrantedBy row F a t asks k n (classOf x) q) i (granted-by row pos F L a t asks k n stands q h e l) in
         let u : row % 16 ≡ 0 = whole-units row (length a) (stands .lawful) in
         let x : start row q % max 16 b ≡ 0 = subst (λ y. start row q % y ≡ 0) m (start-multiple row q _ k n (g .old) (g .state) u (h .some-code)) in
         record {

@@ -7,8 +7,7 @@ use Rattle.classes.proofs.Laws.{bytes-least, class-least}
 use Rattle.model.specs.declared.Slot.{Slot}
 use Rattle.model.specs.declared.Slot.the-variants.{Fresh, Idle, Live}
 use Rattle.model.specs.State.{isLive, disp, align, slotAligned, aligned, beginning}
-use Rattle.model.specs.Tables.{byMasks}
-use Rattle.model.proofs.Tables.{sound-facts}
+use Rattle.model.specs.Calls.{Form, FormLaws}
 use Rattle.model.proofs.Bounds.{here-aligned}
 use Rattle.claims.specs.AsSaid.{ServesOrdinary}
 use Rattle.claims.specs.Alignment.{OnBoundaries}
@@ -20,9 +19,9 @@ live-aligned b (Idle r k d) l t = absurd l
 live-aligned b (Live a) l t = eqb→eq ((b + 16 * a .disp) % alignOf (a .align)) 0 t
 
 -- in sound tables every live block starts on a multiple of its alignment
-pub on-boundaries : (row : ℕ) → OnBoundaries row
-on-boundaries row n t o p h l =
-    let b : T (aligned row _) = subst (λ P. T (aligned row P)) (sym (l .here .slotted .pool)) (sound-facts byMasks row n t h .bounds) in
+pub on-boundaries : (row : ℕ) (F : Form) → FormLaws row F → OnBoundaries row F
+on-boundaries row F L n t o p h l =
+    let b : T (aligned row _) = subst (λ P. T (aligned row P)) (sym (l .here .slotted .pool)) (L .only n t h .0 .bounds) in
     ap (λ s. s % alignOf (align (p .state))) (sym (l .here .starts)) ∙ live-aligned (beginning row p) (p .state) (l .live) (here-aligned row p b)
 
 -- a class in which n fits is no lower than n's, so at most one above is the same or the next one up

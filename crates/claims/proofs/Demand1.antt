@@ -22,11 +22,8 @@ use Rattle.model.specs.Proposals.{entries, accepts, plannable}
 use Rattle.model.specs.Plans.{reserveAll, grantAllAt, grantList}
 use Rattle.model.specs.Plans.{reserve, grantAt, grantAs, grantAligned, lookup, newSize, onBlock, byHandle, onHandle, releaseAt, inPlace, resizeInPlace}
 use Rattle.model.specs.Plans.{resizeMove, moveTo, resizeAt, measureAt}
-use Rattle.model.specs.Tables.{view}
 use Rattle.model.specs.Calls as calls
-use Rattle.model.specs.Calls.{KeptBytes, Stands, engine, soundKept, Result, keeps, applied, unless, carried, setUpRight, setUp, checked, call, callBy}
-use Rattle.model.specs.Calls.{carriedBy, checkedBy, setUpBy}
-use Rattle.model.proofs.Kept.{engine-lawful}
+use Rattle.model.specs.Calls.{Form, FormLaws, Stands, Outcome, keeps, applied, unless, setUpRightBy, callBy, carriedBy, checkedBy, setUpBy}
 use Rattle.model.proofs.Lookup.{fits, lookup-start, lookup-found}
 use Rattle.model.proofs.Formed.{code-kept}
 use Rattle.model.proofs.Lowest.{reserve-none, reserve-some}
@@ -102,50 +99,50 @@ module _ (row : ℕ) (pos : 0 < row) (P : Pool) (h : ℕ) where
               inr (p, l, subst (λ m. tooLarge ≤ m) (live-enlarged row pos P o p n w l) x)
           by-state false i x = inl (subst (λ m. tooLarge ≤ m) (idle-size (p .state) n i) x)
 
-module _ (row : ℕ) (pos : 0 < row) (a : List ℕ) (t : KeptBytes) where
+module _ (row : ℕ) (pos : 0 < row) (F : Form) (L : FormLaws row F) (a : List ℕ) (t : F .Room) where
   -- what is claimed of a call, of the reasons that are left to test and a result
-  record Right (c : Call) (rs : List Refusal) (r : Result) : Type 0 where
-    number : FirstDue (Due row a t c) rs (r .answer .number)
+  record Right (c : Call) (rs : List Refusal) (r : Outcome (F .Room)) : Type 0 where
+    number : FirstDue (Due row F a t c) rs (r .answer .number)
     refused : (r .answer .number ≡ 0 → ⊥)
         → (r .arena ≡ a) × (r .room ≡ t) × (r .answer .values ≡ refusedValues c) × (r .answer .lent ≡ [])
 
   abbrev P : Pool
-  P = view row (t .tables)
+  P = F .view t
 
-  -- tables and record are the form of a state that stands
+  -- what is lent is the form of a state that stands
   abbrev Sound : Type 0
-  Sound = Stands row (length a) P × (t ≡ engine row .encode P)
+  Sound = Stands row (length a) P × (t ≡ F .encode P)
 
   module _ (c : Call) where
     -- no reason is left
-    done-right : (r : Result) → r .answer .number ≡ 0 → Right c [] r
+    done-right : (r : Outcome (F .Room)) → r .answer .number ≡ 0 → Right c [] r
     done-right r e = record { number = e; refused = λ n. absurd (n e) }
 
     -- a reason that is not due is passed by
-    later-right : (d : Refusal) (rs : List Refusal) (r : Result) → (Due row a t c d → ⊥) → Right c rs r → Right c (d ∷ rs) r
+    later-right : (d : Refusal) (rs : List Refusal) (r : Outcome (F .Room)) → (Due row F a t c d → ⊥) → Right c rs r → Right c (d ∷ rs) r
     later-right d rs r n s = record { number = inr (n, s .number); refused = s .refused }
 
     -- one that is due is given
-    due-right : (d : Refusal) (rs : List Refusal) {vs : List ℕ} {u : KeptBytes} → vs ≡ refusedValues c → u ≡ t → Due row a t c d
+    due-right : (d : Refusal) (rs : List Refusal) {vs : List ℕ} {u : F .Room} → vs ≡ refusedValues c → u ≡ t → Due row F a t c d
         → Right c (d ∷ rs) (keeps (record { number = numberOf d; values = vs; lent = [] }) a u)
     due-right d rs v e x = record { number = inl (refl, x); refused = λ n. (refl, e, v, refl) }
 
   -- a call on tables that must be sound
   checked-right : (c : Call) (rs : List Refusal) → calls.unsound c ≡ record { number = numberOf Unsound; values = refusedValues c; lent = [] }
-      → (Sound → Right c rs (carried row a t (plan row P c))) → Right c (Unsound ∷ rs) (checked row a t c)
+      → (Sound → Right c rs (carriedBy row F a t (plan row P c))) → Right c (Unsound ∷ rs) (checkedBy row F a t c)
   unfolding checkedBy
   checked-right c rs u f =
-      choose-case (Right c (Unsound ∷ rs)) (soundKept row (length a) t) (carried row a t (plan row P c)) (keeps (calls.unsound c) a t)
+      choose-case (Right c (Unsound ∷ rs)) (F .sound (length a) t) (carriedBy row F a t (plan row P c)) (keeps (calls.unsound c) a t)
       (λ e.
-      let s : T (soundKept row (length a) t) = true-T (soundKept row (length a) t) e in
-      later-right c Unsound rs _ (λ d. T-not (soundKept row (length a) t) d s) (f (engine-lawful row pos .only (length a) t s)))
+      let s : T (F .sound (length a) t) = true-T (F .sound (length a) t) e in
+      later-right c Unsound rs _ (λ d. T-not (F .sound (length a) t) d s) (f (L .only (length a) t s)))
       (λ e. subst (λ r. Right c (Unsound ∷ rs) (keeps r a t)) (sym u) (due-right c Unsound rs refl refl (rw e tt)))
 
-  set-up-right : Right setsUp (BadArena ∷ []) (setUp row a t)
+  set-up-right : Right setsUp (BadArena ∷ []) (setUpBy row F a t)
   unfolding setUpBy
   set-up-right =
-      choose-case (Right setsUp (BadArena ∷ [])) (setUpRight row a t) _ (keeps (refusal BadArena) a t)
-      (λ e. later-right setsUp BadArena [] _ (λ d. T-not (setUpRight row a t) d (true-T (setUpRight row a t) e)) (done-right setsUp _ refl))
+      choose-case (Right setsUp (BadArena ∷ [])) (setUpRightBy row F a t) _ (keeps (refusal BadArena) a t)
+      (λ e. later-right setsUp BadArena [] _ (λ d. T-not (setUpRightBy row F a t) d (true-T (setUpRightBy row F a t) e)) (done-right setsUp _ refl))
       (λ e. due-right setsUp BadArena [] refl refl (rw e tt))
 
   -- a call on sound tables that gives one value
@@ -157,31 +154,31 @@ module _ (row : ℕ) (pos : 0 < row) (a : List ℕ) (t : KeptBytes) where
     abbrev o : ℕ
     o = startOf h
 
-    refused-right : (d : Refusal) (rs : List Refusal) → Due row a t c d → Right c (d ∷ rs) (carried row a t (refused d P))
+    refused-right : (d : Refusal) (rs : List Refusal) → Due row F a t c d → Right c (d ∷ rs) (carriedBy row F a t (refused d P))
     unfolding carriedBy unless
     refused-right d rs x = due-right c d rs (sym v) (sym (s .1)) x
 
     -- the size is tested first
-    small-right : (rs : List Refusal) (p : Plan) (m : ℕ) → (tooLarge ≤ m) ↔ Due row a t c TooLarge → Right c rs (carried row a t p)
-        → Right c (TooLarge ∷ rs) (carried row a t (choose (leb tooLarge m) (refused TooLarge P) p))
+    small-right : (rs : List Refusal) (p : Plan) (m : ℕ) → (tooLarge ≤ m) ↔ Due row F a t c TooLarge → Right c rs (carriedBy row F a t p)
+        → Right c (TooLarge ∷ rs) (carriedBy row F a t (choose (leb tooLarge m) (refused TooLarge P) p))
     small-right rs p m due r =
-        choose-case (λ p. Right c (TooLarge ∷ rs) (carried row a t p)) (leb tooLarge m) (refused TooLarge P) p
+        choose-case (λ p. Right c (TooLarge ∷ rs) (carriedBy row F a t p)) (leb tooLarge m) (refused TooLarge P) p
         (λ e. refused-right TooLarge rs (due .0 (leb-true tooLarge m e)))
         (λ e. later-right c TooLarge rs _ (λ d. omega (arith, due .1 d, leb-false tooLarge m e)) r)
 
     -- a grant with the code k
-    granted-right : (k n : ℕ) → (tooLarge ≤ enlarged k n) ↔ Due row a t c TooLarge → NoPlace row P (classOf (enlarged k n)) ↔ Due row a t c NoRoom
-        → Right c (TooLarge ∷ NoRoom ∷ []) (carried row a t (grantAs row P k n))
+    granted-right : (k n : ℕ) → (tooLarge ≤ enlarged k n) ↔ Due row F a t c TooLarge → NoPlace row P (classOf (enlarged k n)) ↔ Due row F a t c NoRoom
+        → Right c (TooLarge ∷ NoRoom ∷ []) (carriedBy row F a t (grantAs row P k n))
     unfolding grantAs carriedBy unless
     granted-right k n large full = small-right (NoRoom ∷ []) _ (enlarged k n) large (room (reserve row P k n) refl)
       where
-        room : (r : Option Place) → reserve row P k n ≡ r → Right c (NoRoom ∷ []) (carried row a t (grantAt row P r))
+        room : (r : Option Place) → reserve row P k n ≡ r → Right c (NoRoom ∷ []) (carriedBy row F a t (grantAt row P r))
         room none e = refused-right NoRoom [] (full .0 (reserve-none row pos P k n e))
         room (some q) e = later-right c NoRoom [] _ (λ d. reserve-some row P k n q e (full .1 d)) (done-right c _ refl)
 
     -- then a live block's header and guard
     intact-right : (rs : List Refusal) (p : Place) (f : Plan) → f .checks ≡ some p → LiveAt row P o p
-        → Right c rs (applied (engine row) a f) → Right c (HeaderDamaged ∷ Overrun ∷ rs) (carried row a t f)
+        → Right c rs (applied F a f) → Right c (HeaderDamaged ∷ Overrun ∷ rs) (carriedBy row F a t f)
     unfolding carriedBy unless damageIn
     intact-right rs p f k l r =
         rw k
@@ -193,17 +190,17 @@ module _ (row : ℕ) (pos : 0 < row) (a : List ℕ) (t : KeptBytes) where
         (λ e. due-right c HeaderDamaged (Overrun ∷ rs) (sym v) refl (p, l, rw e tt)))
       where
         M : List Refusal → Damage → Type 0
-        M rs d = Right c rs (unless d (applied (engine row) a f) (λ r. keeps (refusal r) a t))
+        M rs d = Right c rs (unless d (applied F a f) (λ r. keeps (refusal r) a t))
 
         alike : (M : Place → Bool) (q : Place) → LiveAt row P o q → M p ≡ true → T (M q)
         alike M q m e = starts-alike row pos P o M p q (s .0 .formed) (l .here) (m .here) (true-T (M p) e)
 
     -- and before them the bits of the handle
     present-right : (rs : List Refusal) (p : Place) (f : Place → Plan) → f p .checks ≡ some p → LiveAt row P o p
-        → Right c rs (applied (engine row) a (f p)) → Right c (Stale ∷ HeaderDamaged ∷ Overrun ∷ rs) (carried row a t (byHandle P h f p))
+        → Right c rs (applied F a (f p)) → Right c (Stale ∷ HeaderDamaged ∷ Overrun ∷ rs) (carriedBy row F a t (byHandle P h f p))
     present-right rs p f k l r =
         let bits : (handle row p ≡ h) ↔ (h % 16 ≡ useBits (count (p .state))) = by-bits row p h (l .here .starts) in
-        choose-case (λ z. Right c (Stale ∷ HeaderDamaged ∷ Overrun ∷ rs) (carried row a t z)) (eqb (h % 16) (useBits (count (p .state)))) (f p)
+        choose-case (λ z. Right c (Stale ∷ HeaderDamaged ∷ Overrun ∷ rs) (carriedBy row F a t z)) (eqb (h % 16) (useBits (count (p .state)))) (f p)
         (refused Stale P)
         (λ e. later-right c Stale (HeaderDamaged ∷ Overrun ∷ rs) _
         (λ (q, m, d). d (subst (λ x. handle row x ≡ h) (starts-same row pos P o p q (s .0 .formed) (l .here) (m .here)) (bits .1 (eqb-true _ _ e))))
@@ -212,17 +209,17 @@ module _ (row : ℕ) (pos : 0 < row) (a : List ℕ) (t : KeptBytes) where
 
     -- what is done with the block of a handle
     block-right : (rs : List Refusal) (f : Place → Plan)
-        → ((p : Place) → (f p .checks ≡ some p) × (LiveAt row P o p → Right c rs (applied (engine row) a (f p))))
-        → Right c (blockFirst rs) (carried row a t (onHandle row P h f))
+        → ((p : Place) → (f p .checks ≡ some p) × (LiveAt row P o p → Right c rs (applied F a (f p))))
+        → Right c (blockFirst rs) (carriedBy row F a t (onHandle row P h f))
     unfolding onHandle
     block-right rs f k = found (lookup row P o) refl
       where
-        found : (r : Option Place) → lookup row P o ≡ r → Right c (blockFirst rs) (carried row a t (onBlock P (byHandle P h f) r))
+        found : (r : Option Place) → lookup row P o ≡ r → Right c (blockFirst rs) (carriedBy row F a t (onBlock P (byHandle P h f) r))
         found none e = refused-right NoSuchBlock _ (λ p h. none-starts row pos P o p (s .0 .formed) e h)
         found (some p) e =
             let i : StartsAt row P o p = found-starts row pos P o p e in
             later-right c NoSuchBlock (AlreadyFree ∷ Stale ∷ HeaderDamaged ∷ Overrun ∷ rs) _ (λ d. d p i)
-            (choose-case (λ z. Right c (AlreadyFree ∷ Stale ∷ HeaderDamaged ∷ Overrun ∷ rs) (carried row a t z)) (isLive (p .state)) (byHandle P h f p)
+            (choose-case (λ z. Right c (AlreadyFree ∷ Stale ∷ HeaderDamaged ∷ Overrun ∷ rs) (carriedBy row F a t z)) (isLive (p .state)) (byHandle P h f p)
             (refused AlreadyFree P)
             (λ e.
             let l : T (isLive (p .state)) = true-T (isLive (p .state)) e in
@@ -233,15 +230,15 @@ module _ (row : ℕ) (pos : 0 < row) (a : List ℕ) (t : KeptBytes) where
             (λ e. refused-right AlreadyFree (Stale ∷ HeaderDamaged ∷ Overrun ∷ rs) (p, i, rw e tt)))
 
   module _ (s : Sound) where
-    grants-right : (n : ℕ) → Right (grants n) (TooLarge ∷ NoRoom ∷ []) (carried row a t (plan row P (grants n)))
+    grants-right : (n : ℕ) → Right (grants n) (TooLarge ∷ NoRoom ∷ []) (carriedBy row F a t (plan row P (grants n)))
     unfolding plan
     grants-right n = granted-right s (grants n) refl ordinary n ((λ h. h), λ h. h) ((λ h. h), λ h. h)
 
     -- an aligned grant is one of the alignment's code, if it has one
-    aligned-right : (n b : ℕ) → (let c = grantsAligned n b in Right c (BadAlignment ∷ TooLarge ∷ NoRoom ∷ []) (carried row a t (plan row P c)))
+    aligned-right : (n b : ℕ) → (let c = grantsAligned n b in Right c (BadAlignment ∷ TooLarge ∷ NoRoom ∷ []) (carriedBy row F a t (plan row P c)))
     unfolding plan grantAligned
     aligned-right n b =
-        choose-case (λ p. Right c (BadAlignment ∷ TooLarge ∷ NoRoom ∷ []) (carried row a t p)) (ltb 0 (codeOf b)) (grantAs row P (codeOf b) n)
+        choose-case (λ p. Right c (BadAlignment ∷ TooLarge ∷ NoRoom ∷ []) (carriedBy row F a t p)) (ltb 0 (codeOf b)) (grantAs row P (codeOf b) n)
         (refused BadAlignment P)
         (λ e.
         let h : 0 < codeOf b = ltb-true 0 (codeOf b) e in
@@ -256,7 +253,7 @@ module _ (row : ℕ) (pos : 0 < row) (a : List ℕ) (t : KeptBytes) where
         sized : 0 < codeOf b → (M : ℕ → Type 0) → M (enlarged (codeOf b) n) ↔ M (n + (b - 16))
         sized h M = (subst M (enlarged-code b n h), subst M (sym (enlarged-code b n h)))
 
-    resizes-right : (h n : ℕ) → Right (resizes h n) (TooLarge ∷ blockFirst (NoRoom ∷ [])) (carried row a t (plan row P (resizes h n)))
+    resizes-right : (h n : ℕ) → Right (resizes h n) (TooLarge ∷ blockFirst (NoRoom ∷ [])) (carriedBy row F a t (plan row P (resizes h n)))
     unfolding plan
     resizes-right h n =
         small-right s c refl (blockFirst (NoRoom ∷ [])) _ (newSize (lookup row P o) n) (resize-large row pos P h n (s .0 .formed))
@@ -272,7 +269,7 @@ module _ (row : ℕ) (pos : 0 < row) (a : List ℕ) (t : KeptBytes) where
         o = startOf h
 
         M : Place → Plan → Type 0
-        M p z = (z .checks ≡ some p) × (LiveAt row P o p → Right c (NoRoom ∷ []) (applied (engine row) a z))
+        M p z = (z .checks ≡ some p) × (LiveAt row P o p → Right c (NoRoom ∷ []) (applied F a z))
 
         -- the block at the start is but one
         fitting : (p q : Place) → inPlace p n ≡ true → LiveAt row P o p → LiveAt row P o q → T (inPlace q n)
@@ -299,7 +296,7 @@ module _ (row : ℕ) (pos : 0 < row) (a : List ℕ) (t : KeptBytes) where
         )
 
     lists-right : (total cap places : ℕ) (ns : List ℕ) → (let c = grantsList total cap places ns in
-        Right c (TooLong ∷ BadProposal ∷ NoRoom ∷ []) (carried row a t (plan row P c)))
+        Right c (TooLong ∷ BadProposal ∷ NoRoom ∷ []) (carriedBy row F a t (plan row P c)))
     unfolding plan grantList carriedBy unless
     lists-right total cap places ns =
         choose-case (M (TooLong ∷ BadProposal ∷ NoRoom ∷ [])) (plannable total cap && leb entries places) _ (refused TooLong P)
@@ -314,13 +311,13 @@ module _ (row : ℕ) (pos : 0 < row) (a : List ℕ) (t : KeptBytes) where
         c = grantsList total cap places ns
 
         M : List Refusal → Plan → Type 0
-        M rs p = Right c rs (carried row a t p)
+        M rs p = Right c rs (carriedBy row F a t p)
 
         room : (o : Option (List Place)) → reserveAll row P ns ≡ o → M (NoRoom ∷ []) (grantAllAt row P o)
         room none e = refused-right s c refl NoRoom [] (meets row pos P ns e)
         room (some qs) e = later-right c NoRoom [] _ (meets-none row P ns qs e) (done-right c _ refl)
 
-  call-right : (c : Call) → Right c (order c) (call row a t c)
+  call-right : (c : Call) → Right c (order c) (callBy row F a t c)
   unfolding callBy plan carriedBy unless
   call-right setsUp = set-up-right
   call-right (grants n) = checked-right (grants n) _ refl (λ s. grants-right s n)
@@ -336,6 +333,6 @@ module _ (row : ℕ) (pos : 0 < row) (a : List ℕ) (t : KeptBytes) where
   call-right reports = checked-right reports [] refl (λ s. done-right reports _ refl)
   call-right (grantsList total cap places ns) = checked-right (grantsList total cap places ns) _ refl (λ s. lists-right s total cap places ns)
 
-pub demand1 : (row : ℕ) → 0 < row → Demand1 row
-demand1 row pos a t c =
-    let r : Right row pos a t c (order c) (call row a t c) = call-right row pos a t c in record { number = r .number; refused = r .refused }
+pub demand1 : (row : ℕ) → 0 < row → (F : Form) → FormLaws row F → Demand1 row F
+demand1 row pos F L a t c =
+    let r : Right row pos F L a t c (order c) (callBy row F a t c) = call-right row pos F L a t c in record { number = r .number; refused = r .refused }

@@ -20,11 +20,7 @@ use Rattle.model.specs.Answers.{refusal}
 use Rattle.model.specs.Plans.{Plan, Site, freshPool, AllLive, NoPlace, plan, reserve, grantSlot, enframe}
 use Rattle.model.specs.Plans.{Call, setsUp, grants, grantsAligned, releases, resizes, measures, reports, grantsList}
 use Rattle.model.specs.Plans.{grantAt, grantIn, lookup}
-use Rattle.model.specs.Tables.{byMasks, view}
-use Rattle.model.specs.Calls.{KeptBytes, Result, Stands, FormLaws, engine, soundKept, applied, keeps, damaged, setUpRight, call, callBy}
-use Rattle.model.specs.Calls.{carriedBy, checkedBy, unless}
-use Rattle.model.proofs.Tables.{sound-facts}
-use Rattle.model.proofs.Kept.{engine-lawful}
+use Rattle.model.specs.Calls.{Form, FormLaws, Outcome, Stands, applied, keeps, damaged, setUpRightBy, callBy, carriedBy, checkedBy, unless}
 use Rattle.model.proofs.Fresh.{whole-units, set-up-done, set-up-sound}
 use Rattle.model.proofs.Forms.{step, call-step, Standing, step-stands}
 use Rattle.model.proofs.Calls.{Asks, call-sound}
@@ -61,84 +57,83 @@ module _ (D : Refusal → Type 0) where
 
 -- ---- accepted calls
 
-module _ (row : ℕ) (pos : 0 < row) (a : List ℕ) (t : KeptBytes) where
+module _ (row : ℕ) (pos : 0 < row) (F : Form) (L : FormLaws row F) (a : List ℕ) (t : F .Room) where
   -- an accepted call but set up: its plan is carried out on sound tables
   pub record Accepted (c : Call) : Type 0 where
-    pub sound-tables : T (soundKept row (length a) t)
-    pub left : call row a t c ≡ applied (engine row) a (plan row (view row (t .tables)) c)
+    pub sound-tables : T (F .sound (length a) t)
+    pub left : callBy row F a t c ≡ applied F a (plan row (F .view t) c)
 
-  pub accepted : (c : Call) → Asks c → call row a t c .answer .number ≡ 0 → Accepted c
+  pub accepted : (c : Call) → Asks c → callBy row F a t c .answer .number ≡ 0 → Accepted c
   unfolding carriedBy unless
   accepted c k z =
-      let s : T (soundKept row (length a) t) = asked-sound c k (none-due (Due row a t c) (order c) _ (demand1 row pos a t c .number) z) in
-      record { sound-tables = s; left = intact (damaged row a (p .checks)) (call-sound row a t (T-true (soundKept row (length a) t) s) c k) }
+      let s : T (F .sound (length a) t) = asked-sound c k (none-due (Due row F a t c) (order c) _ (demand1 row pos F L a t c .number) z) in
+      record { sound-tables = s; left = intact (damaged row a (p .checks)) (call-sound row F a t (T-true (F .sound (length a) t) s) c k) }
     where
       p : Plan
-      p = plan row (view row (t .tables)) c
+      p = plan row (F .view t) c
 
-      asked-sound : (c : Call) → Asks c → All (λ r. Due row a t c r → ⊥) (order c) → T (soundKept row (length a) t)
+      asked-sound : (c : Call) → Asks c → All (λ r. Due row F a t c r → ⊥) (order c) → T (F .sound (length a) t)
       asked-sound setsUp k n = absurd k
-      asked-sound (grants m) k n = unrefuted (soundKept row (length a) t) (n .0)
-      asked-sound (grantsAligned m b) k n = unrefuted (soundKept row (length a) t) (n .0)
-      asked-sound (releases h) k n = unrefuted (soundKept row (length a) t) (n .0)
-      asked-sound (resizes h m) k n = unrefuted (soundKept row (length a) t) (n .0)
-      asked-sound (measures h) k n = unrefuted (soundKept row (length a) t) (n .0)
-      asked-sound reports k n = unrefuted (soundKept row (length a) t) (n .0)
-      asked-sound (grantsList total cap places ns) k n = unrefuted (soundKept row (length a) t) (n .0)
+      asked-sound (grants m) k n = unrefuted (F .sound (length a) t) (n .0)
+      asked-sound (grantsAligned m b) k n = unrefuted (F .sound (length a) t) (n .0)
+      asked-sound (releases h) k n = unrefuted (F .sound (length a) t) (n .0)
+      asked-sound (resizes h m) k n = unrefuted (F .sound (length a) t) (n .0)
+      asked-sound (measures h) k n = unrefuted (F .sound (length a) t) (n .0)
+      asked-sound reports k n = unrefuted (F .sound (length a) t) (n .0)
+      asked-sound (grantsList total cap places ns) k n = unrefuted (F .sound (length a) t) (n .0)
 
-      intact : (d : Damage) → call row a t c ≡ unless d (applied (engine row) a p) (λ r. keeps (refusal r) a t) → call row a t c ≡ applied (engine row) a p
+      intact : (d : Damage) → callBy row F a t c ≡ unless d (applied F a p) (λ r. keeps (refusal r) a t) → callBy row F a t c ≡ applied F a p
       intact Intact e = e
       intact (Damaged r) e = absurd (refuses r (ap (λ r. r .answer .number) (sym e) ∙ z))
 
-  pub set-up-accepted : call row a t setsUp .answer .number ≡ 0 → T (setUpRight row a t)
-  set-up-accepted z = unrefuted (setUpRight row a t) (none-due (Due row a t setsUp) (order setsUp) _ (demand1 row pos a t setsUp .number) z .0)
+  pub set-up-accepted : callBy row F a t setsUp .answer .number ≡ 0 → T (setUpRightBy row F a t)
+  set-up-accepted z = unrefuted (setUpRightBy row F a t) (none-due (Due row F a t setsUp) (order setsUp) _ (demand1 row pos F L a t setsUp .number) z .0)
 
   -- its tables are sound for the arena that it was given, and it leaves one of the same length
-  pub record Leaves (r : Result) : Type 0 where
-    pub tables : T (soundKept row (length a) (r .room))
+  pub record Leaves (r : Outcome (F .Room)) : Type 0 where
+    pub tables : T (F .sound (length a) (r .room))
     pub long : length (r .arena) ≡ length a
 
   -- on sound tables, whether it is accepted or not
-  pub sound-leaves : T (soundKept row (length a) t) → (c : Call) → Leaves (call row a t c)
+  pub sound-leaves : T (F .sound (length a) t) → (c : Call) → Leaves (callBy row F a t c)
   sound-leaves h c =
-      let L : FormLaws row (engine row) = engine-lawful row pos in
-      let P : Pool = view row (t .tables) in
+      let P : Pool = F .view t in
       let (s, e) = L .only (length a) t h in
       let k : Standing row pos (length a) a refl P s (step row a P c) = step-stands row pos (length a) a refl P s c in
-      subst Leaves (sym (ap (λ u. call row a u c) e ∙ call-step row (engine row) L a P s c))
+      subst Leaves (sym (ap (λ u. callBy row F a u c) e ∙ call-step row F L a P s c))
       (record { tables = L .right (length a) (step row a P c .room) (k .stands); long = k .long })
 
-  leaves : (c : Call) → call row a t c .answer .number ≡ 0 → Leaves (call row a t c)
+  leaves : (c : Call) → callBy row F a t c .answer .number ≡ 0 → Leaves (callBy row F a t c)
   unfolding callBy
   leaves =
-      by-call (λ c. call row a t c .answer .number ≡ 0 → Leaves (call row a t c))
+      by-call (λ c. callBy row F a t c .answer .number ≡ 0 → Leaves (callBy row F a t c))
       (λ z.
-      let h : T (setUpRight row a t) = set-up-accepted z in
-      subst Leaves (sym (set-up-done row a t h)) (record { tables = set-up-sound row a t h pos; long = zeros-length (length a) }))
+      let h : T (setUpRightBy row F a t) = set-up-accepted z in
+      subst Leaves (sym (set-up-done row F a t h)) (record { tables = set-up-sound row F a t h L; long = zeros-length (length a) }))
       (λ c k z. sound-leaves (accepted c k z .sound-tables) c)
 
-pub leaves-sound : (row : ℕ) → 0 < row → LeavesSound row
-leaves-sound row pos a t c z =
-    let l : Leaves row pos a t (call row a t c) = leaves row pos a t c z in
-    subst (λ n. T (soundKept row n (call row a t c .room))) (sym (l .long)) (l .tables)
+pub leaves-sound : (row : ℕ) → 0 < row → (F : Form) → FormLaws row F → LeavesSound row F
+leaves-sound row pos F L a t c z =
+    let l : Leaves row pos F L a t (callBy row F a t c) = leaves row pos F L a t c z in
+    subst (λ n. T (F .sound n (callBy row F a t c .room))) (sym (l .long)) (l .tables)
 
 -- ---- the blocks that release and measure accept
 
-module _ (row : ℕ) (pos : 0 < row) (a : List ℕ) (t : KeptBytes) (s : T (soundKept row (length a) t)) where
+module _ (row : ℕ) (pos : 0 < row) (F : Form) (L : FormLaws row F) (a : List ℕ) (t : F .Room) (s : T (F .sound (length a) t)) where
   abbrev P : Pool
-  P = view row (t .tables)
+  P = F .view t
 
   w : T (wellFormed P)
-  w = engine-lawful row pos .only (length a) t s .0 .formed
+  w = L .only (length a) t s .0 .formed
 
   -- where no reason of the block of a handle is due, it is live and intact, and the handle is its present one
-  pub found-intact : (c : Call) (rs : List Refusal) → All (λ r. Due row a t c r → ⊥) (blockFirst rs) → (p : Place) × demand2.Intact row a P (handleIn c) p
+  pub found-intact : (c : Call) (rs : List Refusal) → All (λ r. Due row F a t c r → ⊥) (blockFirst rs) → (p : Place) × demand2.Intact row a P (handleIn c) p
   found-intact c rs n = whole (lookup row P o) refl n
     where
       o : ℕ
       o = startOf (handleIn c)
 
-      whole : (r : Option Place) → lookup row P o ≡ r → All (λ r. Due row a t c r → ⊥) (blockFirst rs) → (p : Place) × demand2.Intact row a P (handleIn c) p
+      whole : (r : Option Place) → lookup row P o ≡ r → All (λ r. Due row F a t c r → ⊥) (blockFirst rs) → (p : Place) × demand2.Intact row a P (handleIn c) p
       whole none e (n₄, _) = absurd (n₄ (λ p h. none-starts row pos P o p w e h))
       whole (some p) e (_, (n₅, (n₁₀, (n₆, (n₇, _))))) =
           let h : StartsAt row P o p = found-starts row pos P o p e in
@@ -154,35 +149,35 @@ module _ (row : ℕ) (pos : 0 < row) (a : List ℕ) (t : KeptBytes) (s : T (soun
           )
 
   -- the number of a call on the block of a handle is 0 exactly if it is the present one of a live, intact block
-  exactly : (c : Call) (k : ℕ) → FirstDue (Due row a t c) (Unsound ∷ blockFirst []) k → (k ≡ 0) ↔ ((p : Place) × demand2.Intact row a P (handleIn c) p)
+  exactly : (c : Call) (k : ℕ) → FirstDue (Due row F a t c) (Unsound ∷ blockFirst []) k → (k ≡ 0) ↔ ((p : Place) × demand2.Intact row a P (handleIn c) p)
   exactly c k d = (
-    λ z. found-intact c [] (none-due (Due row a t c) (Unsound ∷ blockFirst []) k d z .1),
-    λ (p, i). due-none (Due row a t c) (Unsound ∷ blockFirst []) k d (fine p i),
+    λ z. found-intact c [] (none-due (Due row F a t c) (Unsound ∷ blockFirst []) k d z .1),
+    λ (p, i). due-none (Due row F a t c) (Unsound ∷ blockFirst []) k d (fine p i),
   )
     where
       o : ℕ
       o = startOf (handleIn c)
 
       Fine : Type 0
-      Fine = All (λ r. Due row a t c r → ⊥) (Unsound ∷ blockFirst [])
+      Fine = All (λ r. Due row F a t c r → ⊥) (Unsound ∷ blockFirst [])
 
       fine : (p : Place) → demand2.Intact row a P (handleIn c) p → Fine
       fine p i =
           let alike : (M : Place → Bool) (q : Place) → StartsAt row P o q → T (M p) → T (M q) = λ M q h. starts-alike row pos P o M p q w (i .live .here) h in
-          let n₂ : Due row a t c Unsound → ⊥ = λ d. T-not (soundKept row (length a) t) d s in
-          let n₅ : Due row a t c AlreadyFree → ⊥ = λ (q, h, d). T-not (isLive (q .state)) d (alike (λ z. isLive (z .state)) q h (i .live .live)) in
-          let n₁₀ : Due row a t c Stale → ⊥ =
+          let n₂ : Due row F a t c Unsound → ⊥ = λ d. T-not (F .sound (length a) t) d s in
+          let n₅ : Due row F a t c AlreadyFree → ⊥ = λ (q, h, d). T-not (isLive (q .state)) d (alike (λ z. isLive (z .state)) q h (i .live .live)) in
+          let n₁₀ : Due row F a t c Stale → ⊥ =
           λ (q, l, d). d (subst (λ z. handle row z ≡ handleIn c) (starts-same row pos P o p q w (i .live .here) (l .here)) (i .present)) in
-          let n₆ : Due row a t c HeaderDamaged → ⊥ = λ (q, l, d). T-not (headerDue row a q) d (alike (headerDue row a) q (l .here) (i .header)) in
-          let n₇ : Due row a t c Overrun → ⊥ = λ (q, l, _, d). T-not (guardDue row a q) d (alike (guardDue row a) q (l .here) (i .guard)) in
+          let n₆ : Due row F a t c HeaderDamaged → ⊥ = λ (q, l, d). T-not (headerDue row a q) d (alike (headerDue row a) q (l .here) (i .header)) in
+          let n₇ : Due row F a t c Overrun → ⊥ = λ (q, l, _, d). T-not (guardDue row a q) d (alike (guardDue row a) q (l .here) (i .guard)) in
           (n₂, (λ d. d p (i .live .here), (n₅, (n₁₀, (n₆, (n₇, tt))))))
 
   -- the size of an intact block
-  measured : (h : ℕ) (p : Place) → demand2.Intact row a P h p → call row a t (measures h) .answer .values ≡ size (p .state) ∷ []
+  measured : (h : ℕ) (p : Place) → demand2.Intact row a P h p → callBy row F a t (measures h) .answer .values ≡ size (p .state) ∷ []
   unfolding callBy checkedBy carriedBy unless plan damageIn choose
   measured h p i =
       rw (
-        T-true (soundKept row (length a) t) s,
+        T-true (F .sound (length a) t) s,
         starts-found row pos P (startOf h) p w (i .live .here),
         T-true (isLive (p .state)) (i .live .live),
         eq-eqb (h % 16) (useBits (count (p .state))) (by-bits row p h (i .live .here .starts) .0 (i .present)),
@@ -190,43 +185,44 @@ module _ (row : ℕ) (pos : 0 < row) (a : List ℕ) (t : KeptBytes) (s : T (soun
         T-true (guardDue row a p) (i .guard),
       )
 
-pub releases-exactly : (row : ℕ) → 0 < row → ReleasesExactly row
-releases-exactly row pos a t h s = exactly row pos a t s (releases h) _ (demand1 row pos a t (releases h) .number)
+pub releases-exactly : (row : ℕ) → 0 < row → (F : Form) → FormLaws row F → ReleasesExactly row F
+releases-exactly row pos F L a t h s = exactly row pos F L a t s (releases h) _ (demand1 row pos F L a t (releases h) .number)
 
-pub measures-exactly : (row : ℕ) → 0 < row → MeasuresExactly row
-measures-exactly row pos a t h s = (exactly row pos a t s (measures h) _ (demand1 row pos a t (measures h) .number), λ p i. measured row pos a t s h p i)
+pub measures-exactly : (row : ℕ) → 0 < row → (F : Form) → FormLaws row F → MeasuresExactly row F
+measures-exactly row pos F L a t h s =
+    (exactly row pos F L a t s (measures h) _ (demand1 row pos F L a t (measures h) .number), λ p i. measured row pos F L a t s h p i)
 
 -- ---- what a grant refuses, and what it gives
 
-pub grants-exactly : (row : ℕ) → 0 < row → GrantsExactly row
-grants-exactly row pos a t n = (
+pub grants-exactly : (row : ℕ) → 0 < row → (F : Form) → FormLaws row F → GrantsExactly row F
+grants-exactly row pos F L a t n = (
   why d,
-  λ x e. let (n₂, (n₃, (n₈, _))) = none-due (Due row a t (grants n)) (order (grants n)) k d e in ⊎-elim n₃ (⊎-elim n₂ n₈) x,
+  λ x e. let (n₂, (n₃, (n₈, _))) = none-due (Due row F a t (grants n)) (order (grants n)) k d e in ⊎-elim n₃ (⊎-elim n₂ n₈) x,
 )
   where
     k : ℕ
-    k = call row a t (grants n) .answer .number
+    k = callBy row F a t (grants n) .answer .number
 
-    d : FirstDue (Due row a t (grants n)) (order (grants n)) k
-    d = demand1 row pos a t (grants n) .number
+    d : FirstDue (Due row F a t (grants n)) (order (grants n)) k
+    d = demand1 row pos F L a t (grants n) .number
 
-    why : FirstDue (Due row a t (grants n)) (order (grants n)) k → (k ≡ 0 → ⊥)
-        → (tooLarge ≤ n) ⊎ (T (not (soundKept row (length a) t)) ⊎ NoPlace row (view row (t .tables)) (classOf n))
+    why : FirstDue (Due row F a t (grants n)) (order (grants n)) k → (k ≡ 0 → ⊥)
+        → (tooLarge ≤ n) ⊎ (T (not (F .sound (length a) t)) ⊎ NoPlace row (F .view t) (classOf n))
     why (inl (_, x)) z = inr (inl x)
     why (inr (_, inl (_, x))) z = inl x
     why (inr (_, inr (_, inl (_, x)))) z = inr (inr x)
     why (inr (_, inr (_, inr (_, e)))) z = absurd (z e)
 
 -- a block that a call grants with the code k is where and what document 01 says
-module _ (row : ℕ) (pos : 0 < row) (a : List ℕ) (t : KeptBytes) (asks : Call) (k n : ℕ) where
+module _ (row : ℕ) (pos : 0 < row) (F : Form) (L : FormLaws row F) (a : List ℕ) (t : F .Room) (asks : Call) (k n : ℕ) where
   abbrev S : Pool
-  S = view row (t .tables)
+  S = F .view t
 
   abbrev c : ℕ
   c = classOf (enlarged k n)
 
   pub granted-by : Stands row (length a) S → (q : Place) → Askable k n → reserve row S k n ≡ some q
-      → call row a t asks ≡ applied (engine row) a (grantAt row S (some q)) → GrantedBy row a t asks k n c q
+      → callBy row F a t asks ≡ applied F a (grantAt row S (some q)) → GrantedBy row F a t asks k n c q
   unfolding grantIn grantSlot enframe
   granted-by y q h e l =
       let w : T (wellFormed S) = y .formed in
@@ -260,19 +256,19 @@ module _ (row : ℕ) (pos : 0 < row) (a : List ℕ) (t : KeptBytes) (asks : Call
         value = ap (λ r. r .answer .values) l;
         bits = ap (λ i. start row q + useBits i) (ap count (v .taken .state)) ∙ ap (λ i. start row q + i) (stepped-bits (count (v .taken .old)));
         cleared = start-cleared row (whole-units row (length a) (y .lawful)) q;
-        pool = ap (λ r. view row (r .room .tables)) l ∙ engine-lawful row pos .says (poolOf q) (reserve-formed row S k n q w h e .formed);
+        pool = ap (λ r. F .view (r .room)) l ∙ L .says (poolOf q) (reserve-formed row S k n q w h e .formed);
         arena = ap (λ r. r .arena) l ∙ ap (λ i. put (owned row q) (frame (q .cls) (slotNumber q) (disp (q .state)) i) a) m;
       }
 
-pub grants-as-said : (row : ℕ) → 0 < row → GrantsAsSaid row
+pub grants-as-said : (row : ℕ) → 0 < row → (F : Form) → FormLaws row F → GrantsAsSaid row F
 unfolding plan
-grants-as-said row pos a t n z =
-    let y : Accepted row pos a t (grants n) = accepted row pos a t (grants n) tt z in
-    on-grant row pos (view row (t .tables))
-    (λ p. p .answer .number ≡ 0 → call row a t (grants n) ≡ applied (engine row) a p → (q : Place) × GrantedBy row a t (grants n) ordinary n (classOf n) q)
+grants-as-said row pos F L a t n z =
+    let y : Accepted row pos F L a t (grants n) = accepted row pos F L a t (grants n) tt z in
+    on-grant row pos (F .view t)
+    (λ p. p .answer .number ≡ 0 → callBy row F a t (grants n) ≡ applied F a p → (q : Place) × GrantedBy row F a t (grants n) ordinary n (classOf n) q)
     (λ r z. absurd (refuses r z)) ordinary n (lit≤ tt) (lit≤ tt)
-    (λ q h e _ l. (q, granted-by row pos a t (grants n) ordinary n (engine-lawful row pos .only (length a) t (y .sound-tables) .0) q h e l))
-    (ap (λ (r : Result). r .answer .number) (sym (y .left)) ∙ z) (y .left)
+    (λ q h e _ l. (q, granted-by row pos F L a t (grants n) ordinary n (L .only (length a) t (y .sound-tables) .0) q h e l))
+    (ap (λ (r : Outcome (F .Room)). r .answer .number) (sym (y .left)) ∙ z) (y .left)
 
 -- ---- live blocks never share a byte
 
@@ -281,8 +277,8 @@ module _ (row : ℕ) (pos : 0 < row) where
   in-slot : (p : Place) (i : ℕ) → InBlock row p i → Owns row p i
   in-slot p i b = record { from = omega (arith, b .from); to = b .to }
 
-  pub never-shared : NeverShared row
-  never-shared n t h = record {
+  pub never-shared : (F : Form) → FormLaws row F → NeverShared row F
+  never-shared F L n t h = record {
     shared = λ p q i e f _ _ b d. owned-unique row pos q p i (of q f) (e ∙ sym f) (in-slot q i d) (in-slot p i b);
     inside = λ p i e _ b.
         omega (arith, b .to, owned-inside row pos p (of p e), ap (λ P. row * rows row P) e);
@@ -292,5 +288,5 @@ module _ (row : ℕ) (pos : 0 < row) where
     };
   }
     where
-      of : (p : Place) → poolOf p ≡ view row t → T (wellFormed (poolOf p))
-      of p e = subst (λ P. T (wellFormed P)) (sym e) (sound-facts byMasks row n t h .formed)
+      of : (p : Place) → poolOf p ≡ F .view t → T (wellFormed (poolOf p))
+      of p e = subst (λ P. T (wellFormed P)) (sym e) (L .only n t h .0 .formed)

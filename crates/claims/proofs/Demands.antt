@@ -1,12 +1,17 @@
--- All that is claimed holds at the card's row size.
-use Rattle.mem.proofs.Prelude.{_<_, lit≤}
+-- All that is claimed holds: of every lawful form what is claimed of an engine, and the rest at the card's row size.
+use Rattle.mem.proofs.Prelude.{ℕ, _<_, refl}
 use Rattle.classes.specs.Classes.{rowBytes}
-use Rattle.classes.proofs.Laws.{all-classes}
+use Rattle.classes.proofs.Laws.{all-classes, card-some}
+use Rattle.model.specs.Calls.{Form, FormLaws, engine}
+use Rattle.model.specs.Plain.{plainForm}
+use Rattle.model.proofs.Kept.{engine-lawful}
+use Rattle.model.proofs.Plain.{plain-lawful}
 use Rattle.model.proofs.Bench.{bench}
+use Rattle.model.proofs.PlainBench.{plain-bench}
 use Rattle.trace.proofs.Sheet.{lines-due}
 use Rattle.trace.proofs.Written.{reads-back, writes-back}
-use Rattle.claims.specs.Demands.{Demands}
-use Rattle.claims.proofs.Tables.{tables}
+use Rattle.claims.specs.Demands.{Meets, Demands}
+use Rattle.claims.proofs.Tables.{tables, plain-tables}
 use Rattle.claims.proofs.Bench.{too-large-anywhere}
 use Rattle.claims.proofs.Demand1.{demand1}
 use Rattle.claims.proofs.Demand2.{releases-exactly, measures-exactly, grants-exactly, grants-as-said, never-shared, leaves-sound}
@@ -21,61 +26,70 @@ use Rattle.claims.proofs.Demand3.{steers-nothing, stores-admitted, room
 use Rattle.claims.proofs.History.{history}
 use Rattle.claims.proofs.Stale.{starts-cleared, counts-step, stale-refused}
 use Rattle.claims.proofs.Flips.{flips-refused}
-use Rattle.claims.proofs.Record.{sound-exactly, keeps-record}
+use Rattle.claims.proofs.Record.{sound-exactly, records-fresh, reports-record, history-recorded, keeps-record}
 use Rattle.claims.proofs.Lists.{plans-as-said, lists-as-grants, lists-exactly}
 use Rattle.claims.proofs.Alike.{two-engines, stores-anywhere}
 use Rattle.claims.proofs.Traces.{lines-modelled, stores-steer-nothing, replay-steers-nothing}
 
-some-bytes : 0 < rowBytes
-unfolding rowBytes
-some-bytes = lit≤ tt
+-- an engine whose tables have a lawful form meets the demands
+pub meets : (row : ℕ) → 0 < row → (F : Form) → FormLaws row F → Meets row F
+meets row pos F L = record {
+  demand1 = demand1 row pos F L;
+  releases-exactly = releases-exactly row pos F L;
+  measures-exactly = measures-exactly row pos F L;
+  grants-exactly = grants-exactly row pos F L;
+  aligned-exactly = aligned-exactly row pos F L;
+  sets-up-as-said = sets-up-as-said row pos F L;
+  grants-as-said = grants-as-said row pos F L;
+  aligned-as-said = aligned-as-said row pos F L;
+  aligned-ordinary = aligned-ordinary row F;
+  releases-as-said = releases-as-said row pos F L;
+  resizes-as-said = resizes-as-said row pos F L;
+  reports-as-said = reports-as-said row F;
+  reads-only = reads-only row pos F L;
+  guards-as-said = guards-as-said row pos F L;
+  never-shared = never-shared row pos F L;
+  leaves-sound = leaves-sound row pos F L;
+  too-large-anywhere = too-large-anywhere row pos F L;
+  lists-as-grants = lists-as-grants row F pos L;
+  lists-exactly = lists-exactly row F pos L;
+  on-boundaries = on-boundaries row F L;
+  resizes-keep-alignment = resizes-keep-alignment row pos F L;
+  others-stay = others-stay row pos F L;
+  starts-cleared = starts-cleared row F L;
+  counts-step = counts-step row pos F L;
+  stale-refused = stale-refused row pos F L;
+  steers-nothing = steers-nothing row pos F L;
+  history = history row pos F L;
+}
 
 pub demands : Demands rowBytes
 demands = record {
-  demand1 = demand1 rowBytes some-bytes;
-  releases-exactly = releases-exactly rowBytes some-bytes;
-  measures-exactly = measures-exactly rowBytes some-bytes;
-  grants-exactly = grants-exactly rowBytes some-bytes;
-  aligned-exactly = aligned-exactly rowBytes some-bytes;
-  sets-up-as-said = sets-up-as-said rowBytes some-bytes;
-  grants-as-said = grants-as-said rowBytes some-bytes;
-  aligned-as-said = aligned-as-said rowBytes some-bytes;
-  aligned-ordinary = aligned-ordinary rowBytes;
-  releases-as-said = releases-as-said rowBytes some-bytes;
-  resizes-as-said = resizes-as-said rowBytes some-bytes;
-  serves-ordinary = serves-ordinary;
-  reports-as-said = reports-as-said rowBytes;
-  reads-only = reads-only rowBytes some-bytes;
-  never-at-zero = never-at-zero rowBytes;
-  guards-as-said = guards-as-said rowBytes some-bytes;
-  never-shared = never-shared rowBytes some-bytes;
-  plans-as-said = plans-as-said;
-  lists-as-grants = lists-as-grants rowBytes some-bytes;
-  lists-exactly = lists-exactly rowBytes some-bytes;
-  on-boundaries = on-boundaries rowBytes;
-  resizes-keep-alignment = resizes-keep-alignment rowBytes some-bytes;
-  others-stay = others-stay rowBytes some-bytes;
-  starts-cleared = starts-cleared rowBytes;
-  counts-step = counts-step rowBytes some-bytes;
-  stale-refused = stale-refused rowBytes some-bytes;
-  steers-nothing = steers-nothing rowBytes some-bytes;
-  stores-admitted = stores-admitted rowBytes;
-  room-follows = room-follows rowBytes;
-  tables = tables;
-  leaves-sound = leaves-sound rowBytes some-bytes;
-  history = history rowBytes some-bytes;
-  sound-exactly = sound-exactly rowBytes;
-  keeps-record = keeps-record rowBytes some-bytes;
-  flips-refused = flips-refused rowBytes some-bytes;
-  two-engines = two-engines rowBytes some-bytes;
+  first-engine = meets rowBytes card-some (engine rowBytes) (engine-lawful rowBytes card-some);
+  second-engine = meets rowBytes card-some (plainForm rowBytes) (plain-lawful rowBytes card-some);
+  two-engines = two-engines rowBytes card-some;
   stores-anywhere = stores-anywhere;
+  room-follows = room-follows rowBytes (engine rowBytes) (λ t. t .tables) (λ n t. refl);
+  plain-room-follows = room-follows rowBytes (plainForm rowBytes) (λ t. t) (λ n t. refl);
+  stores-admitted = stores-admitted rowBytes;
+  tables = tables;
+  plain-tables = plain-tables;
+  sound-exactly = sound-exactly rowBytes;
+  records-fresh = records-fresh rowBytes card-some;
+  reports-record = reports-record rowBytes;
+  history-recorded = history-recorded rowBytes card-some;
+  keeps-record = keeps-record rowBytes card-some;
+  flips-refused = flips-refused rowBytes card-some;
+  never-at-zero = never-at-zero rowBytes;
+  serves-ordinary = serves-ordinary;
   all-classes = all-classes;
+  plans-as-said = plans-as-said;
   bench = bench;
-  too-large-anywhere = too-large-anywhere rowBytes some-bytes;
+  plain-bench = plain-bench;
   reads-back = reads-back;
   writes-back = writes-back;
   lines-due = lines-due;
-  lines-modelled = lines-modelled rowBytes some-bytes;
-  stores-steer-nothing = stores-steer-nothing rowBytes some-bytes;
-  replay-steers-nothing = replay-steers-nothing some-bytes;
+  lines-modelled = lines-modelled rowBytes card-some;
+  stores-steer-nothing = stores-steer-nothing rowBytes card-some;
+  replay-steers-nothing = replay-steers-nothing card-some;
 }

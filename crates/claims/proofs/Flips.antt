@@ -21,7 +21,7 @@ use Rattle.model.specs.declared.Totals.{Totals}
 use Rattle.model.specs.State.{Pool, free, group, isReady, isWaiting, size, slotSound, spanSound, wellFormed}
 use Rattle.model.specs.Plans.{Call, setsUp, grants, grantsAligned, releases, resizes, measures, reports, grantsList, totals}
 use Rattle.model.specs.Tables.{rowAt, slotRecord, rowRecord, laterRecords, spanRecordsBy, spanRecords, encodeBy, roomBytes, byMasks, view, sound}
-use Rattle.model.specs.Calls.{KeptBytes, keptIn, soundKept, unsound}
+use Rattle.model.specs.Calls.{KeptBytes, keptIn, engine, soundKept, unsound}
 use Rattle.model.proofs.Tables.{masks-laws, size-small, slot-length, row-length, group-few, mask-fits, encode-length, Sound, sound-facts}
 use Rattle.model.proofs.Counts.{mask-ones}
 use Rattle.model.proofs.Kept.{kept-totals}
@@ -265,7 +265,9 @@ module _ (row : ℕ) (pos : 0 < row) where
   pub flips-refused : FlipsRefused row
   flips-refused a t i p b c s first at small asks =
       let r = refuses c asks in
-      ap (λ o. o .answer .number) (call-unsound row a bad c (r .0) (same-test (soundKept row (length a) bad) false unsounds (λ x. absurd x))) ∙ r .1
+      ap (λ o. o .answer .number)
+      (call-unsound row (engine row) a bad c (r .0) (same-test (soundKept row (length a) bad) false unsounds (λ x. absurd x)))
+      ∙ r .1
     where
       bad : KeptBytes
       bad = keptIn (flipped p b (t .tables)) (t .totals)

@@ -7,8 +7,7 @@ use Rattle.mem.proofs.Laws.{part-part, part-cons, same→eq, eq→same}
 use Rattle.classes.specs.Classes.{slotBytes}
 use Rattle.model.specs.State.{Place, disp, size, wellFormed, poolOf, rows, owned, start}
 use Rattle.model.specs.Blocks.{reserved, guard, firstSpare, guardRight, ownedBytes}
-use Rattle.model.specs.Tables.{byMasks}
-use Rattle.model.proofs.Tables.{sound-facts}
+use Rattle.model.specs.Calls.{Form, FormLaws}
 use Rattle.model.proofs.Blocks.{first-spare, guard-bytes}
 use Rattle.model.proofs.Lookup.{owned-inside}
 use Rattle.claims.specs.Demand1.{guardDue}
@@ -94,7 +93,7 @@ module _ (row : ℕ) (pos : 0 < row) (a : List ℕ) (p : Place) (w : T (wellForm
     λ g. and-both first-test guard-test (first-stands .1 (g .past)) (guard-stands .1 (g .last)),
   )
 
-pub guards-as-said : (row : ℕ) → 0 < row → GuardsAsSaid row
-guards-as-said row pos a t p s e =
-    let f = sound-facts byMasks row (length a) t s in
+pub guards-as-said : (row : ℕ) → 0 < row → (F : Form) → FormLaws row F → GuardsAsSaid row F
+guards-as-said row pos F L a t p s e =
+    let f = L .only (length a) t s .0 in
     both-stand row pos a p (subst (λ P. T (wellFormed P)) (sym e) (f .formed)) (f .long ∙ ap (λ P. row * rows row P) (sym e))

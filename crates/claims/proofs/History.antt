@@ -1,7 +1,7 @@
 -- The history of report: what the tables count to is what the calls since the last set up come to.
 use Rattle.mem.proofs.Prelude.{_∙_, _≡_, sym, ap, refl, ap₂, subst, true, Bool, false, _&&_, not, true≢false, some, List, [], _∷_, _++_, append-assoc, map, _+_}
 use Rattle.mem.proofs.Prelude.{ℕ, _<_, _≤_, _*_, suc, _/_, _%_, zero, add-zero, zero-add, add-assoc, mul-div-cancel-left, arith, eqb-false, eqb-true, T, eqb}
-use Rattle.mem.proofs.Prelude.{eqb→eq, eqb-refl, lit≤, length, length-append, replicate}
+use Rattle.mem.proofs.Prelude.{eqb-refl, lit≤, length, length-append, replicate}
 use Rattle.mem.specs.Lists.{choose, any, sum}
 use Rattle.mem.specs.Bytes.{bit}
 use Rattle.mem.proofs.Tests.{T-true, true-T, choose-true, choose-case, and-right, eq→eqb}
@@ -16,16 +16,13 @@ use Rattle.model.specs.Plans.{Plan, turnReady, refill, reserve, vacant, release
 use Rattle.model.specs.Plans.{slotSum, totals, report, Call, setsUp, grants, grantsAligned, releases, resizes, measures, reports, grantsList, plan}
 use Rattle.model.specs.Plans.{measure, reserveAll, poolAfter}
 use Rattle.model.proofs.Lists.{small, by-grants, on-list}
-use Rattle.model.specs.Tables.{view, roomBytes}
-use Rattle.model.specs.Calls.{KeptBytes, Result, Stands, engine, soundKept, call, setUp, setUpRight, callBy, setUpRightBy}
+use Rattle.model.specs.Calls.{Form, FormLaws, Outcome, Stands, callBy, setUpBy, setUpRightBy}
 use Rattle.model.proofs.Rooms.{rows-append}
 use Rattle.model.proofs.Counts.{held-free}
-use Rattle.model.proofs.Fresh.{fresh-rows, fresh-formed, whole-rows, whole-units, set-up-lawful, set-up-done, set-up-sound}
+use Rattle.model.proofs.Fresh.{fresh-rows, fresh-formed, whole-units, set-up-lawful, set-up-done, set-up-sound}
 use Rattle.model.proofs.Lookup.{placed, groupOf, place-unique}
 use Rattle.model.proofs.Reserve.{Served, served, reserve-size}
 use Rattle.model.proofs.Formed.{any-middle, plan-formed}
-use Rattle.model.proofs.Tables.{masks-laws, encode-length}
-use Rattle.model.proofs.Kept.{engine-lawful, kept-totals}
 use Rattle.model.proofs.Calls.{Asks}
 use Rattle.model.proofs.Moves.{Old, old, old-released}
 use Rattle.claims.specs.History.{Entry, Ledger, opening, without, enteredGrant, enteredEach, entered, Asked, booked, kept, Counts, Tells, History}
@@ -360,20 +357,20 @@ total-weigh row g f h r (group c ss ∷ P) = ap₂ (λ j k. j + k) (slots 0 ss) 
 
 -- ---- a list of calls
 
-module _ (row : ℕ) (pos : 0 < row) (n : ℕ) where
+module _ (row : ℕ) (pos : 0 < row) (F : Form) (L : FormLaws row F) (n : ℕ) where
   -- tables that are sound for an arena of n bytes, with the blocks of a ledger
-  record Kept (l : Ledger) (t : KeptBytes) : Type 0 where
-    tables : T (soundKept row n t)
-    tallies : Tallies row l (view row (t .tables))
+  record Kept (l : Ledger) (t : F .Room) : Type 0 where
+    tables : T (F .sound n t)
+    tallies : Tallies row l (F .view t)
 
-  kept-counts : (l : Ledger) (t : KeptBytes) → Kept l t → Counts row l (totals row (view row (t .tables))) n
+  kept-counts : (l : Ledger) (t : F .Room) → Kept l t → Counts row l (totals row (F .view t)) n
   unfolding totals weight choose
   kept-counts l t k =
-      let P : Pool = view row (t .tables) in
+      let P : Pool = F .view t in
       record {
         blocks = omega (arith, total-weigh row (λ x. bit (isLive x)) (λ e. 1) live-one 0 P, k .tallies .sums (λ e. 1), k .tallies .count);
         bytes = total-weigh row size (λ e. e .size) live-size 0 P ∙ sym (k .tallies .sums (λ e. e .size));
-        rows = held-free row P ∙ sym (ap (λ m. m / row) (engine-lawful row pos .only n t (k .tables) .0 .long) ∙ mul-div-cancel-left (rows row P) pos);
+        rows = held-free row P ∙ sym (ap (λ m. m / row) (L .only n t (k .tables) .0 .long) ∙ mul-div-cancel-left (rows row P) pos);
       }
     where
       live-one : (b : ℕ) (x : Slot) → bit (isLive x) ≡ weight (λ e. 1) b x
@@ -385,71 +382,76 @@ module _ (row : ℕ) (pos : 0 < row) (n : ℕ) where
       live-size b (Live a) = refl
 
   -- an accepted set up
-  fresh-kept : (a : List ℕ) (t : KeptBytes) → T (setUpRight row a t) → length a ≡ n → Kept opening (setUp row a t .room)
+  fresh-kept : (a : List ℕ) (t : F .Room) → T (setUpRightBy row F a t) → length a ≡ n → Kept opening (setUpBy row F a t .room)
   fresh-kept a t h e =
-      let F : Pool = freshPool (length a / row) in
-      subst (λ (r : Result). Kept opening (r .room)) (sym (set-up-done row a t h)) (record {
-        tables = subst (λ m. T (soundKept row m (engine row .encode F))) e (set-up-sound row a t h pos);
-        tallies = subst (Tallies row opening) (sym (engine-lawful row pos .says F (fresh-formed (length a / row)))) (fresh-tallies row (length a / row));
+      let Q : Pool = freshPool (length a / row) in
+      subst (λ (r : Outcome (F .Room)). Kept opening (r .room)) (sym (set-up-done row F a t h)) (record {
+        tables = subst (λ m. T (F .sound m (F .encode Q))) e (set-up-sound row F a t h L);
+        tallies = subst (Tallies row opening) (sym (L .says Q (fresh-formed (length a / row)))) (fresh-tallies row (length a / row));
       })
 
   -- one call, over whatever arena
-  module _ (l : Ledger) (a : List ℕ) (t : KeptBytes) (k : Kept l t) where
-    s : Stands row n (view row (t .tables))
-    s = engine-lawful row pos .only n t (k .tables) .0
+  module _ (l : Ledger) (a : List ℕ) (t : F .Room) (k : Kept l t) where
+    s : Stands row n (F .view t)
+    s = L .only n t (k .tables) .0
 
     abbrev Keeps : Call → Type 0
-    Keeps c = call row a t c .answer .number ≡ 0 → Kept (entered l c (call row a t c .answer)) (call row a t c .room)
+    Keeps c = callBy row F a t c .answer .number ≡ 0 → Kept (entered l c (callBy row F a t c .answer)) (callBy row F a t c .room)
 
     -- a call but set up is accepted only over an arena of n bytes
     asks-kept : (c : Call) → Asks c → Keeps c
     asks-kept c i z =
-        let y : Accepted row pos a t c = accepted row pos a t c i z in
-        let P : Pool = view row (t .tables) in
-        let e : length a ≡ n = engine-lawful row pos .only (length a) t (y .sound-tables) .0 .long ∙ sym (s .long) in
+        let y : Accepted row pos F L a t c = accepted row pos F L a t c i z in
+        let P : Pool = F .view t in
+        let e : length a ≡ n = L .only (length a) t (y .sound-tables) .0 .long ∙ sym (s .long) in
         let p : Plan = plan row P c in
         record {
-          tables = subst (λ m. T (soundKept row m (call row a t c .room))) e (sound-leaves row pos a t (y .sound-tables) c .tables);
+          tables = subst (λ m. T (F .sound m (callBy row F a t c .room))) e (sound-leaves row pos F L a t (y .sound-tables) c .tables);
           tallies =
-              subst (λ (r : Result). Tallies row (entered l c (r .answer)) (view row (r .room .tables))) (sym (y .left))
+              subst (λ (r : Outcome (F .Room)). Tallies row (entered l c (r .answer)) (F .view (r .room))) (sym (y .left))
               (subst (Tallies row (entered l c (p .answer)))
-              (sym (engine-lawful row pos .says (p .pool) (plan-formed row pos P c (s .formed) .formed)))
+              (sym (L .says (p .pool) (plan-formed row pos P c (s .formed) .formed)))
               (plan-enters row pos (whole-units row n (s .lawful)) P (s .formed) l (k .tallies) c
-              (ap (λ (r : Result). r .answer .number) (sym (y .left)) ∙ z)));
+              (ap (λ (r : Outcome (F .Room)). r .answer .number) (sym (y .left)) ∙ z)));
         }
 
-    -- a set up too, since the room's size tells the arena's
+    -- a set up too, since what is lent tells the arena's length
     set-up-kept : Keeps setsUp
-    unfolding callBy setUpRightBy roomBytes
+    unfolding callBy setUpRightBy
     set-up-kept z =
-        let h : T (setUpRight row a t) = set-up-accepted row pos a t z in
-        let u : length (t .tables) ≡ roomBytes (length a / row) = eqb→eq (length (t .tables)) (roomBytes (length a / row)) (search and-right) in
-        let v : length (t .tables) ≡ roomBytes (rows row (view row (t .tables))) =
-        ap (λ (u : KeptBytes). length (u .tables)) (engine-lawful row pos .only n t (k .tables) .1)
-        ∙ encode-length masks-laws row pos (view row (t .tables)) (s .formed) in
-        let r : length a / row ≡ rows row (view row (t .tables)) = omega arith in
-        fresh-kept a t h (sym (whole-rows row (length a) (set-up-lawful row a t h)) ∙ ap (λ m. row * m) r ∙ sym (s .long))
+        let h : T (setUpRightBy row F a t) = set-up-accepted row pos F L a t z in
+        let (s, e) = L .only n t (k .tables) in
+        let f : T (F .fits (length a) (F .encode (F .view t))) = subst (λ u. T (F .fits (length a) u)) e (search and-right) in
+        fresh-kept a t h (L .sized n (length a) (F .view t) s (set-up-lawful row F a t h) f)
 
-    call-kept : (c : Call) → Kept (booked l c (call row a t c .answer)) (call row a t c .room)
+    call-kept : (c : Call) → Kept (booked l c (callBy row F a t c .answer)) (callBy row F a t c .room)
     call-kept c =
-        choose-case (λ m. Kept m (call row a t c .room)) (eqb (call row a t c .answer .number) 0) _ _
-        (λ e. by-call Keeps set-up-kept asks-kept c (eqb-true (call row a t c .answer .number) 0 e))
-        (λ e. subst (Kept l) (sym (demand1 row pos a t c .refused (eqb-false (call row a t c .answer .number) 0 e) .1)) k)
+        choose-case (λ m. Kept m (callBy row F a t c .room)) (eqb (callBy row F a t c .answer .number) 0) _ _
+        (λ e. by-call Keeps set-up-kept asks-kept c (eqb-true (callBy row F a t c .answer .number) 0 e))
+        (λ e. subst (Kept l) (sym (demand1 row pos F L a t c .refused (eqb-false (callBy row F a t c .answer .number) 0 e) .1)) k)
 
-  calls-kept : (l : Ledger) (t : KeptBytes) (cs : List Asked) → Kept l t → Kept (kept row l t cs .ledger) (kept row l t cs .room)
+  calls-kept : (l : Ledger) (t : F .Room) (cs : List Asked) → Kept l t → Kept (kept row F l t cs .ledger) (kept row F l t cs .room)
   unfolding kept
   calls-kept l t [] k = k
-  calls-kept l t (c ∷ cs) k = calls-kept _ (call row (c .arena) t (c .asks) .room) cs (call-kept l (c .arena) t k (c .asks))
+  calls-kept l t (c ∷ cs) k = calls-kept _ (callBy row F (c .arena) t (c .asks) .room) cs (call-kept l (c .arena) t k (c .asks))
 
   -- what report gives over an arena of n bytes
-  kept-told : (b : List ℕ) → length b ≡ n → (l : Ledger) (t : KeptBytes) → Kept l t → Tells row b (record { ledger = l; room = t }) n
+  kept-told : (b : List ℕ) → length b ≡ n → (l : Ledger) (t : F .Room) → Kept l t → Tells row F b (record { ledger = l; room = t }) n
   kept-told b e l t k = record {
-    totals = totals row (view row (t .tables));
-    given = reports-as-said row b t (subst (λ m. T (soundKept row m t)) (sym e) (k .tables)) .0;
-    recorded = kept-totals row n t (T-true (soundKept row n t) (k .tables));
+    totals = totals row (F .view t);
+    given = reports-as-said row F b t (subst (λ m. T (F .sound m t)) (sym e) (k .tables));
     counts = kept-counts l t k;
   }
 
-pub history : (row : ℕ) → 0 < row → History row
-history row pos a t cs b h e =
-    kept-told row pos (length a) b e _ _ (calls-kept row pos (length a) opening (setUp row a t .room) cs (fresh-kept row pos (length a) a t h refl))
+-- what is lent after any calls from an accepted set up on
+module _ (row : ℕ) (pos : 0 < row) (F : Form) (L : FormLaws row F) where
+  run-kept : (a : List ℕ) (t : F .Room) (cs : List Asked) → T (setUpRightBy row F a t) → (let k = kept row F opening (setUpBy row F a t .room) cs in
+      Kept row pos F L (length a) (k .ledger) (k .room))
+  run-kept a t cs h = calls-kept row pos F L (length a) opening (setUpBy row F a t .room) cs (fresh-kept row pos F L (length a) a t h refl)
+
+  pub history-sound : (a : List ℕ) (t : F .Room) (cs : List Asked) → T (setUpRightBy row F a t)
+      → T (F .sound (length a) (kept row F opening (setUpBy row F a t .room) cs .room))
+  history-sound a t cs h = run-kept a t cs h .tables
+
+  pub history : History row F
+  history a t cs b h e = kept-told row pos F L (length a) b e _ _ (run-kept a t cs h)

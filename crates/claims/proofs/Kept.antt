@@ -4,10 +4,8 @@ use Rattle.classes.specs.Alignments.{Askable}
 use Rattle.model.specs.declared.Refusal.the-variants.{NoRoom}
 use Rattle.model.specs.State.{Pool, Place, isLive, align, wellFormed, startOf, poolOf, start, handle}
 use Rattle.model.specs.Plans.{Plan, reserve, resizeInPlace, moveTo, resize, resizes, plan}
-use Rattle.model.specs.Tables.{view}
-use Rattle.model.specs.Calls.{Stands, Result}
+use Rattle.model.specs.Calls.{Form, FormLaws, Stands, Outcome}
 use Rattle.model.proofs.Fresh.{whole-units}
-use Rattle.model.proofs.Kept.{engine-lawful}
 use Rattle.model.proofs.Lookup.{place-unique}
 use Rattle.model.proofs.Reserve.{served, reserve-align}
 use Rattle.model.proofs.Moves.{Old, old, stays-start}
@@ -71,20 +69,20 @@ module _ (row : ℕ) (pos : 0 < row) (P : Pool) (w : T (wellFormed P)) (u : row 
       (λ p b _ _. in-place p b) (λ p b z. absurd (refuses NoRoom z)) (λ p q b s f _. moved p b s q f)
 
 -- and an accepted call leaves what its plan says
-pub resizes-keep-alignment : (row : ℕ) → 0 < row → ResizesKeepAlignment row
+pub resizes-keep-alignment : (row : ℕ) → 0 < row → (F : Form) → FormLaws row F → ResizesKeepAlignment row F
 unfolding plan
-resizes-keep-alignment row pos a t h n z =
-    let y : Accepted row pos a t (resizes h n) = accepted row pos a t (resizes h n) tt z in
-    let P : Pool = view row (t .tables) in
-    let s : Stands row (length a) P = engine-lawful row pos .only (length a) t (y .sound-tables) .0 in
+resizes-keep-alignment row pos F L a t h n z =
+    let y : Accepted row pos F L a t (resizes h n) = accepted row pos F L a t (resizes h n) tt z in
+    let P : Pool = F .view t in
+    let s : Stands row (length a) P = L .only (length a) t (y .sound-tables) .0 in
     let k : Keeps row P h (resize row P h n) =
-    resize-aligns row pos P (s .formed) (whole-units row (length a) (s .lawful)) h n (ap (λ (r : Result). r .answer .number) (sym (y .left)) ∙ z) in
+    resize-aligns row pos P (s .formed) (whole-units row (length a) (s .lawful)) h n (ap (λ (r : Outcome (F .Room)). r .answer .number) (sym (y .left)) ∙ z) in
     record {
       old = k .old;
       was = k .was;
       new = k .new;
       given = k .given;
-      value = ap (λ (r : Result). r .answer .values) (y .left) ∙ k .value;
-      is = subst (λ Q. LiveAt row Q (startOf (k .given)) (k .new)) (sym (accepted-pool row pos a t (resizes h n) y)) (k .is);
+      value = ap (λ (r : Outcome (F .Room)). r .answer .values) (y .left) ∙ k .value;
+      is = subst (λ Q. LiveAt row Q (startOf (k .given)) (k .new)) (sym (accepted-pool row pos F L a t (resizes h n) y)) (k .is);
       same = k .same;
     }

@@ -15,9 +15,8 @@ use Rattle.model.specs.Answers.{Answer, done, listDone, refusal}
 use Rattle.model.specs.Proposals.{entries, accepts, plannable, fullCaps, planned}
 use Rattle.model.specs.Plans.{Plan, reserve, enframe, grantAt, grantAs, placed, placedBy, reserveAll, poolAfter, grantAllAt, grantList}
 use Rattle.model.specs.Plans.{grants, grantsList, plan}
-use Rattle.model.specs.Tables.{arenaRight, view}
-use Rattle.model.specs.Calls.{KeptBytes, Result, engine, soundKept, applied, carried, call, write, written}
-use Rattle.model.proofs.Kept.{engine-lawful}
+use Rattle.model.specs.Tables.{arenaRight}
+use Rattle.model.specs.Calls.{Form, FormLaws, Outcome, applied, carriedBy, callBy, write, written}
 use Rattle.model.proofs.Fresh.{whole-units}
 use Rattle.model.proofs.Reserve.{plain, Granted, reserve-formed}
 use Rattle.model.proofs.Calls.{call-sound, same-room, carried-whole}
@@ -58,64 +57,64 @@ none-eight : (vs : List ℕ) → T (any eight (map (λ h. done (h ∷ [])) vs)) 
 none-eight [] t = t
 none-eight (v ∷ vs) t = none-eight vs t
 
-module _ (row : ℕ) where
+module _ (row : ℕ) (F : Form) where
   -- what grants one after the other come to from a pool P, by the places that they take
-  abbrev Granting : Pool → List ℕ → KeptBytes → List ℕ → Option (List Place) → Type 0
-  Granting P a t ns none = T (any eight (granting row a t ns .answers))
+  abbrev Granting : Pool → List ℕ → F .Room → List ℕ → Option (List Place) → Type 0
+  Granting P a t ns none = T (any eight (granting row F a t ns .answers))
   Granting P a t ns (some qs) =
-      (granting row a t ns .answers ≡ map (λ h. done (h ∷ [])) (map (handle row) qs))
-      × (granting row a t ns .arena ≡ written a (map (enframe row) qs)) × (granting row a t ns .room ≡ engine row .encode (poolAfter P qs))
+      (granting row F a t ns .answers ≡ map (λ h. done (h ∷ [])) (map (handle row) qs))
+      × (granting row F a t ns .arena ≡ written a (map (enframe row) qs)) × (granting row F a t ns .room ≡ F .encode (poolAfter P qs))
 
-  module _ (a : List ℕ) (t : KeptBytes) (n : ℕ) (s : soundKept row (length a) t ≡ true) (h : n < tooLarge) where
-    granted-call : (o : Option Place) → reserve row (view row (t .tables)) ordinary n ≡ o
-        → call row a t (grants n) ≡ carried row a t (grantAt row (view row (t .tables)) o)
+  module _ (a : List ℕ) (t : F .Room) (n : ℕ) (s : F .sound (length a) t ≡ true) (h : n < tooLarge) where
+    granted-call : (o : Option Place) → reserve row (F .view t) ordinary n ≡ o
+        → callBy row F a t (grants n) ≡ carriedBy row F a t (grantAt row (F .view t) o)
     unfolding plan grantAs
     granted-call o e =
-        call-sound row a t s (grants n) tt
-        ∙ ap (carried row a t) (choose-false (leb tooLarge n) _ _ (lt-leb tooLarge n h) ∙ ap (grantAt row (view row (t .tables))) e)
+        call-sound row F a t s (grants n) tt
+        ∙ ap (carriedBy row F a t) (choose-false (leb tooLarge n) _ _ (lt-leb tooLarge n h) ∙ ap (grantAt row (F .view t)) e)
 
-    taken-call : (q : Place) → reserve row (view row (t .tables)) ordinary n ≡ some q
-        → call row a t (grants n) ≡ applied (engine row) a (grantAt row (view row (t .tables)) (some q))
-    taken-call q e = granted-call (some q) e ∙ carried-whole row a t (grantAt row (view row (t .tables)) (some q)) refl
+    taken-call : (q : Place) → reserve row (F .view t) ordinary n ≡ some q
+        → callBy row F a t (grants n) ≡ applied F a (grantAt row (F .view t) (some q))
+    taken-call q e = granted-call (some q) e ∙ carried-whole row F a t (grantAt row (F .view t) (some q)) refl
 
-    full-call : reserve row (view row (t .tables)) ordinary n ≡ none → call row a t (grants n) .answer ≡ refusal NoRoom
-    full-call e = ap (λ (r : Result). r .answer) (granted-call none e ∙ carried-whole row a t (grantAt row (view row (t .tables)) none) refl)
+    full-call : reserve row (F .view t) ordinary n ≡ none → callBy row F a t (grants n) .answer ≡ refusal NoRoom
+    full-call e = ap (λ (r : Outcome (F .Room)). r .answer) (granted-call none e ∙ carried-whole row F a t (grantAt row (F .view t) none) refl)
 
-  module _ (pos : 0 < row) where
-    grantings : (P : Pool) (a : List ℕ) (t : KeptBytes) (ns : List ℕ) → view row (t .tables) ≡ P → soundKept row (length a) t ≡ true → T (small ns)
+  module _ (pos : 0 < row) (L : FormLaws row F) where
+    grantings : (P : Pool) (a : List ℕ) (t : F .Room) (ns : List ℕ) → F .view t ≡ P → F .sound (length a) t ≡ true → T (small ns)
         → Granting P a t ns (reserveAll row P ns)
     unfolding granting reserveAll enframe
-    grantings P a t [] v s h = (refl, refl, sym (same-room row a t s) ∙ ap (engine row .encode) v)
+    grantings P a t [] v s h = (refl, refl, sym (same-room row F a t s L) ∙ ap (F .encode) v)
     grantings P a t (n ∷ ns) v s h = go (reserve row P ordinary n) refl (λ Q b u. grantings Q b u ns)
       where
         small-n : n < tooLarge
         small-n = small-first n ns h
 
         Later : Type 0
-        Later = (Q : Pool) (b : List ℕ) (u : KeptBytes) → view row (u .tables) ≡ Q → soundKept row (length b) u ≡ true → T (small ns)
+        Later = (Q : Pool) (b : List ℕ) (u : F .Room) → F .view u ≡ Q → F .sound (length b) u ≡ true → T (small ns)
             → Granting Q b u ns (reserveAll row Q ns)
 
-        lift : (q : Place) → call row a t (grants n) ≡ applied (engine row) a (grantAt row (view row (t .tables)) (some q))
-            → (o : Option (List Place)) → Granting (poolOf q) (write a (enframe row q)) (engine row .encode (poolOf q)) ns o
+        lift : (q : Place) → callBy row F a t (grants n) ≡ applied F a (grantAt row (F .view t) (some q))
+            → (o : Option (List Place)) → Granting (poolOf q) (write a (enframe row q)) (F .encode (poolOf q)) ns o
             → Granting P a t (n ∷ ns) (placed q o)
         lift q c none k =
-            subst (λ (r : Result). T (eight (r .answer) || any eight (granting row (r .arena) (r .room) ns .answers))) (sym c) k
+            subst (λ (r : Outcome (F .Room)). T (eight (r .answer) || any eight (granting row F (r .arena) (r .room) ns .answers))) (sym c) k
         lift q c (some qs) k = (
-          ap (λ (r : Result). r .answer ∷ granting row (r .arena) (r .room) ns .answers) c ∙ ap (λ l. done (handle row q ∷ []) ∷ l) (k .0),
-          ap (λ (r : Result). granting row (r .arena) (r .room) ns .arena) c ∙ k .1,
-          ap (λ (r : Result). granting row (r .arena) (r .room) ns .room) c ∙ k .2,
+          ap (λ (r : Outcome (F .Room)). r .answer ∷ granting row F (r .arena) (r .room) ns .answers) c ∙ ap (λ l. done (handle row q ∷ []) ∷ l) (k .0),
+          ap (λ (r : Outcome (F .Room)). granting row F (r .arena) (r .room) ns .arena) c ∙ k .1,
+          ap (λ (r : Outcome (F .Room)). granting row F (r .arena) (r .room) ns .room) c ∙ k .2,
         )
 
         next : (q : Place) → reserve row P ordinary n ≡ some q → Later → Granting P a t (n ∷ ns) (placed q (reserveAll row (poolOf q) ns))
         next q e k =
-            let f = engine-lawful row pos .only (length a) t (true-T (soundKept row (length a) t) s) .0 in
-            let r : reserve row (view row (t .tables)) ordinary n ≡ some q = ap (λ P. reserve row P ordinary n) v ∙ e in
-            let g : Granted row (view row (t .tables)) ordinary n q = reserve-formed row (view row (t .tables)) ordinary n q (f .formed) (plain small-n) r in
+            let f = L .only (length a) t (true-T (F .sound (length a) t) s) .0 in
+            let r : reserve row (F .view t) ordinary n ≡ some q = ap (λ P. reserve row P ordinary n) v ∙ e in
+            let g : Granted row (F .view t) ordinary n q = reserve-formed row (F .view t) ordinary n q (f .formed) (plain small-n) r in
             let b : List ℕ = write a (enframe row q) in
             let l : length b ≡ length a = put-length (owned row q) (frame (q .cls) (slotNumber q) (disp (q .state)) (size (q .state))) a in
             let m : length b ≡ row * rows row (poolOf q) = l ∙ f .long ∙ ap (λ k. row * k) (sym (g .long)) in
-            let u : T (soundKept row (length b) (engine row .encode (poolOf q))) =
-            engine-lawful row pos .right (length b) (poolOf q)
+            let u : T (F .sound (length b) (F .encode (poolOf q))) =
+            L .right (length b) (poolOf q)
             (record {
               lawful = subst (λ k. T (arenaRight row k)) (sym l) (f .lawful);
               long = m;
@@ -123,57 +122,58 @@ module _ (row : ℕ) where
               bounds = g .bounds (whole-units row (length a) (f .lawful)) (f .bounds);
             }) in
             lift q (taken-call a t n s small-n q r) (reserveAll row (poolOf q) ns)
-            (k (poolOf q) b (engine row .encode (poolOf q)) (engine-lawful row pos .says (poolOf q) (g .formed)) (T-true _ u) (small-rest n ns h))
+            (k (poolOf q) b (F .encode (poolOf q)) (L .says (poolOf q) (g .formed)) (T-true _ u) (small-rest n ns h))
 
         go : (o : Option Place) → reserve row P ordinary n ≡ o → Later → Granting P a t (n ∷ ns) (placedBy o (λ q. reserveAll row (poolOf q) ns))
         go none e k =
-            subst (λ (r : Answer). T (eight r || any eight (granting row (call row a t (grants n) .arena) (call row a t (grants n) .room) ns .answers)))
+            let o : Outcome (F .Room) = callBy row F a t (grants n) in
+            subst (λ (r : Answer). T (eight r || any eight (granting row F (o .arena) (o .room) ns .answers)))
             (sym (full-call a t n s small-n (ap (λ P. reserve row P ordinary n) v ∙ e))) tt
         go (some q) e k = next q e k
 
-    pub lists-as-grants : ListsAsGrants row
+    pub lists-as-grants : ListsAsGrants row F
     unfolding plan
     lists-as-grants a t total cap places ns z =
         let c = grantsList total cap places ns in
-        let y : Accepted row pos a t c = accepted row pos a t c tt z in
-        let M : Plan → Type 0 = λ p. p .answer .number ≡ 0 → AsGrants row ns (applied (engine row) a p) (granting row a t ns) in
-        subst (λ (r : Result). AsGrants row ns r (granting row a t ns)) (sym (y .left))
-        (on-list row M (view row (t .tables)) total cap places ns (λ r e. absurd (refuses r e))
+        let y : Accepted row pos F L a t c = accepted row pos F L a t c tt z in
+        let M : Plan → Type 0 = λ p. p .answer .number ≡ 0 → AsGrants row F ns (applied F a p) (granting row F a t ns) in
+        subst (λ (r : Outcome (F .Room)). AsGrants row F ns r (granting row F a t ns)) (sym (y .left))
+        (on-list row M (F .view t) total cap places ns (λ r e. absurd (refuses r e))
         (λ qs h e _.
-        let s = T-true (soundKept row (length a) t) (y .sound-tables) in
-        let g = subst (Granting (view row (t .tables)) a t ns) e (grantings (view row (t .tables)) a t ns refl s h) in
-        let w = engine-lawful row pos .only (length a) t (y .sound-tables) .0 .formed in
+        let s = T-true (F .sound (length a) t) (y .sound-tables) in
+        let g = subst (Granting (F .view t) a t ns) e (grantings (F .view t) a t ns refl s h) in
+        let w = L .only (length a) t (y .sound-tables) .0 .formed in
         record {
-          entries = ap (λ k. k ∷ []) (places-counted row (view row (t .tables)) ns qs w h e);
+          entries = ap (λ k. k ∷ []) (places-counted row (F .view t) ns qs w h e);
           handles = g .0;
           arena = sym (g .1);
           room = sym (g .2);
         })
-        (ap (λ (r : Result). r .answer .number) (sym (y .left)) ∙ z))
+        (ap (λ (r : Outcome (F .Room)). r .answer .number) (sym (y .left)) ∙ z))
 
-    pub lists-exactly : ListsExactly row
+    pub lists-exactly : ListsExactly row F
     unfolding plan grantList
     lists-exactly a t total cap places ns s p l k = by-places (reserveAll row P ns) refl
       where
         P : Pool
-        P = view row (t .tables)
+        P = F .view t
 
         whole : (o : Option (List Place)) → reserveAll row P ns ≡ o
-            → call row a t (grantsList total cap places ns) ≡ carried row a t (grantAllAt row P o)
+            → callBy row F a t (grantsList total cap places ns) ≡ carriedBy row F a t (grantAllAt row P o)
         whole o e =
-            call-sound row a t (T-true (soundKept row (length a) t) s) (grantsList total cap places ns) tt
-            ∙ ap (carried row a t)
+            call-sound row F a t (T-true (F .sound (length a) t) s) (grantsList total cap places ns) tt
+            ∙ ap (carriedBy row F a t)
             (choose-true (plannable total cap && leb entries places) _ _
             (T-true _ (and-both (plannable total cap) (leb entries places) p (le→leb entries places l)))
             ∙ choose-true (accepts total cap ns) _ _ (T-true (accepts total cap ns) k) ∙ ap (grantAllAt row P) e)
 
         by-places : (o : Option (List Place)) → reserveAll row P ns ≡ o
-            → (call row a t (grantsList total cap places ns) .answer .number ≡ 8) ↔ T (any eight (granting row a t ns .answers))
+            → (callBy row F a t (grantsList total cap places ns) .answer .number ≡ 8) ↔ T (any eight (granting row F a t ns .answers))
         by-places none e =
-            let n = ap (λ (r : Result). r .answer .number) (whole none e ∙ carried-whole row a t (grantAllAt row P none) refl) in
-            let g = subst (Granting P a t ns) e (grantings P a t ns refl (T-true (soundKept row (length a) t) s) (accepts-small total cap ns k)) in
+            let n = ap (λ (r : Outcome (F .Room)). r .answer .number) (whole none e ∙ carried-whole row F a t (grantAllAt row P none) refl) in
+            let g = subst (Granting P a t ns) e (grantings P a t ns refl (T-true (F .sound (length a) t) s) (accepts-small total cap ns k)) in
             ((λ _. g), λ _. n)
         by-places (some qs) e =
-            let n = ap (λ (r : Result). r .answer .number) (whole (some qs) e ∙ carried-whole row a t (grantAllAt row P (some qs)) refl) in
-            let g = subst (Granting P a t ns) e (grantings P a t ns refl (T-true (soundKept row (length a) t) s) (accepts-small total cap ns k)) in
+            let n = ap (λ (r : Outcome (F .Room)). r .answer .number) (whole (some qs) e ∙ carried-whole row F a t (grantAllAt row P (some qs)) refl) in
+            let g = subst (Granting P a t ns) e (grantings P a t ns refl (T-true (F .sound (length a) t) s) (accepts-small total cap ns k)) in
             ((λ x. absurd (omega (arith, n, x))), λ x. absurd (none-eight (map (handle row) qs) (subst (λ l. T (any eight l)) (g .0) x)))

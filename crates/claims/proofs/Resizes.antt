@@ -17,8 +17,7 @@ use Rattle.model.specs.Blocks.{reserved, header, guard, firstSpare, spare, head
 use Rattle.model.specs.Plans.{Plan, Call, grantsAligned, releases, resizes, plan, lookup, newSize, onHandle, releaseAt, release, discard, inPlace}
 use Rattle.model.specs.Plans.{resizeInPlace, resizeMove, moveTo, resizeAt, resize, reserve, grantAt, grantAs, grantAligned, enframe}
 use Rattle.model.specs.Tables.{view, arenaRight}
-use Rattle.model.specs.Calls.{KeptBytes, Stands, Result, engine, soundKept, applied, written, damaged, carried, call}
-use Rattle.model.proofs.Kept.{engine-lawful}
+use Rattle.model.specs.Calls.{Form, FormLaws, Stands, Outcome, applied, written, damaged, carriedBy, callBy}
 use Rattle.model.proofs.Fresh.{whole-units}
 use Rattle.model.proofs.Blocks.{header-length, guard-fits, spare-length, spare-first, frame-length}
 use Rattle.model.proofs.Lookup.{Fits, fits, disp-inside, owned-inside, Owns, outside-group}
@@ -175,17 +174,17 @@ module _ (row : ℕ) (pos : 0 < row) (a : List ℕ) (n : ℕ) (p : Place) (w : T
       bare : (x s h o k n r m : ℕ) → h ≤ r → r ≤ s → k ≤ n → o + n + r ≡ x + s → m ≡ n - k + (r - h) → x + (s - h) ≡ o + k + m
       bare x s h o k n r m j b i e f = omega arith
 
-  in-place-as-said : (P : Pool) (h : ℕ) → demand2.Intact row a P h p → (z : Result) → z ≡ applied (engine row) a (resizeInPlace row p n)
-      → InPlace row a h n p z
+  in-place-as-said : (F : Form) → FormLaws row F → (P : Pool) (h : ℕ) → demand2.Intact row a P h p
+      → (z : Outcome (F .Room)) → z ≡ applied F a (resizeInPlace row p n) → InPlace row F a h n p z
   unfolding resizeInPlace
-  in-place-as-said P h b z e =
-      let x : z .arena ≡ reframed = ap (λ (r : Result). r .arena) e in
-      let y : view row (z .room .tables) ≡ poolOf (sized p n) =
-      ap (λ (r : Result). view row (r .room .tables)) e
-      ∙ engine-lawful row pos .says (poolOf (sized p n)) (resize-in-place-formed row p n w (b .live .live) (asked .small) t .formed) in
+  in-place-as-said F L P h b z e =
+      let x : z .arena ≡ reframed = ap (λ (r : Outcome (F .Room)). r .arena) e in
+      let y : F .view (z .room) ≡ poolOf (sized p n) =
+      ap (λ (r : Outcome (F .Room)). F .view (r .room)) e
+      ∙ L .says (poolOf (sized p n)) (resize-in-place-formed row p n w (b .live .live) (asked .small) t .formed) in
       record {
         serves = serves;
-        value = ap (λ (r : Result). r .answer .values) e ∙ ap (λ v. v ∷ []) (b .present);
+        value = ap (λ (r : Outcome (F .Room)). r .answer .values) e ∙ ap (λ v. v ∷ []) (b .present);
         pool = y;
         long = ap length x ∙ put-length (o + k) tail headed ∙ put-length (o - 4) head a;
         kept = λ i b.
@@ -300,38 +299,8 @@ module _ (row : ℕ) (pos : 0 < row) (P : Pool) (w : T (wellFormed P)) (a : List
       rw (s .slot .first, s .slot .cls, s .slot .number, s .state) in
       e ∙ rw (old-bytes, T-true (headerDue row a p) (i .header), T-true (guardDue row a p) (i .guard))
 
-  -- the release over the copy
-  release-done : T (arenaRight row (length a)) → T (aligned row P)
-      → call row copy (engine row .encode (poolOf q)) (releases h) ≡ applied (engine row) copy (releaseAt row (beside .place))
-  unfolding plan
-  release-done m b =
-      let u : KeptBytes = engine row .encode (poolOf q) in
-      let x : T (soundKept row (length copy) u) =
-      engine-lawful row pos .right (length copy) (poolOf q) (record {
-        lawful = subst (λ m. T (arenaRight row m)) (sym copy-length) m;
-        long = copy-length ∙ long ∙ ap (λ m. row * m) (sym (made .long));
-        formed = made .formed;
-        bounds = made .bounds (whole-units row (length a) m) b;
-      }) in
-      call-sound row copy u (T-true (soundKept row (length copy) u) x) (releases h) tt
-      ∙ ap (carried row copy u)
-      (ap (λ Q. release row Q h) (engine-lawful row pos .says (poolOf q) (made .formed)) ∙ released-old)
-      ∙ carried-whole row copy u (releaseAt row (beside .place)) (ap (damaged row copy) (release-parts row (beside .place) .0) ∙ old-whole)
-
   new-owns : (j : ℕ) → j < stay p n → Owns row q (start row q + j)
   new-owns j h = record { from = omega arith; to = omega (arith, inside-q, short .1) }
-
-  -- no byte of the new block is cleared by it
-  new-kept : (r : Result) → Waits row copy (beside .place) r ⊎ Goes row copy (beside .place) r → (j : ℕ) → Owns row q j
-      → getD (r .arena) j 0 ≡ getD copy j 0
-  new-kept r (inl v) j o =
-      let e : owned row (beside .place) ≡ owned row p = slot-owned row p (beside .place) (beside .stays .slot) in
-      let f : slotBytes (beside .place .cls) ≡ slotBytes (p .cls) = ap slotBytes (beside .stays .slot .cls) in
-      v .bytes .others j (⊎-elim (λ x. inr (omega (arith, x, o .from))) (λ x. inl (omega (arith, x, o .to))) apart)
-  new-kept r (inr g) j o =
-      g .bytes .others j
-      (outside-group row pos (beside .place) q j (beside .formed) (sym (beside .pool)) (λ e. beside .other (sym e))
-      (reserve-live row P code n q (served row P code n q w found)) o (g .none-live))
 
   -- the new block has the bytes that the old one had
   copy-there : (j : ℕ) → j < stay p n → getD copy (start row q + j) 0 ≡ getD a (start row p + j) 0
@@ -344,30 +313,63 @@ module _ (row : ℕ) (pos : 0 < row) (P : Pool) (w : T (wellFormed P)) (a : List
       ∙ ⊎-elim (λ x. put-before (owned row q) framed a (start row p + j) 0 (omega (arith, x, inside-p, short .0)))
       (λ x. put-past (owned row q) framed a (start row p + j) 0 (omega (arith, x, framed-length))) apart
 
-  -- the grant, the copy and the release make the move
-  moved : (g z : Result) → g ≡ applied (engine row) a (grantAt row P (some q)) → T (arenaRight row (length a)) → T (aligned row P)
-      → inPlace p n ≡ false → z ≡ applied (engine row) a (moveTo row P p n (some q)) → MovedBy row a h n p g z
-  unfolding enframe
-  moved g z e m b f l =
-      let r : Result = call row copy (engine row .encode (poolOf q)) (releases h) in
-      let x : r ≡ applied (engine row) copy (releaseAt row (beside .place)) = release-done m b in
-      let v : startOf (handle row q) ≡ start row q = start-cleared row (whole-units row (length a) m) q in
-      let G : Result = applied (engine row) a (grantAt row P (some q)) in
-      let y : z .arena ≡ r .arena =
-      ap (λ (r : Result). r .arena) l ∙ ap (λ (d : Plan). written copy (d .changes)) discarded-old ∙ sym (ap (λ (r : Result). r .arena) x) in
-      subst (λ (g : Result). MovedBy row a h n p g z) (sym e)
-      (subst (λ s. Moved row a h n p G (handle row q) (put s first laid) z) (sym v) (record {
-        serves-not = λ v. subst T f (in-place-serves p n (asked .some-code) .1 v);
-        granted = refl;
-        answer = ap (λ (r : Result). r .answer) l;
-        released = ap (λ (r : Result). r .answer .number) x ∙ ap (λ r. r .number) (release-parts row (beside .place) .1);
-        arena = y;
-        room = ap (λ (r : Result). r .room) l ∙ ap (λ (d : Plan). engine row .encode (d .pool)) discarded-old ∙ sym (ap (λ (r : Result). r .room) x);
-        kept = λ j k.
-            ap (λ s. getD (z .arena) (s + j) 0) v ∙ ap (λ b. getD b (start row q + j) 0) y
-            ∙ new-kept r (released-as-said row pos copy (beside .place) (beside .formed) (beside .live) r x) (start row q + j) (new-owns j k)
-            ∙ copy-there j k;
-      }))
+  module _ (F : Form) (L : FormLaws row F) where
+    -- the release over the copy
+    release-done : T (arenaRight row (length a)) → T (aligned row P)
+        → callBy row F copy (F .encode (poolOf q)) (releases h) ≡ applied F copy (releaseAt row (beside .place))
+    unfolding plan
+    release-done m b =
+        let u : F .Room = F .encode (poolOf q) in
+        let x : T (F .sound (length copy) u) =
+        L .right (length copy) (poolOf q) (record {
+          lawful = subst (λ m. T (arenaRight row m)) (sym copy-length) m;
+          long = copy-length ∙ long ∙ ap (λ m. row * m) (sym (made .long));
+          formed = made .formed;
+          bounds = made .bounds (whole-units row (length a) m) b;
+        }) in
+        call-sound row F copy u (T-true (F .sound (length copy) u) x) (releases h) tt
+        ∙ ap (carriedBy row F copy u)
+        (ap (λ Q. release row Q h) (L .says (poolOf q) (made .formed)) ∙ released-old)
+        ∙ carried-whole row F copy u (releaseAt row (beside .place)) (ap (damaged row copy) (release-parts row (beside .place) .0) ∙ old-whole)
+
+    -- no byte of the new block is cleared by it
+    new-kept : (r : Outcome (F .Room)) → Waits row F copy (beside .place) r ⊎ Goes row F copy (beside .place) r → (j : ℕ) → Owns row q j
+        → getD (r .arena) j 0 ≡ getD copy j 0
+    new-kept r (inl v) j o =
+        let e : owned row (beside .place) ≡ owned row p = slot-owned row p (beside .place) (beside .stays .slot) in
+        let f : slotBytes (beside .place .cls) ≡ slotBytes (p .cls) = ap slotBytes (beside .stays .slot .cls) in
+        v .bytes .others j (⊎-elim (λ x. inr (omega (arith, x, o .from))) (λ x. inl (omega (arith, x, o .to))) apart)
+    new-kept r (inr g) j o =
+        g .bytes .others j
+        (outside-group row pos (beside .place) q j (beside .formed) (sym (beside .pool)) (λ e. beside .other (sym e))
+        (reserve-live row P code n q (served row P code n q w found)) o (g .none-live))
+
+    -- the grant, the copy and the release make the move
+    moved : (g z : Outcome (F .Room)) → g ≡ applied F a (grantAt row P (some q)) → T (arenaRight row (length a)) → T (aligned row P)
+        → inPlace p n ≡ false → z ≡ applied F a (moveTo row P p n (some q)) → MovedBy row F a h n p g z
+    unfolding enframe
+    moved g z e m b f l =
+        let r : Outcome (F .Room) = callBy row F copy (F .encode (poolOf q)) (releases h) in
+        let x : r ≡ applied F copy (releaseAt row (beside .place)) = release-done m b in
+        let v : startOf (handle row q) ≡ start row q = start-cleared row (whole-units row (length a) m) q in
+        let G : Outcome (F .Room) = applied F a (grantAt row P (some q)) in
+        let y : z .arena ≡ r .arena =
+        ap (λ (r : Outcome (F .Room)). r .arena) l ∙ ap (λ (d : Plan). written copy (d .changes)) discarded-old
+        ∙ sym (ap (λ (r : Outcome (F .Room)). r .arena) x) in
+        subst (λ (g : Outcome (F .Room)). MovedBy row F a h n p g z) (sym e)
+        (subst (λ s. Moved row F a h n p G (handle row q) (put s first laid) z) (sym v) (record {
+          serves-not = λ v. subst T f (in-place-serves p n (asked .some-code) .1 v);
+          granted = refl;
+          answer = ap (λ (r : Outcome (F .Room)). r .answer) l;
+          released = ap (λ (r : Outcome (F .Room)). r .answer .number) x ∙ ap (λ r. r .number) (release-parts row (beside .place) .1);
+          arena = y;
+          room = ap (λ (r : Outcome (F .Room)). r .room) l ∙ ap (λ (d : Plan). F .encode (d .pool)) discarded-old
+              ∙ sym (ap (λ (r : Outcome (F .Room)). r .room) x);
+          kept = λ j k.
+              ap (λ s. getD (z .arena) (s + j) 0) v ∙ ap (λ b. getD b (start row q + j) 0) y
+              ∙ new-kept r (released-as-said row pos F L copy (beside .place) (beside .formed) (beside .live) r x) (start row q + j) (new-owns j k)
+              ∙ copy-there j k;
+        }))
 
 -- ---- every accepted resize
 
@@ -378,67 +380,67 @@ aligned-as row P k n s l =
     let e : codeOf (alignOf k) ≡ k = code-align k s l in
     choose-true (ltb 0 (codeOf (alignOf k))) _ _ (lt-ltb 0 (codeOf (alignOf k)) (omega (arith, e))) ∙ ap (λ j. grantAs row P j n) e
 
-module _ (row : ℕ) (pos : 0 < row) (a : List ℕ) (t : KeptBytes) (sound : T (soundKept row (length a) t)) (n : ℕ) (p : Place)
+module _ (row : ℕ) (pos : 0 < row) (F : Form) (L : FormLaws row F) (a : List ℕ) (t : F .Room) (sound : T (F .sound (length a) t)) (n : ℕ) (p : Place)
     (asked : Askable (align (p .state)) n) where
   abbrev P : Pool
-  P = view row (t .tables)
+  P = F .view t
 
   s : Stands row (length a) P
-  s = engine-lawful row pos .only (length a) t sound .0
+  s = L .only (length a) t sound .0
 
   -- the grant of a move
   abbrev asks : Call
   asks = grantsAligned n (alignOf (align (p .state)))
 
-  grant-done : (q : Place) → reserve row P (align (p .state)) n ≡ some q → call row a t asks ≡ applied (engine row) a (grantAt row P (some q))
+  grant-done : (q : Place) → reserve row P (align (p .state)) n ≡ some q → callBy row F a t asks ≡ applied F a (grantAt row P (some q))
   unfolding plan grantAs
   grant-done q e =
       let k : ℕ = align (p .state) in
-      call-sound row a t (T-true (soundKept row (length a) t) sound) asks tt
-      ∙ ap (carried row a t) (aligned-as row P k n (asked .some-code) (asked .last-code)
+      call-sound row F a t (T-true (F .sound (length a) t) sound) asks tt
+      ∙ ap (carriedBy row F a t) (aligned-as row P k n (asked .some-code) (asked .last-code)
       ∙ choose-false (leb tooLarge (enlarged k n)) _ (grantAt row P (reserve row P k n)) (lt-leb tooLarge (enlarged k n) (asked .small))
       ∙ ap (grantAt row P) e)
-      ∙ carried-whole row a t (grantAt row P (some q)) refl
+      ∙ carried-whole row F a t (grantAt row P (some q)) refl
 
   -- a resize that was done, of the block p
-  resized-as-said : (h : ℕ) → demand2.Intact row a P h p → (z : Result) → z .answer .number ≡ 0
-      → z ≡ applied (engine row) a (resizeAt row P n p) → InPlace row a h n p z ⊎ MovedBy row a h n p (call row a t asks) z
+  resized-as-said : (h : ℕ) → demand2.Intact row a P h p → (z : Outcome (F .Room)) → z .answer .number ≡ 0
+      → z ≡ applied F a (resizeAt row P n p) → InPlace row F a h n p z ⊎ MovedBy row F a h n p (callBy row F a t asks) z
   unfolding resizeAt resizeMove
   resized-as-said h i z d l =
-      choose-case (λ (r : Plan). z ≡ applied (engine row) a r → InPlace row a h n p z ⊎ M) (inPlace p n) (resizeInPlace row p n)
+      choose-case (λ (r : Plan). z ≡ applied F a r → InPlace row F a h n p z ⊎ M) (inPlace p n) (resizeInPlace row p n)
       (resizeMove row P p n)
       (λ e l. inl (in-place-as-said row pos a n p (place-formed row pos P (s .formed) a h p i)
-      (s .long ∙ ap (λ Q. row * rows row Q) (sym (i .live .here .slotted .pool))) asked (true-T (inPlace p n) e) P h i z l))
+      (s .long ∙ ap (λ Q. row * rows row Q) (sym (i .live .here .slotted .pool))) asked (true-T (inPlace p n) e) F L P h i z l))
       (λ e l. inr (go e (reserve row P (align (p .state)) n) refl l)) l
     where
       M : Type 0
-      M = MovedBy row a h n p (call row a t asks) z
+      M = MovedBy row F a h n p (callBy row F a t asks) z
 
-      go : inPlace p n ≡ false → (r : Option Place) → reserve row P (align (p .state)) n ≡ r → z ≡ applied (engine row) a (moveTo row P p n r) → M
-      go e none f l = absurd (omega (arith, d, ap (λ (r : Result). r .answer .number) l))
+      go : inPlace p n ≡ false → (r : Option Place) → reserve row P (align (p .state)) n ≡ r → z ≡ applied F a (moveTo row P p n r) → M
+      go e none f l = absurd (omega (arith, d, ap (λ (r : Outcome (F .Room)). r .answer .number) l))
       go e (some q) f l =
-          moved row pos P (s .formed) a (s .long) n p asked q f h i (call row a t asks) z (grant-done q f) (s .lawful) (s .bounds) e l
+          moved row pos P (s .formed) a (s .long) n p asked q f h i F L (callBy row F a t asks) z (grant-done q f) (s .lawful) (s .bounds) e l
 
-pub resizes-as-said : (row : ℕ) → 0 < row → ResizesAsSaid row
+pub resizes-as-said : (row : ℕ) → 0 < row → (F : Form) → FormLaws row F → ResizesAsSaid row F
 unfolding plan resize
-resizes-as-said row pos a t h n z =
+resizes-as-said row pos F L a t h n z =
     let c : Call = resizes h n in
     let o : ℕ = startOf h in
-    let y : Accepted row pos a t c = accepted row pos a t c tt z in
-    let P : Pool = view row (t .tables) in
-    let w : T (wellFormed P) = engine-lawful row pos .only (length a) t (y .sound-tables) .0 .formed in
-    let (_, (n₃, m)) = none-due (Due row a t c) (order c) _ (demand1 row pos a t c .number) z in
+    let y : Accepted row pos F L a t c = accepted row pos F L a t c tt z in
+    let P : Pool = F .view t in
+    let w : T (wellFormed P) = L .only (length a) t (y .sound-tables) .0 .formed in
+    let (_, (n₃, m)) = none-due (Due row F a t c) (order c) _ (demand1 row pos F L a t c .number) z in
     let x : ℕ = newSize (lookup row P o) n in
     let s : x < tooLarge = not-large x (λ g. n₃ (resize-large row pos P h n w .0 g)) in
-    let (p, i) = found-intact row pos a t (y .sound-tables) c (NoRoom ∷ []) m in
+    let (p, i) = found-intact row pos F L a t (y .sound-tables) c (NoRoom ∷ []) m in
     let k : Askable (align (p .state)) n =
     resizable row pos P o n w p (starts-found row pos P o p w (i .live .here)) (i .live .here .slotted .pool) (i .live .live) s in
-    let l : call row a t c ≡ applied (engine row) a (resizeAt row P n p) =
+    let l : callBy row F a t c ≡ applied F a (resizeAt row P n p) =
     y .left
-    ∙ ap (applied (engine row) a)
+    ∙ ap (applied F a)
     (choose-false (leb tooLarge x) _ (onHandle row P h (resizeAt row P n)) (lt-leb tooLarge x s)
     ∙ on-intact row pos P w a h p i (resizeAt row P n)) in
-    (p, record { block = i; done = resized-as-said row pos a t (y .sound-tables) n p k h i (call row a t c) z l })
+    (p, record { block = i; done = resized-as-said row pos F L a t (y .sound-tables) n p k h i (callBy row F a t c) z l })
   where
     not-large : (x : ℕ) → (tooLarge ≤ x → ⊥) → x < tooLarge
     not-large x f = omega (arith, f)

@@ -10,10 +10,8 @@ use Rattle.model.specs.declared.Slot.the-variants.{Fresh, Idle, Live}
 use Rattle.model.specs.State.{Pool, Place, isLive, count, disp, size, align, slotSound, wellFormed, useBits, startOf, poolOf, start, SameSlot, handle}
 use Rattle.model.specs.Plans.{Plan, releaseAt, release, resizeInPlace, freshPool, plan, vacant}
 use Rattle.model.specs.Plans.{Call, setsUp, grants, grantsAligned, releases, resizes, measures, reports, grantsList}
-use Rattle.model.specs.Tables.{byMasks, view}
-use Rattle.model.specs.Calls.{KeptBytes, Result, soundKept, call}
+use Rattle.model.specs.Calls.{Form, FormLaws, Outcome, callBy}
 use Rattle.model.proofs.Fresh.{whole-units, fresh-formed}
-use Rattle.model.proofs.Tables.{sound-facts}
 use Rattle.model.proofs.Lookup.{fits, disp-inside, place-unique, owned-unique}
 use Rattle.model.proofs.Stays.{slot-after, slot-back, no-group}
 use Rattle.model.proofs.Moves.{slot-owned, Old, old, old-released}
@@ -31,42 +29,42 @@ use Rattle.claims.proofs.Resizes.{resizes-as-said}
 use Rattle.claims.proofs.Stays.{sound-formed, accepted-pool}
 use Rattle.claims.proofs.Slots.{given-back, as-it-was, plan-steps}
 
-pub starts-cleared : (row : ℕ) → StartsCleared row
-starts-cleared row n t p s e = start-cleared row (whole-units row n (sound-facts byMasks row n t s .lawful)) p
+pub starts-cleared : (row : ℕ) (F : Form) → FormLaws row F → StartsCleared row F
+starts-cleared row F L n t p s e = start-cleared row (whole-units row n (L .only n t s .0 .lawful)) p
 
 -- ---- what a call leaves of the pool
 
-module _ (row : ℕ) (pos : 0 < row) where
+module _ (row : ℕ) (pos : 0 < row) (F : Form) (L : FormLaws row F) where
   -- a refused call leaves it, a set up makes a fresh one, and any other leaves that of its plan
-  after-call : (a : List ℕ) (t : KeptBytes) (M : Call → Pool → Type 0) → ((c : Call) → M c (view row (t .tables))) → ((n : ℕ) → M setsUp (freshPool n))
-      → ((c : Call) → Asks c → M c (plan row (view row (t .tables)) c .pool)) → (c : Call) → M c (view row (call row a t c .room .tables))
-  after-call a t M as-is fresh planned c = go (eqb (call row a t c .answer .number) 0) refl
+  after-call : (a : List ℕ) (t : F .Room) (M : Call → Pool → Type 0) → ((c : Call) → M c (F .view t)) → ((n : ℕ) → M setsUp (freshPool n))
+      → ((c : Call) → Asks c → M c (plan row (F .view t) c .pool)) → (c : Call) → M c (F .view (callBy row F a t c .room))
+  after-call a t M as-is fresh planned c = go (eqb (callBy row F a t c .answer .number) 0) refl
     where
-      go : (b : Bool) → eqb (call row a t c .answer .number) 0 ≡ b → M c (view row (call row a t c .room .tables))
+      go : (b : Bool) → eqb (callBy row F a t c .answer .number) 0 ≡ b → M c (F .view (callBy row F a t c .room))
       go true e =
-          by-call (λ c. call row a t c .answer .number ≡ 0 → M c (view row (call row a t c .room .tables)))
-          (λ z. subst (M setsUp) (sym (sets-up-as-said row pos a t z .pool)) (fresh (length a / row)))
-          (λ c k z. subst (M c) (sym (accepted-pool row pos a t c (accepted row pos a t c k z))) (planned c k)) c
-          (eqb-true (call row a t c .answer .number) 0 e)
+          by-call (λ c. callBy row F a t c .answer .number ≡ 0 → M c (F .view (callBy row F a t c .room)))
+          (λ z. subst (M setsUp) (sym (sets-up-as-said row pos F L a t z .pool)) (fresh (length a / row)))
+          (λ c k z. subst (M c) (sym (accepted-pool row pos F L a t c (accepted row pos F L a t c k z))) (planned c k)) c
+          (eqb-true (callBy row F a t c .answer .number) 0 e)
       go false e =
-          subst (λ (u : KeptBytes). M c (view row (u .tables)))
-          (sym (demand1 row pos a t c .refused (eqb-false (call row a t c .answer .number) 0 e) .1)) (as-is c)
+          subst (λ (u : F .Room). M c (F .view u))
+          (sym (demand1 row pos F L a t c .refused (eqb-false (callBy row F a t c .answer .number) 0 e) .1)) (as-is c)
 
-  call-formed : (a : List ℕ) (t : KeptBytes) (c : Call) → T (wellFormed (view row (t .tables))) → T (wellFormed (view row (call row a t c .room .tables)))
+  call-formed : (a : List ℕ) (t : F .Room) (c : Call) → T (wellFormed (F .view t)) → T (wellFormed (F .view (callBy row F a t c .room)))
   call-formed a t c w =
-      after-call a t (λ _ P. T (wellFormed P)) (λ _. w) fresh-formed (λ c _. plan-formed row pos (view row (t .tables)) c w .formed) c
+      after-call a t (λ _ P. T (wellFormed P)) (λ _. w) fresh-formed (λ c _. plan-formed row pos (F .view t) c w .formed) c
 
   -- a slot over a call
-  call-steps : (a : List ℕ) (t : KeptBytes) (c : Call) (p q : Place) → T (wellFormed (view row (t .tables))) → poolOf p ≡ view row (t .tables)
-      → poolOf q ≡ view row (call row a t c .room .tables) → SameSlot row p q → Steps c (p .state) (q .state)
+  call-steps : (a : List ℕ) (t : F .Room) (c : Call) (p q : Place) → T (wellFormed (F .view t)) → poolOf p ≡ F .view t
+      → poolOf q ≡ F .view (callBy row F a t c .room) → SameSlot row p q → Steps c (p .state) (q .state)
   call-steps a t c p q w e =
       after-call a t (λ c P. poolOf q ≡ P → SameSlot row p q → Steps c (p .state) (q .state))
-      (λ c. as-it-was row pos (view row (t .tables)) w p e c q)
+      (λ c. as-it-was row pos (F .view t) w p e c q)
       (λ n f _. absurd (no-group n (q .cls) (q .lower ++ (q .state ∷ q .upper)) (q .before) (q .after) (sym f)))
-      (λ c k. plan-steps row pos (view row (t .tables)) w p e c k (plan-formed row pos (view row (t .tables)) c w .formed) q) c
+      (λ c k. plan-steps row pos (F .view t) w p e c k (plan-formed row pos (F .view t) c w .formed) q) c
 
-  pub counts-step : CountsStep row
-  counts-step a t c p q s e f = call-steps a t c p q (sound-formed row pos a t s) e f
+  pub counts-step : CountsStep row F
+  counts-step a t c p q s e f = call-steps a t c p q (sound-formed row pos F L a t s) e f
 
   -- ---- a block that a call ends
 
@@ -111,20 +109,21 @@ module _ (row : ℕ) (pos : 0 < row) where
         (λ r z. absurd (refuses r z)) h (releaseAt row) (λ o b _. release-ends o b)
 
   -- the slot of a block in the tables that a call leaves which ends it
-  call-ends : (a : List ℕ) (t : KeptBytes) (h : ℕ) (p : Place) → Intact row a (view row (t .tables)) h p → (c : Call) → call row a t c .answer .number ≡ 0
-      → Ends c h (call row a t c) → (q : Place) → poolOf q ≡ view row (call row a t c .room .tables) → SameSlot row p q
+  call-ends : (a : List ℕ) (t : F .Room) (h : ℕ) (p : Place) → Intact row a (F .view t) h p → (c : Call) → callBy row F a t c .answer .number ≡ 0
+      → Ends c h (callBy row F a t c .answer) → (q : Place) → poolOf q ≡ F .view (callBy row F a t c .room) → SameSlot row p q
       → (count (q .state) ≡ count (p .state)) × (T (isLive (q .state)) → ⊥)
   call-ends a t h p i (releases k) z n q f s =
-      let y : Accepted row pos a t (releases k) = accepted row pos a t (releases k) tt z in
-      let P : Pool = view row (t .tables) in
-      release-plan-ends P (sound-formed row pos a t (y .sound-tables)) k p (i .live .here .slotted .pool) (i .live .here .starts ∙ ap startOf (sym n))
-      (ap (λ (r : Result). r .answer .number) (sym (y .left)) ∙ z) q (f ∙ accepted-pool row pos a t (releases k) y) s
+      let y : Accepted row pos F L a t (releases k) = accepted row pos F L a t (releases k) tt z in
+      let P : Pool = F .view t in
+      release-plan-ends P (sound-formed row pos F L a t (y .sound-tables)) k p (i .live .here .slotted .pool) (i .live .here .starts ∙ ap startOf (sym n))
+      (ap (λ (r : Outcome (F .Room)). r .answer .number) (sym (y .left)) ∙ z) q (f ∙ accepted-pool row pos F L a t (releases k) y) s
   call-ends a t h p i (resizes k m) z (n, d) q f s =
-      let y : Accepted row pos a t (resizes k m) = accepted row pos a t (resizes k m) tt z in
-      let P : Pool = view row (t .tables) in
-      resize-ends P (sound-formed row pos a t (y .sound-tables)) k p (i .live .here .slotted .pool) (i .live .here .starts ∙ ap startOf (sym n)) m
-      (ap (λ (r : Result). r .answer .number) (sym (y .left)) ∙ z) (λ v. d (ap (λ (r : Result). r .answer .values) (y .left) ∙ v ∙ ap (λ j. j ∷ []) n)) q
-      (f ∙ accepted-pool row pos a t (resizes k m) y) s
+      let y : Accepted row pos F L a t (resizes k m) = accepted row pos F L a t (resizes k m) tt z in
+      let P : Pool = F .view t in
+      resize-ends P (sound-formed row pos F L a t (y .sound-tables)) k p (i .live .here .slotted .pool) (i .live .here .starts ∙ ap startOf (sym n)) m
+      (ap (λ (r : Outcome (F .Room)). r .answer .number) (sym (y .left)) ∙ z)
+      (λ v. d (ap (λ (r : Outcome (F .Room)). r .answer .values) (y .left) ∙ v ∙ ap (λ j. j ∷ []) n)) q
+      (f ∙ accepted-pool row pos F L a t (resizes k m) y) s
   call-ends a t h p i setsUp z n q f s = absurd n
   call-ends a t h p i (grants m) z n q f s = absurd n
   call-ends a t h p i (grantsAligned m b) z n q f s = absurd n
@@ -133,19 +132,19 @@ module _ (row : ℕ) (pos : 0 < row) where
   call-ends a t h p i (grantsList total cap places ns) z n q f s = absurd n
 
   -- a call that is done on a handle has found its block
-  call-finds : (b : List ℕ) (t : KeptBytes) (h : ℕ) (c : Call) → Uses c h → call row b t c .answer .number ≡ 0
-      → (p : Place) × Intact row b (view row (t .tables)) h p
+  call-finds : (b : List ℕ) (t : F .Room) (h : ℕ) (c : Call) → Uses c h → callBy row F b t c .answer .number ≡ 0
+      → (p : Place) × Intact row b (F .view t) h p
   call-finds b t h setsUp u z = absurd u
   call-finds b t h (grants m) u z = absurd u
   call-finds b t h (grantsAligned m d) u z = absurd u
   call-finds b t h (releases k) u z =
-      let (p, r) = releases-as-said row pos b t k z in (p, subst (λ j. Intact row b (view row (t .tables)) j p) u (r .block))
+      let (p, r) = releases-as-said row pos F L b t k z in (p, subst (λ j. Intact row b (F .view t) j p) u (r .block))
   call-finds b t h (resizes k m) u z =
-      let (p, r) = resizes-as-said row pos b t k m z in (p, subst (λ j. Intact row b (view row (t .tables)) j p) u (r .block))
+      let (p, r) = resizes-as-said row pos F L b t k m z in (p, subst (λ j. Intact row b (F .view t) j p) u (r .block))
   call-finds b t h (measures k) u z =
-      let s : T (soundKept row (length b) t) = accepted row pos b t (measures k) tt z .sound-tables in
-      let (p, r) = measures-exactly row pos b t k s .0 .0 z in
-      (p, subst (λ j. Intact row b (view row (t .tables)) j p) u r)
+      let s : T (F .sound (length b) t) = accepted row pos F L b t (measures k) tt z .sound-tables in
+      let (p, r) = measures-exactly row pos F L b t k s .0 .0 z in
+      (p, subst (λ j. Intact row b (F .view t) j p) u r)
   call-finds b t h reports u z = absurd u
   call-finds b t h (grantsList total cap places ns) u z = absurd u
 
@@ -205,25 +204,25 @@ count-byte c (Idle r k d) l t = absurd l
 count-byte c (Live a) l t = ltb→lt (a .count) 256 (search (and-left, and-right))
 
 -- what holds after every call holds at first
-remains-first : (row : ℕ) (p : Place) (t : KeptBytes) (cs : List Asked) → RemainsAll row p t cs → Remains row p t
+remains-first : (row : ℕ) (F : Form) (p : Place) (t : F .Room) (cs : List Asked) → RemainsAll row F p t cs → Remains row F p t
 unfolding RemainsAll
-remains-first row p t [] r = r
-remains-first row p t (c ∷ cs) r = r .0
+remains-first row F p t [] r = r
+remains-first row F p t (c ∷ cs) r = r .0
 
-pub stale-refused : (row : ℕ) → 0 < row → StaleRefused row
+pub stale-refused : (row : ℕ) → 0 < row → (F : Form) → FormLaws row F → StaleRefused row F
 unfolding RemainsAll after
-stale-refused row pos a t h p ends i z n cs all b c u y =
+stale-refused row pos F L a t h p ends i z n cs all b c u y =
     let k : ℕ = count (p .state) in
-    let t₁ : KeptBytes = call row a t ends .room in
-    let r : Remains row p t₁ = remains-first row p t₁ cs all in
-    let d = call-ends row pos a t h p i ends z n (r .now) (r .there) (r .slot) in
-    go cs t₁ (call-formed row pos a t ends first) (r .now) (r .there) (r .slot)
+    let t₁ : F .Room = callBy row F a t ends .room in
+    let r : Remains row F p t₁ = remains-first row F p t₁ cs all in
+    let d = call-ends row pos F L a t h p i ends z n (r .now) (r .there) (r .slot) in
+    go cs t₁ (call-formed row pos F L a t ends first) (r .now) (r .there) (r .slot)
     (record { times = 0; counts = d .0 ∙ omega (arith, byte); few = omega arith; again = λ l. absurd (d .1 l) }) all y
   where
-    first : T (wellFormed (view row (t .tables)))
+    first : T (wellFormed (F .view t))
     first =
-        let k : Asks ends = by-call (λ c. Ends c h (call row a t c) → Asks c) (λ z. z) (λ c k _. k) ends n in
-        sound-formed row pos a t (accepted row pos a t ends k z .sound-tables)
+        let k : Asks ends = by-call (λ c. Ends c h (callBy row F a t c .answer) → Asks c) (λ z. z) (λ c k _. k) ends n in
+        sound-formed row pos F L a t (accepted row pos F L a t ends k z .sound-tables)
 
     formed : T (wellFormed (poolOf p))
     formed = subst (λ Q. T (wellFormed Q)) (sym (i .live .here .slotted .pool)) first
@@ -231,16 +230,16 @@ stale-refused row pos a t h p ends i z n cs all b c u y =
     byte : count (p .state) < 256
     byte = count-byte (p .cls) (p .state) (i .live .live) (fits p formed .state)
 
-    go : (cs : List Asked) (t : KeptBytes) → T (wellFormed (view row (t .tables))) → (q : Place) → poolOf q ≡ view row (t .tables) → SameSlot row p q
-        → Since (count (p .state)) (q .state) → RemainsAll row p t cs → call row b (after row t cs) c .answer .number ≡ 0 → ⊥
+    go : (cs : List Asked) (t : F .Room) → T (wellFormed (F .view t)) → (q : Place) → poolOf q ≡ F .view t → SameSlot row p q
+        → Since (count (p .state)) (q .state) → RemainsAll row F p t cs → callBy row F b (after row F t cs) c .answer .number ≡ 0 → ⊥
     go [] t w q e s m all y =
-        let (r, x) = call-finds row pos b t h c u y in
-        since-refused row pos (view row (t .tables)) w h p q r formed (i .live .here .starts) (i .present) e s m
+        let (r, x) = call-finds row pos F L b t h c u y in
+        since-refused row pos (F .view t) w h p q r formed (i .live .here .starts) (i .present) e s m
         (x .live .here .slotted .pool) (x .live .live) (x .live .here .starts) (x .present)
     go (x ∷ cs) t w q e s m (_, all) y =
-        let t′ : KeptBytes = call row (x .arena) t (x .asks) .room in
-        let r : Remains row p t′ = remains-first row p t′ cs all in
+        let t′ : F .Room = callBy row F (x .arena) t (x .asks) .room in
+        let r : Remains row F p t′ = remains-first row F p t′ cs all in
         let d : Steps (x .asks) (q .state) (r .now .state) =
-        call-steps row pos (x .arena) t (x .asks) q (r .now) w e (r .there) (slot-after row q p (r .now) (slot-back row p q s) (r .slot)) in
-        go cs t′ (call-formed row pos (x .arena) t (x .asks) w) (r .now) (r .there) (r .slot)
+        call-steps row pos F L (x .arena) t (x .asks) q (r .now) w e (r .there) (slot-after row q p (r .now) (slot-back row p q s) (r .slot)) in
+        go cs t′ (call-formed row pos F L (x .arena) t (x .asks) w) (r .now) (r .there) (r .slot)
         (since-steps (x .asks) (count (p .state)) (q .state) (r .now .state) byte m d (r .few)) all y

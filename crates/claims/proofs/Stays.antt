@@ -11,9 +11,7 @@ use Rattle.model.specs.State.{Pool, Place, group, isLive, align, wellFormed, st
 use Rattle.model.specs.Plans.{Plan, reserve, reserveAll, poolAfter, vacant, releaseAt, release, discard}
 use Rattle.model.specs.Plans.{resizeInPlace, moveTo, resize, measureAt, measure, report, freshPool, plan}
 use Rattle.model.specs.Plans.{Call, setsUp, grants, grantsAligned, releases, resizes, measures, reports, grantsList}
-use Rattle.model.specs.Tables.{view}
-use Rattle.model.specs.Calls.{KeptBytes, Result, soundKept, call}
-use Rattle.model.proofs.Kept.{engine-lawful}
+use Rattle.model.specs.Calls.{Form, FormLaws, Outcome, callBy}
 use Rattle.model.proofs.Fresh.{fresh-rows}
 use Rattle.model.proofs.Calls.{Asks}
 use Rattle.model.proofs.Lookup.{placed, same-placed, groupOf, lookup-found}
@@ -230,24 +228,24 @@ live-at row P o p e l s = record {
   live = l;
 }
 
-module _ (row : ℕ) (pos : 0 < row) (a : List ℕ) (t : KeptBytes) where
+module _ (row : ℕ) (pos : 0 < row) (F : Form) (L : FormLaws row F) (a : List ℕ) (t : F .Room) where
   -- sound tables say a well-formed pool
-  pub sound-formed : T (soundKept row (length a) t) → T (wellFormed (view row (t .tables)))
-  sound-formed s = engine-lawful row pos .only (length a) t s .0 .formed
+  pub sound-formed : T (F .sound (length a) t) → T (wellFormed (F .view t))
+  sound-formed s = L .only (length a) t s .0 .formed
 
   -- the tables that an accepted call leaves say the pool of its plan
-  pub accepted-pool : (c : Call) → Accepted row pos a t c → view row (call row a t c .room .tables) ≡ plan row (view row (t .tables)) c .pool
+  pub accepted-pool : (c : Call) → Accepted row pos F L a t c → F .view (callBy row F a t c .room) ≡ plan row (F .view t) c .pool
   accepted-pool c y =
-      ap (λ (r : Result). view row (r .room .tables)) (y .left)
-      ∙ engine-lawful row pos .says _ (plan-formed row pos (view row (t .tables)) c (sound-formed (y .sound-tables)) .formed)
+      ap (λ (r : Outcome (F .Room)). F .view (r .room)) (y .left)
+      ∙ L .says _ (plan-formed row pos (F .view t) c (sound-formed (y .sound-tables)) .formed)
 
   -- a live block that an accepted call does not name, in the tables that it leaves
-  stays : (c : Call) → Asks c → call row a t c .answer .number ≡ 0 → (o : ℕ) (p : Place) → LiveAt row (view row (t .tables)) o p → (Names c o → ⊥)
-      → (q : Place) × LiveAt row (view row (call row a t c .room .tables)) o q × (handle row q ≡ handle row p) × (q .state ≡ p .state)
+  stays : (c : Call) → Asks c → callBy row F a t c .answer .number ≡ 0 → (o : ℕ) (p : Place) → LiveAt row (F .view t) o p → (Names c o → ⊥)
+      → (q : Place) × LiveAt row (F .view (callBy row F a t c .room)) o q × (handle row q ≡ handle row p) × (q .state ≡ p .state)
   stays c k z o p l other =
-      let y : Accepted row pos a t c = accepted row pos a t c k z in
+      let y : Accepted row pos F L a t c = accepted row pos F L a t c k z in
       let (q, e, s) =
-      plan-keeps row pos (view row (t .tables)) (sound-formed (y .sound-tables)) p (l .here .slotted .pool) (l .live) c
+      plan-keeps row pos (F .view t) (sound-formed (y .sound-tables)) p (l .here .slotted .pool) (l .live) c
       (subst (λ i. Names c i → ⊥) (sym (l .here .starts)) other) in (
         q,
         live-at row _ o q (e ∙ sym (accepted-pool c y)) (subst (λ x. T (isLive x)) (sym (s .state)) (l .live)) (stays-start row p q s ∙ l .here .starts),
@@ -256,8 +254,8 @@ module _ (row : ℕ) (pos : 0 < row) (a : List ℕ) (t : KeptBytes) where
       )
 
 -- a set up names every block
-pub others-stay : (row : ℕ) → 0 < row → OthersStay row
-others-stay row pos a t c o p z l other =
-    by-call (λ c. call row a t c .answer .number ≡ 0 → (Names c o → ⊥)
-    → (q : Place) × LiveAt row (view row (call row a t c .room .tables)) o q × (handle row q ≡ handle row p) × (q .state ≡ p .state))
-    (λ _ other. absurd (other tt)) (λ c k z other. stays row pos a t c k z o p l other) c z other
+pub others-stay : (row : ℕ) → 0 < row → (F : Form) → FormLaws row F → OthersStay row F
+others-stay row pos F L a t c o p z l other =
+    by-call (λ c. callBy row F a t c .answer .number ≡ 0 → (Names c o → ⊥)
+    → (q : Place) × LiveAt row (F .view (callBy row F a t c .room)) o q × (handle row q ≡ handle row p) × (q .state ≡ p .state))
+    (λ _ other. absurd (other tt)) (λ c k z other. stays row pos F L a t c k z o p l other) c z other

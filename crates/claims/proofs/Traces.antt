@@ -10,6 +10,7 @@ use Rattle.model.specs.State.{Pool, wellFormed, aligned}
 use Rattle.model.specs.Plans.{Plan, Call, grants, releases, resizes, measures, reports, plan}
 use Rattle.model.specs.Tables.{arenaRight, roomBytes}
 use Rattle.model.specs.Calls.{KeptBytes, keptIn, Result, engine, applied, call, callBy, written, setUpRight, setUpRightBy}
+use Rattle.model.proofs.Kept.{engine-lawful}
 use Rattle.model.proofs.Fresh.{fresh-formed, all-fresh, whole-rows, whole-units, set-up-lawful, set-up-done}
 use Rattle.model.proofs.Formed.{Formed, plan-formed}
 use Rattle.trace.specs.Trace.{Operation, grant, release, resize, measure, store, report, Item, does, items, traceRight}
@@ -65,7 +66,8 @@ module _ (row : ℕ) (pos : 0 < row) (n : ℕ) (h : T (arenaRight row n)) where
         arena-length row pos (p .pool) (m .formed) x g ∙ ap (λ k. row * k) (m .long) ∙ sym (arena-length row pos P (r .formed) a (r .agrees)) ∙ r .long in
         let e : call row a t c ≡ applied (engine row) a p =
         ap (λ t. call row a t c) (r .room)
-        ∙ call-follows row pos P (r .formed) (r .bounds) a (subst (λ m. T (arenaRight row m)) (sym (r .long)) h) (r .agrees) c in
+        ∙ call-follows row pos (engine row) (engine-lawful row pos) P (r .formed) (r .bounds) a (subst (λ m. T (arenaRight row m)) (sym (r .long)) h)
+        (r .agrees) c in
         subst (λ z. Follows row n (effect z) (stepped p)) (sym e)
         (record {
           tells = refl;
@@ -152,7 +154,7 @@ module _ (row : ℕ) (pos : 0 < row) where
   lines-modelled a t s h k =
       let n : ℕ = length a in
       let P : Pool = fed row n in
-      let w : T (arenaRight row n) = set-up-lawful row a t h in
+      let w : T (arenaRight row n) = set-up-lawful row (engine row) a t h in
       let r : Holds row n P (zeros n) (engine row .encode P) = record {
         formed = fresh-formed (n / row);
         bounds = all-fresh row (n / row);
@@ -161,7 +163,7 @@ module _ (row : ℕ) (pos : 0 < row) where
         room = refl;
       } in
       ap (λ (ls : List Line). choose (traceRight s) ls (Line.bad 0 ∷ []))
-      (ap (λ (z : Result). linesFrom row (z .arena) (z .room) 1 (items s)) (set-up-done row a t h)
+      (ap (λ (z : Result). linesFrom row (z .arena) (z .room) 1 (items s)) (set-up-done row (engine row) a t h)
       ∙ lines row pos n w P (zeros n) (engine row .encode P) 1 (items s) r k)
 
   pub stores-steer-nothing : StoresSteerNothing row

@@ -7,8 +7,7 @@ use lib.Dec.{T}
 use Rattle.classes.specs.Alignments.{alignOf}
 use Rattle.model.specs.State.{Place, align, startOf, handle}
 use Rattle.model.specs.Plans.{Call, setsUp, grants, grantsAligned, releases, resizes, measures, reports, grantsList}
-use Rattle.model.specs.Tables.{view, sound}
-use Rattle.model.specs.Calls.{KeptBytes, call}
+use Rattle.model.specs.Calls.{Form, callBy}
 use Rattle.claims.specs.Demand1.{LiveAt}
 
 -- a call that ends the block at a start, or changes it: a set up ends every block
@@ -22,26 +21,26 @@ Names (measures h) o = ⊥
 Names reports o = ⊥
 Names (grantsList total cap places ns) o = ⊥
 
-module _ (row : ℕ) where
+module _ (row : ℕ) (F : Form) where
   -- "soundness .. demands the boundary": "counted from the arena's first byte"
   abbrev pub OnBoundaries : Type 0
-  OnBoundaries = (n : ℕ) (t : List ℕ) (o : ℕ) (p : Place) → T (sound row n t) → LiveAt row (view row t) o p → o % alignOf (align (p .state)) ≡ 0
+  OnBoundaries = (n : ℕ) (t : F .Room) (o : ℕ) (p : Place) → T (F .sound n t) → LiveAt row (F .view t) o p → o % alignOf (align (p .state)) ≡ 0
 
   -- "Resize of an aligned block keeps the boundary": the block of the handle before it, and the one of its value after it
-  pub record KeepsBoundary (a : List ℕ) (t : KeptBytes) (h n : ℕ) : Type 0 where
+  pub record KeepsBoundary (a : List ℕ) (t : F .Room) (h n : ℕ) : Type 0 where
     pub old : Place
-    pub was : LiveAt row (view row (t .tables)) (startOf h) old
+    pub was : LiveAt row (F .view t) (startOf h) old
     pub new : Place
     pub given : ℕ
-    pub value : call row a t (resizes h n) .answer .values ≡ given ∷ []
-    pub is : LiveAt row (view row (call row a t (resizes h n) .room .tables)) (startOf given) new
+    pub value : callBy row F a t (resizes h n) .answer .values ≡ given ∷ []
+    pub is : LiveAt row (F .view (callBy row F a t (resizes h n) .room)) (startOf given) new
     pub same : align (new .state) ≡ align (old .state)
 
   abbrev pub ResizesKeepAlignment : Type 0
-  ResizesKeepAlignment = (a : List ℕ) (t : KeptBytes) (h n : ℕ) → call row a t (resizes h n) .answer .number ≡ 0 → KeepsBoundary a t h n
+  ResizesKeepAlignment = (a : List ℕ) (t : F .Room) (h n : ℕ) → callBy row F a t (resizes h n) .answer .number ≡ 0 → KeepsBoundary a t h n
 
   -- a block that a call does not name is where it was, with its handle, size and alignment; a refused call changes nothing (demand 1)
   abbrev pub OthersStay : Type 0
-  OthersStay = (a : List ℕ) (t : KeptBytes) (c : Call) (o : ℕ) (p : Place) → call row a t c .answer .number ≡ 0
-      → LiveAt row (view row (t .tables)) o p → (Names c o → ⊥)
-      → (q : Place) × LiveAt row (view row (call row a t c .room .tables)) o q × (handle row q ≡ handle row p) × (q .state ≡ p .state)
+  OthersStay = (a : List ℕ) (t : F .Room) (c : Call) (o : ℕ) (p : Place) → callBy row F a t c .answer .number ≡ 0
+      → LiveAt row (F .view t) o p → (Names c o → ⊥)
+      → (q : Place) × LiveAt row (F .view (callBy row F a t c .room)) o q × (handle row q ≡ handle row p) × (q .state ≡ p .state)

@@ -16,8 +16,7 @@ use Rattle.model.specs.State.{Pool, Place, isLive, count, disp, size, align, st
 use Rattle.model.specs.Blocks.{reserved, guard}
 use Rattle.model.specs.Answers.{done, listed}
 use Rattle.model.specs.Plans.{copies, Call, setsUp, grantsAligned, releases, resizes, measures, reports, freshPool, totals}
-use Rattle.model.specs.Tables.{view, sound}
-use Rattle.model.specs.Calls.{KeptBytes, Result, write, soundKept, call}
+use Rattle.model.specs.Calls.{Form, Outcome, write, callBy}
 use Rattle.claims.specs.Demand1.{StartsAt, guardDue}
 use Rattle.claims.specs.Demand2.{Intact}
 
@@ -69,101 +68,99 @@ module _ (row : ℕ) where
     pub past : 1 ≤ reservedOf p → getD a (start row p + size (p .state)) 0 ≡ 0
     pub last : 5 ≤ reservedOf p → part (end p - 5) 5 a ≡ 0 ∷ low 4 (reservedOf p)
 
-  -- of any bytes: the guard of a slot's block is that due exactly if these bytes of the arena are
-  abbrev pub GuardsAsSaid : Type 0
-  GuardsAsSaid = (a t : List ℕ) (p : Place) → T (sound row (length a) t) → poolOf p ≡ view row t → T (guardDue row a p) ↔ GuardBytes a p
+  module _ (F : Form) where
+    -- of any bytes: the guard of a slot's block is that due exactly if these bytes of the arena are
+    abbrev pub GuardsAsSaid : Type 0
+    GuardsAsSaid = (a : List ℕ) (t : F .Room) (p : Place) → T (F .sound (length a) t) → poolOf p ≡ F .view t → T (guardDue row a p) ↔ GuardBytes a p
 
-  -- SET UP
+    -- SET UP
 
-  -- "Set up writes zero over the whole arena and makes tables with no groups."
-  pub record MadeFresh (a : List ℕ) (r : Result) : Type 0 where
-    pub value : r .answer .values ≡ 0 ∷ []
-    pub pool : view row (r .room .tables) ≡ freshPool (length a / row)
-    pub bytes : ZeroedOnly a (r .arena) 0 (length a)
-    -- 02 §4: "Set up writes the record": no total but the rows, which are free
-    pub kept : r .room .totals ≡ record { blocks = 0; bytes = 0; held = 0; free = length a / row; ready = 0; waiting = 0 }
+    -- "Set up writes zero over the whole arena and makes tables with no groups."
+    pub record MadeFresh (a : List ℕ) (r : Outcome (F .Room)) : Type 0 where
+      pub value : r .answer .values ≡ 0 ∷ []
+      pub pool : F .view (r .room) ≡ freshPool (length a / row)
+      pub bytes : ZeroedOnly a (r .arena) 0 (length a)
 
-  abbrev pub SetsUpAsSaid : Type 0
-  SetsUpAsSaid = (a : List ℕ) (t : KeptBytes) → call row a t setsUp .answer .number ≡ 0 → MadeFresh a (call row a t setsUp)
+    abbrev pub SetsUpAsSaid : Type 0
+    SetsUpAsSaid = (a : List ℕ) (t : F .Room) → callBy row F a t setsUp .answer .number ≡ 0 → MadeFresh a (callBy row F a t setsUp)
 
-  -- MEASURE AND REPORT
+    -- MEASURE AND REPORT
 
-  -- a call that leaves every byte of arena and tables, and the record
-  pub record Unchanged (a : List ℕ) (t : KeptBytes) (c : Call) : Type 0 where
-    pub arena : call row a t c .arena ≡ a
-    pub room : call row a t c .room ≡ t
+    -- a call that leaves every byte of arena and tables, and the record where there is one
+    pub record Unchanged (a : List ℕ) (t : F .Room) (c : Call) : Type 0 where
+      pub arena : callBy row F a t c .arena ≡ a
+      pub room : callBy row F a t c .room ≡ t
 
-  -- over any bytes, refused or not
-  pub record ReadsOnly : Type 0 where
-    pub measured : (a : List ℕ) (t : KeptBytes) (h : ℕ) → Unchanged a t (measures h)
-    pub reported : (a : List ℕ) (t : KeptBytes) → Unchanged a t reports
+    -- over any bytes, refused or not
+    pub record ReadsOnly : Type 0 where
+      pub measured : (a : List ℕ) (t : F .Room) (h : ℕ) → Unchanged a t (measures h)
+      pub reported : (a : List ℕ) (t : F .Room) → Unchanged a t reports
 
-  -- "Report gives, in this order: live blocks, their requested bytes, rows held, rows free, ready slots, waiting slots"; 02 §4: "report reads
-  -- it", the record
-  abbrev pub ReportsAsSaid : Type 0
-  ReportsAsSaid = (a : List ℕ) (t : KeptBytes) → T (soundKept row (length a) t)
-      → (call row a t reports .answer ≡ done (listed (totals row (view row (t .tables))))) × (call row a t reports .answer ≡ done (listed (t .totals)))
+    -- "Report gives, in this order: live blocks, their requested bytes, rows held, rows free, ready slots, waiting slots"
+    abbrev pub ReportsAsSaid : Type 0
+    ReportsAsSaid = (a : List ℕ) (t : F .Room) → T (F .sound (length a) t)
+        → callBy row F a t reports .answer ≡ done (listed (totals row (F .view t)))
 
-  -- RELEASE
+    -- RELEASE
 
-  -- "The slot becomes waiting", with its count and displacement, "and its s owned bytes zero."
-  pub record Waits (a : List ℕ) (p : Place) (r : Result) : Type 0 where
-    pub other-live : T (any isLive (p .lower ++ p .upper))
-    pub pool : view row (r .room .tables) ≡ poolOf (become p (Idle false (count (p .state)) (disp (p .state))))
-    pub bytes : ZeroedOnly a (r .arena) (owned row p) (slotBytes (p .cls))
+    -- "The slot becomes waiting", with its count and displacement, "and its s owned bytes zero."
+    pub record Waits (a : List ℕ) (p : Place) (r : Outcome (F .Room)) : Type 0 where
+      pub other-live : T (any isLive (p .lower ++ p .upper))
+      pub pool : F .view (r .room) ≡ poolOf (become p (Idle false (count (p .state)) (disp (p .state))))
+      pub bytes : ZeroedOnly a (r .arena) (owned row p) (slotBytes (p .cls))
 
-  -- "If no slot of the group is live, the group goes, all its rows become zero and free."
-  pub record Goes (a : List ℕ) (p : Place) (r : Result) : Type 0 where
-    pub none-live : T (every (λ x. not (isLive x)) (p .lower ++ p .upper))
-    pub pool : view row (r .room .tables) ≡ p .before ++ (freshPool (rowsOf row (p .cls)) ++ p .after)
-    pub bytes : ZeroedOnly a (r .arena) (base row p) (row * rowsOf row (p .cls))
+    -- "If no slot of the group is live, the group goes, all its rows become zero and free."
+    pub record Goes (a : List ℕ) (p : Place) (r : Outcome (F .Room)) : Type 0 where
+      pub none-live : T (every (λ x. not (isLive x)) (p .lower ++ p .upper))
+      pub pool : F .view (r .room) ≡ p .before ++ (freshPool (rowsOf row (p .cls)) ++ p .after)
+      pub bytes : ZeroedOnly a (r .arena) (base row p) (row * rowsOf row (p .cls))
 
-  pub record Released (a : List ℕ) (t : KeptBytes) (h : ℕ) (p : Place) : Type 0 where
-    pub block : Intact row a (view row (t .tables)) h p
-    pub value : call row a t (releases h) .answer .values ≡ 0 ∷ []
-    pub left : Waits a p (call row a t (releases h)) ⊎ Goes a p (call row a t (releases h))
+    pub record Released (a : List ℕ) (t : F .Room) (h : ℕ) (p : Place) : Type 0 where
+      pub block : Intact row a (F .view t) h p
+      pub value : callBy row F a t (releases h) .answer .values ≡ 0 ∷ []
+      pub left : Waits a p (callBy row F a t (releases h)) ⊎ Goes a p (callBy row F a t (releases h))
 
-  abbrev pub ReleasesAsSaid : Type 0
-  ReleasesAsSaid = (a : List ℕ) (t : KeptBytes) (h : ℕ) → call row a t (releases h) .answer .number ≡ 0 → (p : Place) × Released a t h p
+    abbrev pub ReleasesAsSaid : Type 0
+    ReleasesAsSaid = (a : List ℕ) (t : F .Room) (h : ℕ) → callBy row F a t (releases h) .answer .number ≡ 0 → (p : Place) × Released a t h p
 
-  -- RESIZE
+    -- RESIZE
 
-  pub record InPlace (a : List ℕ) (h n : ℕ) (p : Place) (r : Result) : Type 0 where
-    pub serves : Serves p n
-    -- 02 §7: "Resize in place keeps the handle."
-    pub value : r .answer .values ≡ h ∷ []
-    pub pool : view row (r .room .tables) ≡ poolOf (sized p n)
-    pub long : length (r .arena) ≡ length a
-    -- "the first bytes, as many as the lesser of old and new n, stay"
-    pub kept : (i : ℕ) → i < stay p n → getD (r .arena) (start row p + i) 0 ≡ getD a (start row p + i) 0
-    -- "all from there to the end become zero", but the guard
-    pub zero : (i : ℕ) → start row p + stay p n ≤ i → i + length (guard (reserved (p .cls) (disp (p .state)) n)) < owned row p + slotBytes (p .cls)
-        → getD (r .arena) i 0 ≡ 0
-    -- "header and guard are written anew"
-    pub due : Intact row (r .arena) (view row (r .room .tables)) h (sized p n)
-    -- no byte before the header or behind the block changes
-    pub others : (i : ℕ) → (i + 4 < start row p) ⊎ (owned row p + slotBytes (p .cls) ≤ i) → getD (r .arena) i 0 ≡ getD a i 0
+    pub record InPlace (a : List ℕ) (h n : ℕ) (p : Place) (r : Outcome (F .Room)) : Type 0 where
+      pub serves : Serves p n
+      -- 02 §7: "Resize in place keeps the handle."
+      pub value : r .answer .values ≡ h ∷ []
+      pub pool : F .view (r .room) ≡ poolOf (sized p n)
+      pub long : length (r .arena) ≡ length a
+      -- "the first bytes, as many as the lesser of old and new n, stay"
+      pub kept : (i : ℕ) → i < stay p n → getD (r .arena) (start row p + i) 0 ≡ getD a (start row p + i) 0
+      -- "all from there to the end become zero", but the guard
+      pub zero : (i : ℕ) → start row p + stay p n ≤ i → i + length (guard (reserved (p .cls) (disp (p .state)) n)) < owned row p + slotBytes (p .cls)
+          → getD (r .arena) i 0 ≡ 0
+      -- "header and guard are written anew"
+      pub due : Intact row (r .arena) (F .view (r .room)) h (sized p n)
+      -- no byte before the header or behind the block changes
+      pub others : (i : ℕ) → (i + 4 < start row p) ⊎ (owned row p + slotBytes (p .cls) ≤ i) → getD (r .arena) i 0 ≡ getD a i 0
 
-  -- "Otherwise a grant of n is made while the old block is live, that many bytes are copied, then the old is released". 02 §6: "Resize of an
-  -- aligned block keeps the boundary": the grant is one of the block's alignment, which for an ordinary block is a plain one. g is what it
-  -- leaves, v the new handle, b the arena after the copy
-  pub record Moved (a : List ℕ) (h n : ℕ) (p : Place) (g : Result) (v : ℕ) (b : List ℕ) (r : Result) : Type 0 where
-    pub serves-not : Serves p n → ⊥
-    pub granted : g .answer .number ≡ 0
-    pub answer : r .answer ≡ g .answer
-    pub released : call row b (g .room) (releases h) .answer .number ≡ 0
-    pub arena : r .arena ≡ call row b (g .room) (releases h) .arena
-    pub room : r .room ≡ call row b (g .room) (releases h) .room
-    -- the block has the bytes that it had
-    pub kept : (i : ℕ) → i < stay p n → getD (r .arena) (startOf v + i) 0 ≡ getD a (start row p + i) 0
+    -- "Otherwise a grant of n is made while the old block is live, that many bytes are copied, then the old is released". 02 §6: "Resize of an
+    -- aligned block keeps the boundary": the grant is one of the block's alignment, which for an ordinary block is a plain one. g is what it
+    -- leaves, v the new handle, b the arena after the copy
+    pub record Moved (a : List ℕ) (h n : ℕ) (p : Place) (g : Outcome (F .Room)) (v : ℕ) (b : List ℕ) (r : Outcome (F .Room)) : Type 0 where
+      pub serves-not : Serves p n → ⊥
+      pub granted : g .answer .number ≡ 0
+      pub answer : r .answer ≡ g .answer
+      pub released : callBy row F b (g .room) (releases h) .answer .number ≡ 0
+      pub arena : r .arena ≡ callBy row F b (g .room) (releases h) .arena
+      pub room : r .room ≡ callBy row F b (g .room) (releases h) .room
+      -- the block has the bytes that it had
+      pub kept : (i : ℕ) → i < stay p n → getD (r .arena) (startOf v + i) 0 ≡ getD a (start row p + i) 0
 
-  abbrev pub MovedBy : List ℕ → ℕ → ℕ → Place → Result → Result → Type 0
-  MovedBy a h n p g r = let v = getD (g .answer .values) 0 0 in Moved a h n p g v (write (g .arena) (copies (start row p) (startOf v) (stay p n))) r
+    abbrev pub MovedBy : List ℕ → ℕ → ℕ → Place → Outcome (F .Room) → Outcome (F .Room) → Type 0
+    MovedBy a h n p g r = let v = getD (g .answer .values) 0 0 in Moved a h n p g v (write (g .arena) (copies (start row p) (startOf v) (stay p n))) r
 
-  pub record Resized (a : List ℕ) (t : KeptBytes) (h n : ℕ) (p : Place) : Type 0 where
-    pub block : Intact row a (view row (t .tables)) h p
-    pub done : InPlace a h n p (call row a t (resizes h n)) ⊎ MovedBy a h n p (call row a t (grantsAligned n (alignOf (align (p .state)))))
-        (call row a t (resizes h n))
+    pub record Resized (a : List ℕ) (t : F .Room) (h n : ℕ) (p : Place) : Type 0 where
+      pub block : Intact row a (F .view t) h p
+      pub done : InPlace a h n p (callBy row F a t (resizes h n)) ⊎ MovedBy a h n p (callBy row F a t (grantsAligned n (alignOf (align (p .state)))))
+          (callBy row F a t (resizes h n))
 
-  abbrev pub ResizesAsSaid : Type 0
-  ResizesAsSaid = (a : List ℕ) (t : KeptBytes) (h n : ℕ) → call row a t (resizes h n) .answer .number ≡ 0 → (p : Place) × Resized a t h n p
+    abbrev pub ResizesAsSaid : Type 0
+    ResizesAsSaid = (a : List ℕ) (t : F .Room) (h n : ℕ) → callBy row F a t (resizes h n) .answer .number ≡ 0 → (p : Place) × Resized a t h n p

@@ -6,9 +6,9 @@ use lib.Dec.{T}
 use Rattle.model.specs.declared.Refusal.the-variants.{TooLarge}
 use Rattle.model.specs.Answers.{refusal}
 use Rattle.model.specs.Plans.{grants}
-use Rattle.model.specs.Calls.{KeptBytes, setUp, setUpRight, call, keeps}
+use Rattle.model.specs.Calls.{Form, setUpBy, setUpRightBy, callBy, keeps}
 
 -- after a set up that was done, over whatever arena and table room
-abbrev pub TooLargeAnywhere : ℕ → Type 0
-TooLargeAnywhere row = (a : List ℕ) (t : KeptBytes) → T (setUpRight row a t)
-    → call row (setUp row a t .arena) (setUp row a t .room) (grants 131052) ≡ keeps (refusal TooLarge) (setUp row a t .arena) (setUp row a t .room)
+abbrev pub TooLargeAnywhere : ℕ → Form → Type 0
+TooLargeAnywhere row F = (a : List ℕ) (t : F .Room) → T (setUpRightBy row F a t) → let r = setUpBy row F a t in
+    callBy row F (r .arena) (r .room) (grants 131052) ≡ keeps (refusal TooLarge) (r .arena) (r .room)

@@ -18,8 +18,7 @@ use Rattle.model.specs.Blocks.{headerRight, guardRight, ownedBytes}
 use Rattle.model.specs.Answers.{numberOf}
 use Rattle.model.specs.Proposals.{entries, accepts}
 use Rattle.model.specs.Plans.{Call, setsUp, grants, grantsAligned, releases, resizes, measures, reports, grantsList, inPlace, reserveAll, poolAfter, NoPlace}
-use Rattle.model.specs.Tables.{view}
-use Rattle.model.specs.Calls.{KeptBytes, soundKept, call, setUpRight}
+use Rattle.model.specs.Calls.{Form, callBy, setUpRightBy}
 
 -- "They are tested in this order, each where it applies: grant 2, 3, 8; release and measure 2, 4, 5, 6, 7; resize all of 2 to 8;
 -- report 2." 02 §3: "Order: 2, 9, 17, 8." 02 §6: "answer 13, tested between 2 and 3". 02 §7: "Order: 2, 3, 4, 5, 10, 6, 7, 8"
@@ -150,30 +149,31 @@ module _ (row : ℕ) where
   NoRoomFor P reports = ⊥
   NoRoomFor P (grantsList total cap places ns) = Meets P ns
 
-  -- "Given exactly when", each by itself
-  abbrev pub Due : List ℕ → KeptBytes → Call → Refusal → Type 0
-  Due a t c BadArena = T (not (setUpRight row a t))
-  Due a t c Unsound = T (not (soundKept row (length a) t))
-  Due a t c TooLarge = TooLargeFor (view row (t .tables)) c
-  Due a t c NoSuchBlock = (p : Place) → StartsAt (view row (t .tables)) (startOf (handleIn c)) p → ⊥
-  Due a t c AlreadyFree = (p : Place) × StartsAt (view row (t .tables)) (startOf (handleIn c)) p × T (not (isLive (p .state)))
-  -- 02 §7: "Answer 10, stale, is given exactly if the start is live and the bits differ": the handle is not the block's present one
-  Due a t c Stale = (p : Place) × LiveAt (view row (t .tables)) (startOf (handleIn c)) p × (handle row p ≡ handleIn c → ⊥)
-  Due a t c HeaderDamaged = (p : Place) × LiveAt (view row (t .tables)) (startOf (handleIn c)) p × T (not (headerDue a p))
-  Due a t c Overrun = (p : Place) × LiveAt (view row (t .tables)) (startOf (handleIn c)) p × T (headerDue a p) × T (not (guardDue a p))
-  Due a t c NoRoom = NoRoomFor (view row (t .tables)) c
-  Due a t c TooLong = OfList (λ total cap places ns. TooLongList total cap places) c
-  -- 02 §3: "Answer 17, bad proposal, exactly if the check refuses it."
-  Due a t c BadProposal = OfList (λ total cap places ns. T (not (accepts total cap ns))) c
-  Due a t c BadAlignment = OfAlignment NoAlignment c
+  module _ (F : Form) where
+    -- "Given exactly when", each by itself
+    abbrev pub Due : List ℕ → F .Room → Call → Refusal → Type 0
+    Due a t c BadArena = T (not (setUpRightBy row F a t))
+    Due a t c Unsound = T (not (F .sound (length a) t))
+    Due a t c TooLarge = TooLargeFor (F .view t) c
+    Due a t c NoSuchBlock = (p : Place) → StartsAt (F .view t) (startOf (handleIn c)) p → ⊥
+    Due a t c AlreadyFree = (p : Place) × StartsAt (F .view t) (startOf (handleIn c)) p × T (not (isLive (p .state)))
+    -- 02 §7: "Answer 10, stale, is given exactly if the start is live and the bits differ": the handle is not the block's present one
+    Due a t c Stale = (p : Place) × LiveAt (F .view t) (startOf (handleIn c)) p × (handle row p ≡ handleIn c → ⊥)
+    Due a t c HeaderDamaged = (p : Place) × LiveAt (F .view t) (startOf (handleIn c)) p × T (not (headerDue a p))
+    Due a t c Overrun = (p : Place) × LiveAt (F .view t) (startOf (handleIn c)) p × T (headerDue a p) × T (not (guardDue a p))
+    Due a t c NoRoom = NoRoomFor (F .view t) c
+    Due a t c TooLong = OfList (λ total cap places ns. TooLongList total cap places) c
+    -- 02 §3: "Answer 17, bad proposal, exactly if the check refuses it."
+    Due a t c BadProposal = OfList (λ total cap places ns. T (not (accepts total cap ns))) c
+    Due a t c BadAlignment = OfAlignment NoAlignment c
 
-  -- DEMAND 1, of any bytes, any record and any call; 02 §3: "A refused list leaves arena, tables and lent list unchanged"; 02 §4: "a refusal
-  -- keeps it", the record, which is lent with the tables
-  pub record Answered (a : List ℕ) (t : KeptBytes) (c : Call) : Type 0 where
-    pub number : FirstDue (Due a t c) (order c) (call row a t c .answer .number)
-    pub refused : (call row a t c .answer .number ≡ 0 → ⊥)
-        → (call row a t c .arena ≡ a) × (call row a t c .room ≡ t) × (call row a t c .answer .values ≡ refusedValues c)
-        × (call row a t c .answer .lent ≡ [])
+    -- DEMAND 1, of any bytes, any record and any call; 02 §3: "A refused list leaves arena, tables and lent list unchanged"; 02 §4: "a refusal
+    -- keeps it", the record, which is lent with the tables
+    pub record Answered (a : List ℕ) (t : F .Room) (c : Call) : Type 0 where
+      pub number : FirstDue (Due a t c) (order c) (callBy row F a t c .answer .number)
+      pub refused : (callBy row F a t c .answer .number ≡ 0 → ⊥)
+          → (callBy row F a t c .arena ≡ a) × (callBy row F a t c .room ≡ t) × (callBy row F a t c .answer .values ≡ refusedValues c)
+          × (callBy row F a t c .answer .lent ≡ [])
 
-  abbrev pub Demand1 : Type 0
-  Demand1 = (a : List ℕ) (t : KeptBytes) (c : Call) → Answered a t c
+    abbrev pub Demand1 : Type 0
+    Demand1 = (a : List ℕ) (t : F .Room) (c : Call) → Answered a t c

@@ -14,8 +14,8 @@ use Rattle.model.specs.State.{Pool, Place, isLive, size, startOf, places, start
 use Rattle.model.specs.Answers.{Answer, done, listed}
 use Rattle.model.specs.Plans.{Call, setsUp, grants, grantsAligned, releases, resizes, measures, reports, grantsList}
 use Rattle.model.specs.Plans.{plan, lookup, totals, freshPool}
-use Rattle.model.specs.Tables.{encode, roomFor}
-use Rattle.model.specs.Calls.{KeptBytes, call, setUp, setUpRight}
+use Rattle.model.specs.Tables.{roomFor}
+use Rattle.model.specs.Calls.{Form, callBy, setUpBy, setUpRightBy}
 
 -- THE MODEL: "Every call steps on that state and its arguments alone". What it answers to calls, and its state after them.
 pub record Modelled : Type 0 where
@@ -31,11 +31,11 @@ pub record Turn : Type 0 where
 abbrev pub calls : List Turn → List Call
 calls us = map (λ u. u .asks) us
 
--- What a run leaves.
-pub record Ended : Type 0 where
+-- What a run leaves, R being what is lent for the tables.
+pub record Ended (R : Type 0) : Type 0 where
   pub answers : List Answer
   pub arena : List ℕ
-  pub room : KeptBytes
+  pub room : R
 
 module _ (row : ℕ) where
   unfoldable pub model : Pool → List Call → Modelled
@@ -50,8 +50,8 @@ module _ (row : ℕ) where
   abbrev pub fed : ℕ → Pool
   fed n = freshPool (n / row)
 
-  abbrev pub RoomFollows : Type 0
-  RoomFollows = (a : List ℕ) (t : KeptBytes) → T (setUpRight row a t) → length (t .tables) ≡ roomFor row (length a)
+  abbrev pub RoomFollows : (F : Form) → (F .Room → List ℕ) → Type 0
+  RoomFollows F bytes = (a : List ℕ) (t : F .Room) → T (setUpRightBy row F a t) → length (bytes t) ≡ roomFor row (length a)
 
   -- "Its requested bytes lie from its start on, as many as the n last accepted for it."
   abbrev pub covers : ℕ → Place → Bool
@@ -66,29 +66,9 @@ module _ (row : ℕ) where
     pub long : length b ≡ length a
     pub bytes : (i : ℕ) → T (not (requested P i)) → getD b i 0 ≡ getD a i 0
 
-  -- a run: each call is made over the arena as the engine left it, and room and record as the last call left them
-  unfoldable pub ran : List ℕ → KeptBytes → List Turn → Ended
-  ran a t [] = record { answers = []; arena = a; room = t }
-  ran a t (u ∷ us) =
-      let r = call row (u .arena) t (u .asks) in
-      let e = ran (r .arena) (r .room) us in
-      record { answers = r .answer ∷ e .answers; arena = e .arena; room = e .room }
-
-  -- a run from a fresh pool: "A fresh pool is what an accepted set up leaves."
-  abbrev pub ranFresh : List ℕ → KeptBytes → List Turn → Ended
-  ranFresh a t us = ran (setUp row a t .arena) (setUp row a t .room) us
-
-  -- the totals after a run: what report gives over what it leaves
-  abbrev pub reported : Ended → Answer
-  reported e = call row (e .arena) (e .room) reports .answer
-
-  -- "Nothing but the calls and the engine's stores writes": before each call the engine stored into requested bytes of blocks
-  -- then live, and nowhere else
-  unfoldable pub EngineOnly : Pool → List ℕ → KeptBytes → List Turn → Type 0
-  EngineOnly P a t [] = Unit {0}
-  EngineOnly P a t (u ∷ us) =
-      SameOutside P a (u .arena)
-      × EngineOnly (plan row P (u .asks) .pool) (call row (u .arena) t (u .asks) .arena) (call row (u .arena) t (u .asks) .room) us
+  -- the premise admits every store into a requested byte of a live block
+  abbrev pub StoresAdmitted : Type 0
+  StoresAdmitted = (P : Pool) (a : List ℕ) (i v : ℕ) → T (requested P i) → SameOutside P a (set a i v)
 
   -- the bytes that a block gains in an accepted call that answers r, from the start of the handle that it gives: a moved block gains those past
   -- its old size, and of a list each entry is a grant
@@ -118,43 +98,62 @@ module _ (row : ℕ) where
   unfoldable pub Cleared : Pool → Call → Answer → List ℕ → Type 0
   Cleared P c r a = r .number ≡ 0 → (i : ℕ) → Gains P c r i → getD a i 0 ≡ 0
 
-  unfoldable pub AllCleared : Pool → List ℕ → KeptBytes → List Turn → Type 0
-  unfolding Cleared
-  AllCleared P a t [] = Unit {0}
-  AllCleared P a t (u ∷ us) =
-      Cleared P (u .asks) (call row (u .arena) t (u .asks) .answer) (call row (u .arena) t (u .asks) .arena)
-      × AllCleared (plan row P (u .asks) .pool) (call row (u .arena) t (u .asks) .arena) (call row (u .arena) t (u .asks) .room) us
+  module _ (F : Form) where
+    -- a run: each call is made over the arena as the engine left it, and what is lent for the tables as the last call left it
+    unfoldable pub ran : List ℕ → F .Room → List Turn → Ended (F .Room)
+    ran a t [] = record { answers = []; arena = a; room = t }
+    ran a t (u ∷ us) =
+        let r = callBy row F (u .arena) t (u .asks) in
+        let e = ran (r .arena) (r .room) us in
+        record { answers = r .answer ∷ e .answers; arena = e .arena; room = e .room }
 
-  -- what one run of the calls from a pool P shows: the model's answers, tables and totals, kept in the record and reported, and zeros where a
-  -- block gains bytes; 02 §4: "demand 3 counts it with the tables"
-  pub record AsModelled (P : Pool) (a : List ℕ) (t : KeptBytes) (us : List Turn) : Type 0 where
-    pub answers : ran a t us .answers ≡ model P (calls us) .answers
-    pub tables : ran a t us .room .tables ≡ encode row (model P (calls us) .pool)
-    pub kept : ran a t us .room .totals ≡ totals row (model P (calls us) .pool)
-    pub counted : reported (ran a t us) ≡ done (listed (totals row (model P (calls us) .pool)))
-    pub cleared : AllCleared P a t us
+    -- a run from a fresh pool: "A fresh pool is what an accepted set up leaves."
+    abbrev pub ranFresh : List ℕ → F .Room → List Turn → Ended (F .Room)
+    ranFresh a t us = ran (setUpBy row F a t .arena) (setUpBy row F a t .room) us
 
-  -- what two runs show beside one another: equal answers, equal tables, equal totals, kept and reported, and equal bytes but for the requested
-  -- ones of the blocks of P
-  pub record SameRuns (P : Pool) (d e : Ended) : Type 0 where
-    pub answers : d .answers ≡ e .answers
-    pub tables : d .room .tables ≡ e .room .tables
-    pub kept : d .room .totals ≡ e .room .totals
-    pub totals : reported d ≡ reported e
-    pub outside : SameOutside P (d .arena) (e .arena)
+    -- the totals after a run: what report gives over what it leaves
+    abbrev pub reported : Ended (F .Room) → Answer
+    reported e = callBy row F (e .arena) (e .room) reports .answer
 
-  -- DEMAND 3. Over any arena and room bytes of the right lengths and any record, different in each run; the same list of calls, and any stores
-  -- of the engine, different in each.
-  abbrev pub SteersNothing : Type 0
-  SteersNothing = (a₁ : List ℕ) (t₁ : KeptBytes) (a₂ : List ℕ) (t₂ : KeptBytes) (us₁ us₂ : List Turn)
-      → T (setUpRight row a₁ t₁) → T (setUpRight row a₂ t₂) → length a₁ ≡ length a₂
-      → calls us₁ ≡ calls us₂
-      → EngineOnly (fed (length a₁)) (setUp row a₁ t₁ .arena) (setUp row a₁ t₁ .room) us₁
-      → EngineOnly (fed (length a₂)) (setUp row a₂ t₂ .arena) (setUp row a₂ t₂ .room) us₂
-      → SameRuns (model (fed (length a₁)) (calls us₁) .pool) (ranFresh a₁ t₁ us₁) (ranFresh a₂ t₂ us₂)
-      × AsModelled (fed (length a₁)) (setUp row a₁ t₁ .arena) (setUp row a₁ t₁ .room) us₁
-      × AsModelled (fed (length a₂)) (setUp row a₂ t₂ .arena) (setUp row a₂ t₂ .room) us₂
+    -- "Nothing but the calls and the engine's stores writes": before each call the engine stored into requested bytes of blocks
+    -- then live, and nowhere else
+    unfoldable pub EngineOnly : Pool → List ℕ → F .Room → List Turn → Type 0
+    EngineOnly P a t [] = Unit {0}
+    EngineOnly P a t (u ∷ us) =
+        SameOutside P a (u .arena)
+        × EngineOnly (plan row P (u .asks) .pool) (callBy row F (u .arena) t (u .asks) .arena) (callBy row F (u .arena) t (u .asks) .room) us
 
-  -- the premise admits every store into a requested byte of a live block
-  abbrev pub StoresAdmitted : Type 0
-  StoresAdmitted = (P : Pool) (a : List ℕ) (i v : ℕ) → T (requested P i) → SameOutside P a (set a i v)
+    unfoldable pub AllCleared : Pool → List ℕ → F .Room → List Turn → Type 0
+    unfolding Cleared
+    AllCleared P a t [] = Unit {0}
+    AllCleared P a t (u ∷ us) =
+        Cleared P (u .asks) (callBy row F (u .arena) t (u .asks) .answer) (callBy row F (u .arena) t (u .asks) .arena)
+        × AllCleared (plan row P (u .asks) .pool) (callBy row F (u .arena) t (u .asks) .arena) (callBy row F (u .arena) t (u .asks) .room) us
+
+    -- what one run of the calls from a pool P shows: the model's answers, the one form of its state, which of the first engine is tables and record
+    -- (02 §4: "demand 3 counts it with the tables"), its totals from report, and zeros where a block gains bytes
+    pub record AsModelled (P : Pool) (a : List ℕ) (t : F .Room) (us : List Turn) : Type 0 where
+      pub answers : ran a t us .answers ≡ model P (calls us) .answers
+      pub tables : ran a t us .room ≡ F .encode (model P (calls us) .pool)
+      pub counted : reported (ran a t us) ≡ done (listed (totals row (model P (calls us) .pool)))
+      pub cleared : AllCleared P a t us
+
+    -- what two runs show beside one another: equal answers, equal tables and record, equal totals from report, and equal bytes but for the requested
+    -- ones of the blocks of P
+    pub record SameRuns (P : Pool) (d e : Ended (F .Room)) : Type 0 where
+      pub answers : d .answers ≡ e .answers
+      pub tables : d .room ≡ e .room
+      pub totals : reported d ≡ reported e
+      pub outside : SameOutside P (d .arena) (e .arena)
+
+    -- DEMAND 3. Over any arena and room bytes of the right lengths and any record, different in each run; the same list of calls, and any stores
+    -- of the engine, different in each.
+    abbrev pub SteersNothing : Type 0
+    SteersNothing = (a₁ : List ℕ) (t₁ : F .Room) (a₂ : List ℕ) (t₂ : F .Room) (us₁ us₂ : List Turn)
+        → T (setUpRightBy row F a₁ t₁) → T (setUpRightBy row F a₂ t₂) → length a₁ ≡ length a₂
+        → calls us₁ ≡ calls us₂
+        → EngineOnly (fed (length a₁)) (setUpBy row F a₁ t₁ .arena) (setUpBy row F a₁ t₁ .room) us₁
+        → EngineOnly (fed (length a₂)) (setUpBy row F a₂ t₂ .arena) (setUpBy row F a₂ t₂ .room) us₂
+        → SameRuns (model (fed (length a₁)) (calls us₁) .pool) (ranFresh a₁ t₁ us₁) (ranFresh a₂ t₂ us₂)
+        × AsModelled (fed (length a₁)) (setUpBy row F a₁ t₁ .arena) (setUpBy row F a₁ t₁ .room) us₁
+        × AsModelled (fed (length a₂)) (setUpBy row F a₂ t₂ .arena) (setUpBy row F a₂ t₂ .room) us₂

@@ -1,11 +1,15 @@
--- All that is claimed, at one place. At the card's row size, `Demands rowBytes`, it speaks of `call rowBytes`, the definition that every
--- contract of the crates `pool` and `slotpool` is an equation with: `callBy rowBytes (engine rowBytes)`. Those of the crates `plain` and
--- `slotpool_plain` are equations with `callBy rowBytes (plainForm rowBytes)`, and `two-engines` is about both.
+-- All that is claimed, at one place. `Demands rowBytes` speaks of the very definitions that the contracts cite, at the card's row size: those of the
+-- first engine (crates `pool` and `slotpool`) are equations with `call rowBytes`, which is `callBy rowBytes (engine rowBytes)`, those of the second
+-- (`plain` and `slotpool_plain`) with `plainCall rowBytes`, which is `callBy rowBytes (plainForm rowBytes)`.
 use Prim.Native.Nat.{ℕ}
 use lib.Dec.{T}
 use Rattle.mem.specs.Lists.{every}
 use Rattle.classes.specs.Facts.{AllClasses}
+use Rattle.model.specs.Tables.{byMasks}
+use Rattle.model.specs.Calls.{Form, engine}
+use Rattle.model.specs.Plain.{bySlots, plainForm}
 use Rattle.model.specs.Bench.{sheet, right}
+use Rattle.model.specs.PlainBench.{plainSheet, plainRight}
 use Rattle.trace.specs.Sheet.{LinesDue}
 use Rattle.trace.specs.Written.{ReadsBack, WritesBack}
 use Rattle.claims.specs.Tables.{TableForm}
@@ -20,60 +24,76 @@ use Rattle.claims.specs.Stale.{StartsCleared, CountsStep, StaleRefused}
 use Rattle.claims.specs.Demand3.{RoomFollows, SteersNothing, StoresAdmitted}
 use Rattle.claims.specs.Lists.{PlansAsSaid, ListsAsGrants, ListsExactly}
 use Rattle.claims.specs.History.{History}
-use Rattle.claims.specs.Record.{SoundExactly, KeepsRecord, FlipsRefused}
+use Rattle.claims.specs.Record.{SoundExactly, RecordsFresh, ReportsRecord, HistoryRecorded, KeepsRecord, FlipsRefused}
 use Rattle.claims.specs.Alike.{TwoEngines, StoresAnywhere}
 use Rattle.claims.specs.Traces.{LinesModelled, StoresSteerNothing, ReplaySteersNothing}
 
-pub record Demands (row : ℕ) : Type 0 where
+-- what is claimed of an engine, by the form of its tables: the three demands
+pub record Meets (row : ℕ) (F : Form) : Type 0 where
   -- 1: every call ends with the first answer due, and a refusal changes nothing
-  pub demand1 : Demand1 row
+  pub demand1 : Demand1 row F
   -- 2: every call does what document 01 says
-  pub releases-exactly : ReleasesExactly row
-  pub measures-exactly : MeasuresExactly row
-  pub grants-exactly : GrantsExactly row
-  pub aligned-exactly : AlignedExactly row
-  pub sets-up-as-said : SetsUpAsSaid row
-  pub grants-as-said : GrantsAsSaid row
-  pub aligned-as-said : AlignedAsSaid row
-  pub aligned-ordinary : AlignedOrdinary row
-  pub releases-as-said : ReleasesAsSaid row
-  pub resizes-as-said : ResizesAsSaid row
-  pub serves-ordinary : ServesOrdinary
-  pub reports-as-said : ReportsAsSaid row
-  pub reads-only : ReadsOnly row
-  pub never-at-zero : NeverAtZero row
-  pub guards-as-said : GuardsAsSaid row
-  pub never-shared : NeverShared row
-  -- gather lists: the planner's proposals are accepted, and a list is its grants, all of them or none
-  pub plans-as-said : PlansAsSaid
-  pub lists-as-grants : ListsAsGrants row
-  pub lists-exactly : ListsExactly row
+  pub releases-exactly : ReleasesExactly row F
+  pub measures-exactly : MeasuresExactly row F
+  pub grants-exactly : GrantsExactly row F
+  pub aligned-exactly : AlignedExactly row F
+  pub sets-up-as-said : SetsUpAsSaid row F
+  pub grants-as-said : GrantsAsSaid row F
+  pub aligned-as-said : AlignedAsSaid row F
+  pub aligned-ordinary : AlignedOrdinary row F
+  pub releases-as-said : ReleasesAsSaid row F
+  pub resizes-as-said : ResizesAsSaid row F
+  pub reports-as-said : ReportsAsSaid row F
+  pub reads-only : ReadsOnly row F
+  pub guards-as-said : GuardsAsSaid row F
+  pub never-shared : NeverShared row F
+  pub leaves-sound : LeavesSound row F
+  pub too-large-anywhere : TooLargeAnywhere row F
+  -- gather lists: a list is its grants, all of them or none
+  pub lists-as-grants : ListsAsGrants row F
+  pub lists-exactly : ListsExactly row F
   -- aligned blocks are on their boundaries, calls keep alignments, and leave the blocks that they do not name
-  pub on-boundaries : OnBoundaries row
-  pub resizes-keep-alignment : ResizesKeepAlignment row
-  pub others-stay : OthersStay row
+  pub on-boundaries : OnBoundaries row F
+  pub resizes-keep-alignment : ResizesKeepAlignment row F
+  pub others-stay : OthersStay row F
   -- old handles are refused, while their group stays and their slot was granted again fewer than sixteen times
-  pub starts-cleared : StartsCleared row
-  pub counts-step : CountsStep row
-  pub stale-refused : StaleRefused row
+  pub starts-cleared : StartsCleared row F
+  pub counts-step : CountsStep row F
+  pub stale-refused : StaleRefused row F
   -- 3: packet contents steer nothing
-  pub steers-nothing : SteersNothing row
-  pub stores-admitted : StoresAdmitted row
-  pub room-follows : RoomFollows row
-  -- the tables, the history of report, the class facts, the bench sheet
-  pub tables : TableForm row
-  pub leaves-sound : LeavesSound row
-  pub history : History row
-  -- the record beside the tables: it is kept up to date and cross-checked, so a flipped bit of what is counted is found
-  pub sound-exactly : SoundExactly row
-  pub keeps-record : KeepsRecord row
-  pub flips-refused : FlipsRefused row
-  -- the second engine: the same answers and the same arena bytes as the first, whatever is called, and whatever is stored in the arena between
+  pub steers-nothing : SteersNothing row F
+  -- the history of report
+  pub history : History row F
+
+pub record Demands (row : ℕ) : Type 0 where
+  -- THE THREE DEMANDS, of both engines
+  pub first-engine : Meets row (engine row)
+  pub second-engine : Meets row (plainForm row)
+  -- 02 §8: the same answers and the same arena bytes from both, whatever is called, and whatever is stored in the arena between
   pub two-engines : TwoEngines row
   pub stores-anywhere : StoresAnywhere
+  -- what demand 3 feeds the model with, and the stores that it admits
+  pub room-follows : RoomFollows row (engine row) (λ t. t .tables)
+  pub plain-room-follows : RoomFollows row (plainForm row) (λ t. t)
+  pub stores-admitted : StoresAdmitted row
+  -- the tables of each engine: one byte form, of one size
+  pub tables : TableForm row byMasks
+  pub plain-tables : TableForm row bySlots
+  -- the record beside the first engine's: it is kept up to date and cross-checked, so a flipped bit of what is counted is found
+  pub sound-exactly : SoundExactly row
+  pub records-fresh : RecordsFresh row
+  pub reports-record : ReportsRecord row
+  pub history-recorded : HistoryRecorded row
+  pub keeps-record : KeepsRecord row
+  pub flips-refused : FlipsRefused row
+  -- places and classes; the planner's proposals are accepted
+  pub never-at-zero : NeverAtZero row
+  pub serves-ordinary : ServesOrdinary
   pub all-classes : AllClasses
+  pub plans-as-said : PlansAsSaid
+  -- the bench sheets
   pub bench : T (every right sheet)
-  pub too-large-anywhere : TooLargeAnywhere row
+  pub plain-bench : T (every plainRight plainSheet)
   -- replay: traces are read as they are written, their lines are those due, and stored packet bytes steer no line
   pub reads-back : ReadsBack
   pub writes-back : WritesBack

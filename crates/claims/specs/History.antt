@@ -10,7 +10,7 @@ use Rattle.mem.specs.Lists.{choose, sum}
 use Rattle.model.specs.declared.Totals.{Totals}
 use Rattle.model.specs.Answers.{Answer, done, listed}
 use Rattle.model.specs.Plans.{Call, setsUp, grants, grantsAligned, releases, resizes, measures, reports, grantsList}
-use Rattle.model.specs.Calls.{KeptBytes, call, setUp, setUpRight}
+use Rattle.model.specs.Calls.{Form, callBy, setUpBy, setUpRightBy}
 
 -- a call over whatever arena bytes
 pub record Asked : Type 0 where
@@ -62,31 +62,29 @@ entered l (grantsList total cap places ns) r = enteredEach l (r .lent) ns
 abbrev pub booked : Ledger → Call → Answer → Ledger
 booked l c r = let e = entered l c r in choose (eqb (r .number) 0) e l
 
-module _ (row : ℕ) where
-  -- the ledger, and tables and record after calls; these are always lent as the last call left them
-  pub record Books : Type 0 where
-    pub ledger : Ledger
-    pub room : KeptBytes
+-- the ledger, and what is lent for the tables after calls; it is always lent as the last call left it
+pub record Books (R : Type 0) : Type 0 where
+  pub ledger : Ledger
+  pub room : R
 
-  unfoldable pub kept : Ledger → KeptBytes → List Asked → Books
+-- the rules, of totals and the arena's length
+pub record Counts (row : ℕ) (l : Ledger) (s : Totals) (n : ℕ) : Type 0 where
+  pub blocks : s .blocks + l .released ≡ l .granted
+  pub bytes : s .bytes ≡ sum (λ e. e .size) (l .blocks)
+  pub rows : s .held + s .free ≡ n / row
+
+module _ (row : ℕ) (F : Form) where
+  unfoldable pub kept : Ledger → F .Room → List Asked → Books (F .Room)
   kept l t [] = record { ledger = l; room = t }
-  kept l t (c ∷ cs) = let r = call row (c .arena) t (c .asks) in kept (booked l (c .asks) (r .answer)) (r .room) cs
+  kept l t (c ∷ cs) = let r = callBy row F (c .arena) t (c .asks) in kept (booked l (c .asks) (r .answer)) (r .room) cs
 
-  -- the rules, of totals and the arena's length
-  pub record Counts (l : Ledger) (s : Totals) (n : ℕ) : Type 0 where
-    pub blocks : s .blocks + l .released ≡ l .granted
-    pub bytes : s .bytes ≡ sum (λ e. e .size) (l .blocks)
-    pub rows : s .held + s .free ≡ n / row
-
-  -- what report answers over an arena b and the tables that calls left: it is done, and its values are totals that keep the rules, and those
-  -- of the record
-  pub record Tells (b : List ℕ) (k : Books) (n : ℕ) : Type 0 where
+  -- what report answers over an arena b and the tables that calls left: it is done, and its values are totals that keep the rules
+  pub record Tells (b : List ℕ) (k : Books (F .Room)) (n : ℕ) : Type 0 where
     pub totals : Totals
-    pub given : call row b (k .room) reports .answer ≡ done (listed totals)
-    pub recorded : k .room .totals ≡ totals
-    pub counts : Counts (k .ledger) totals n
+    pub given : callBy row F b (k .room) reports .answer ≡ done (listed totals)
+    pub counts : Counts row (k .ledger) totals n
 
   -- HISTORY: from an accepted set up, for every list of calls over any arena at each, and then a report over any arena of the pool's length
   abbrev pub History : Type 0
-  History = (a : List ℕ) (t : KeptBytes) (cs : List Asked) (b : List ℕ) → T (setUpRight row a t) → length b ≡ length a
-      → Tells b (kept opening (setUp row a t .room) cs) (length a)
+  History = (a : List ℕ) (t : F .Room) (cs : List Asked) (b : List ℕ) → T (setUpRightBy row F a t) → length b ≡ length a
+      → Tells b (kept opening (setUpBy row F a t .room) cs) (length a)

@@ -9,7 +9,7 @@ use Rattle.mem.specs.Lists.{any}
 use Rattle.model.specs.Answers.{done}
 use Rattle.model.specs.Proposals.{entries, accepts, plannable, planned}
 use Rattle.model.specs.Plans.{grants, grantsList}
-use Rattle.model.specs.Calls.{KeptBytes, Result, soundKept, call}
+use Rattle.model.specs.Calls.{Form, Outcome, callBy}
 use Rattle.claims.specs.Demand3.{Ended}
 
 -- THE PLANNER: "answers 9 where L or the cap makes it due, else always finds an accepted proposal"; of all that are accepted it has the
@@ -26,29 +26,29 @@ pub record PlansAccepted (total cap : ℕ) : Type 0 where
 abbrev pub PlansAsSaid : Type 0
 PlansAsSaid = (total cap : ℕ) → PlansAccepted total cap
 
-module _ (row : ℕ) where
+module _ (row : ℕ) (F : Form) where
   -- the same grants one after another: the answers, and the arena, the room and the record that they leave
-  unfoldable pub granting : List ℕ → KeptBytes → List ℕ → Ended
+  unfoldable pub granting : List ℕ → F .Room → List ℕ → Ended (F .Room)
   granting a t [] = record { answers = []; arena = a; room = t }
   granting a t (n ∷ ns) =
-      let r = call row a t (grants n) in
+      let r = callBy row F a t (grants n) in
       let g = granting (r .arena) (r .room) ns in
       record { answers = r .answer ∷ g .answers; arena = g .arena; room = g .room }
 
   -- "grants its sizes in order, writes the starts to the front of a lent list .. and gives the number of entries": a list that is done
   -- leaves what the grants leave, and its handles are theirs
-  pub record AsGrants (ns : List ℕ) (r : Result) (g : Ended) : Type 0 where
+  pub record AsGrants (ns : List ℕ) (r : Outcome (F .Room)) (g : Ended (F .Room)) : Type 0 where
     pub entries : r .answer .values ≡ length ns ∷ []
     pub handles : g .answers ≡ map (λ h. done (h ∷ [])) (r .answer .lent)
     pub arena : r .arena ≡ g .arena
     pub room : r .room ≡ g .room
 
   abbrev pub ListsAsGrants : Type 0
-  ListsAsGrants = (a : List ℕ) (t : KeptBytes) (total cap places : ℕ) (ns : List ℕ) → call row a t (grantsList total cap places ns) .answer .number ≡ 0
-      → AsGrants ns (call row a t (grantsList total cap places ns)) (granting a t ns)
+  ListsAsGrants = (a : List ℕ) (t : F .Room) (total cap places : ℕ) (ns : List ℕ) → callBy row F a t (grantsList total cap places ns) .answer .number ≡ 0
+      → AsGrants ns (callBy row F a t (grantsList total cap places ns)) (granting a t ns)
 
   -- "answer 8 exactly if granting the accepted sizes in order would meet it"
   abbrev pub ListsExactly : Type 0
-  ListsExactly = (a : List ℕ) (t : KeptBytes) (total cap places : ℕ) (ns : List ℕ)
-      → T (soundKept row (length a) t) → T (plannable total cap) → entries ≤ places → T (accepts total cap ns)
-      → (call row a t (grantsList total cap places ns) .answer .number ≡ 8) ↔ T (any (λ r. eqb (r .number) 8) (granting a t ns .answers))
+  ListsExactly = (a : List ℕ) (t : F .Room) (total cap places : ℕ) (ns : List ℕ)
+      → T (F .sound (length a) t) → T (plannable total cap) → entries ≤ places → T (accepts total cap ns)
+      → (callBy row F a t (grantsList total cap places ns) .answer .number ≡ 8) ↔ T (any (λ r. eqb (r .number) 8) (granting a t ns .answers))

@@ -7,9 +7,11 @@ use mathlib.Core.List.{List}
 use lib.Dec.{T, eqb}
 use lib.ListN.{length, getD, set}
 use Rattle.mem.specs.Lists.{choose}
-use Rattle.model.specs.Plans.{Call, setsUp, totals}
+use Rattle.model.specs.Answers.{done, listed}
+use Rattle.model.specs.Plans.{Call, setsUp, reports, totals}
 use Rattle.model.specs.Tables.{rowAt, readyAt, slotsAt, slotRecordBytes, sizeAt, mostSlots, view, sound}
-use Rattle.model.specs.Calls.{KeptBytes, keptIn, soundKept, call}
+use Rattle.model.specs.Calls.{KeptBytes, keptIn, engine, soundKept, setUp, setUpRight, call}
+use Rattle.claims.specs.History.{Asked, opening, kept}
 
 -- a byte with bit b the other way: 2^b more where the bit is 0, less where it is 1
 unfoldable pub flip : ℕ → ℕ → ℕ
@@ -30,6 +32,20 @@ module _ (row : ℕ) where
   abbrev pub SoundExactly : Type 0
   SoundExactly = (n : ℕ) (t : KeptBytes)
       → T (soundKept row n t) ↔ (T (sound row n (t .tables)) × (t .totals ≡ totals row (view row (t .tables))))
+
+  -- "Set up writes the record": no total but the rows, which are free
+  abbrev pub RecordsFresh : Type 0
+  RecordsFresh = (a : List ℕ) (t : KeptBytes) → call row a t setsUp .answer .number ≡ 0
+      → call row a t setsUp .room .totals ≡ record { blocks = 0; bytes = 0; held = 0; free = length a / row; ready = 0; waiting = 0 }
+
+  -- "report reads it": what it gives is the record
+  abbrev pub ReportsRecord : Type 0
+  ReportsRecord = (a : List ℕ) (t : KeptBytes) → T (soundKept row (length a) t) → call row a t reports .answer ≡ done (listed (t .totals))
+
+  -- the history is the record's: it holds the totals that report gives after whatever calls
+  abbrev pub HistoryRecorded : Type 0
+  HistoryRecorded = (a : List ℕ) (t : KeptBytes) (cs : List Asked) (b : List ℕ) → T (setUpRight row a t) → length b ≡ length a
+      → let r = kept row (engine row) opening (setUp row a t .room) cs .room in call row b r reports .answer ≡ done (listed (r .totals))
 
   -- a call that is done leaves the totals of the tables that it leaves
   abbrev pub KeepsRecord : Type 0

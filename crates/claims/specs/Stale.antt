@@ -10,9 +10,9 @@ use lib.Dec.{T}
 use lib.ListN.{length}
 use Rattle.model.specs.declared.Slot.{Slot}
 use Rattle.model.specs.State.{Place, isLive, count, startOf, poolOf, start, handle, SameSlot}
+use Rattle.model.specs.Answers.{Answer}
 use Rattle.model.specs.Plans.{Call, setsUp, grants, grantsAligned, releases, resizes, measures, reports, grantsList}
-use Rattle.model.specs.Tables.{view, sound}
-use Rattle.model.specs.Calls.{KeptBytes, Result, soundKept, call}
+use Rattle.model.specs.Calls.{Form, callBy}
 use Rattle.claims.specs.Demand2.{Intact}
 use Rattle.claims.specs.History.{Asked}
 
@@ -39,12 +39,12 @@ Uses reports h = ⊥
 Uses (grantsList total cap places ns) h = ⊥
 
 -- a call that is done ends the block of a handle: its release, or a resize that moves it, and so gives another handle
-abbrev pub Ends : Call → ℕ → Result → Type 0
+abbrev pub Ends : Call → ℕ → Answer → Type 0
 Ends setsUp h r = ⊥
 Ends (grants n) h r = ⊥
 Ends (grantsAligned n b) h r = ⊥
 Ends (releases k) h r = k ≡ h
-Ends (resizes k n) h r = (k ≡ h) × (r .answer .values ≡ h ∷ [] → ⊥)
+Ends (resizes k n) h r = (k ≡ h) × (r .values ≡ h ∷ [] → ⊥)
 Ends (measures k) h r = ⊥
 Ends reports h r = ⊥
 Ends (grantsList total cap places ns) h r = ⊥
@@ -57,35 +57,35 @@ NotGranted x y = (count y ≡ count x) × (T (isLive y) → T (isLive x))
 abbrev pub Steps : Call → Slot → Slot → Type 0
 Steps c x y = NotGranted x y ⊎ (Grants c × T (not (isLive x)) × (count y ≡ (count x + 1) % 256))
 
-module _ (row : ℕ) where
+module _ (row : ℕ) (F : Form) where
   -- "starts are handles with the low four bits cleared", in sound tables
   abbrev pub StartsCleared : Type 0
-  StartsCleared = (n : ℕ) (t : List ℕ) (p : Place) → T (sound row n t) → poolOf p ≡ view row t → startOf (handle row p) ≡ start row p
+  StartsCleared = (n : ℕ) (t : F .Room) (p : Place) → T (F .sound n t) → poolOf p ≡ F .view t → startOf (handle row p) ≡ start row p
 
   -- a slot whose group stays, over any call
   abbrev pub CountsStep : Type 0
-  CountsStep = (a : List ℕ) (t : KeptBytes) (c : Call) (p q : Place) → T (soundKept row (length a) t)
-      → poolOf p ≡ view row (t .tables) → poolOf q ≡ view row (call row a t c .room .tables) → SameSlot row p q → Steps c (p .state) (q .state)
+  CountsStep = (a : List ℕ) (t : F .Room) (c : Call) (p q : Place) → T (F .sound (length a) t)
+      → poolOf p ≡ F .view t → poolOf q ≡ F .view (callBy row F a t c .room) → SameSlot row p q → Steps c (p .state) (q .state)
 
   -- a block's slot in later tables: its group is there, and by its count it has been granted again fewer than sixteen times
-  pub record Remains (p : Place) (t : KeptBytes) : Type 0 where
+  pub record Remains (p : Place) (t : F .Room) : Type 0 where
     pub now : Place
-    pub there : poolOf now ≡ view row (t .tables)
+    pub there : poolOf now ≡ F .view t
     pub slot : SameSlot row p now
     pub few : (count (now .state) + 256 - count (p .state)) % 256 < 16
 
   -- at first and after every call of a list, each over whatever arena and the tables as the last left them
-  unfoldable pub RemainsAll : Place → KeptBytes → List Asked → Type 0
+  unfoldable pub RemainsAll : Place → F .Room → List Asked → Type 0
   RemainsAll p t [] = Remains p t
-  RemainsAll p t (c ∷ cs) = Remains p t × RemainsAll p (call row (c .arena) t (c .asks) .room) cs
+  RemainsAll p t (c ∷ cs) = Remains p t × RemainsAll p (callBy row F (c .arena) t (c .asks) .room) cs
 
-  unfoldable pub after : KeptBytes → List Asked → KeptBytes
+  unfoldable pub after : F .Room → List Asked → F .Room
   after t [] = t
-  after t (c ∷ cs) = after (call row (c .arena) t (c .asks) .room) cs
+  after t (c ∷ cs) = after (callBy row F (c .arena) t (c .asks) .room) cs
 
   -- THE CLAIM, over every list of calls: h is the handle of a block that a call has ended; then any call that uses it is refused
   abbrev pub StaleRefused : Type 0
-  StaleRefused = (a : List ℕ) (t : KeptBytes) (h : ℕ) (p : Place) (ends : Call) → Intact row a (view row (t .tables)) h p
-      → call row a t ends .answer .number ≡ 0 → Ends ends h (call row a t ends)
-      → (cs : List Asked) → RemainsAll p (call row a t ends .room) cs
-      → (b : List ℕ) (c : Call) → Uses c h → call row b (after (call row a t ends .room) cs) c .answer .number ≡ 0 → ⊥
+  StaleRefused = (a : List ℕ) (t : F .Room) (h : ℕ) (p : Place) (ends : Call) → Intact row a (F .view t) h p
+      → callBy row F a t ends .answer .number ≡ 0 → Ends ends h (callBy row F a t ends .answer)
+      → (cs : List Asked) → RemainsAll p (callBy row F a t ends .room) cs
+      → (b : List ℕ) (c : Call) → Uses c h → callBy row F b (after (callBy row F a t ends .room) cs) c .answer .number ≡ 0 → ⊥

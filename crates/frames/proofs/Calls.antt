@@ -14,43 +14,18 @@ use Rattle.model.specs.declared.Reply.{Reply}
 use Rattle.model.specs.State.{Pool, Place, isLive, count, align, useBits, startOf, poolOf}
 use Rattle.model.specs.Blocks.{damage, frame}
 use Rattle.model.specs.Answers.{done, refusal}
-use Rattle.model.specs.Plans.{Plan, Call, setsUp, grants, grantsAligned, releases, resizes, measures, reports, grantsList, refused, plan, grantAs, grantAligned}
+use Rattle.model.specs.Plans.{Plan, Call, grants, grantsAligned, releases, resizes, measures, refused, plan, grantAs, grantAligned}
 use Rattle.model.specs.Plans.{grantAt, reserve, enframe, lookup, onBlock, byHandle, onHandle, newSize}
 use Rattle.model.specs.Plans.{release, releaseAt, resize, resizeAt, resizeInPlace, resizeMove, moveTo, inPlace, measure, measureAt}
-use Rattle.model.specs.Calls.{Form, FormLaws, callBy, checkedBy, carriedBy, applied, damaged, keeps, unless, unsound}
-use Rattle.model.proofs.Calls.{Asks, on-live}
+use Rattle.model.specs.Calls.{Form, FormLaws, callBy, carriedBy, applied, damaged, keeps}
+use Rattle.model.proofs.Calls as calls
+use Rattle.model.proofs.Calls.{Asks, on-live, carried-whole, carried-damaged}
 use Rattle.rows.specs.declared.Block.{Block}
 use Rattle.rows.specs.Rows.{blockOf, looked, ownedAt, handleAt}
 use Rattle.frames.specs.declared.Located.{Located}
 use Rattle.frames.specs.declared.Located.the-variants.{At, Refused}
 use Rattle.frames.specs.Blocks.{codeFound, byDamage, located, CarriedOutBy}
 use Rattle.frames.proofs.Places.{new-size}
-
-module _ (row : ℕ) (F : Form) (a : List ℕ) (t : F .Room) where
-  call-checked : (c : Call) → Asks c → callBy row F a t c ≡ checkedBy row F a t c
-  unfolding callBy
-  call-checked setsUp k = absurd k
-  call-checked (grants n) k = refl
-  call-checked (grantsAligned n b) k = refl
-  call-checked (releases o) k = refl
-  call-checked (resizes o n) k = refl
-  call-checked (measures o) k = refl
-  call-checked reports k = refl
-  call-checked (grantsList total cap places sizes) k = refl
-
-  -- unsound tables
-  pub call-unsound : (c : Call) → Asks c → F .sound (length a) t ≡ false → callBy row F a t c ≡ keeps (unsound c) a t
-  unfolding checkedBy
-  call-unsound c k e = call-checked c k ∙ choose-false (F .sound (length a) t) _ _ e
-
-  -- a plan that names no block, and one that names a block that is not damaged, or is
-  pub carried-whole : (p : Plan) → damaged row a (p .checks) ≡ Intact → carriedBy row F a t p ≡ applied F a p
-  unfolding carriedBy unless
-  carried-whole p e = ap (λ d. unless d (applied F a p) (λ r. keeps (refusal r) a t)) e
-
-  pub carried-damaged : (p : Plan) (r : Refusal) → damaged row a (p .checks) ≡ Damaged r → carriedBy row F a t p ≡ keeps (refusal r) a t
-  unfolding carriedBy unless
-  carried-damaged p r e = ap (λ d. unless d (applied F a p) (λ r. keeps (refusal r) a t)) e
 
 -- what is lent passed the check
 pub record Checked (row : ℕ) (F : Form) (a : List ℕ) (t : F .Room) : Type 0 where
@@ -59,11 +34,10 @@ pub record Checked (row : ℕ) (F : Form) (a : List ℕ) (t : F .Room) : Type 0 
 
 module _ {row : ℕ} {F : Form} {a : List ℕ} {t : F .Room} (r : Checked row F a t) where
   pub same-room : F .encode (F .view t) ≡ t
-  same-room = sym (r .laws .only (length a) t (true-T (F .sound (length a) t) (r .sound)) .1)
+  same-room = calls.same-room row F a t (r .sound) (r .laws)
 
   pub call-sound : (c : Call) → Asks c → callBy row F a t c ≡ carriedBy row F a t (plan row (F .view t) c)
-  unfolding checkedBy
-  call-sound c k = call-checked row F a t c k ∙ choose-true (F .sound (length a) t) _ _ (r .sound)
+  call-sound = calls.call-sound row F a t (r .sound)
 
   -- a plan that refuses, carried out on sound tables, keeps every byte
   pub kept : (x : Refusal) → carriedBy row F a t (refused x (F .view t)) ≡ keeps (refusal x) a t

@@ -1,5 +1,5 @@
 -- The grants of a list, one after the other, in any layout.
-use Rattle.mem.proofs.Prelude.{_∙_, _≡_, sym, ap, refl, true, false, some, none, Option, List, [], _∷_, _++_, map, _+_, ℕ, _<_, _≤_, suc, add-one, arith}
+use Rattle.mem.proofs.Prelude.{_∙_, _≡_, sym, ap, refl, true, false, some, none, Option, List, [], _∷_, map, _+_, ℕ, _<_, _≤_, suc, add-one, arith}
 use Rattle.mem.proofs.Prelude.{length, drop, getD, set}
 use Rattle.mem.specs.Lists.{isSome}
 use Rattle.mem.specs.Bytes.{put}

@@ -14,7 +14,8 @@ use Rattle.model.specs.Plans.{Plan, grantsList, plan, refused, grantList, grant
 use Rattle.model.specs.Calls.{Form, Outcome, callBy, carriedBy, applied, keeps, written}
 use Rattle.model.proofs.Lists.{places-counted, accepts-small}
 use Rattle.frames.specs.Grants.{granted}
-use Rattle.frames.proofs.Calls.{Checked, call-sound, carried-whole, kept}
+use Rattle.model.proofs.Calls.{carried-whole}
+use Rattle.frames.proofs.Calls.{Checked, call-sound, kept}
 
 -- what a refused call tells
 pub refused-parts : {R : Type 0} {c : Outcome R} {a : List ℕ} {t : R} (x : Refusal) (l : List ℕ) → c ≡ keeps (refusal x) a t

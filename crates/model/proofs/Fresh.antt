@@ -1,5 +1,5 @@
 -- A pool with no groups, and what an accepted set up leaves.
-use Rattle.mem.proofs.Prelude.{_∙_, _≡_, sym, ap, refl, List, [], _∷_, ℕ, _<_, _*_, _+_, suc, _/_, zero, _%_, arith, T, eqb→eq, length}
+use Rattle.mem.proofs.Prelude.{_∙_, _≡_, sym, ap, refl, List, [], _∷_, ℕ, _*_, _+_, suc, _/_, zero, _%_, arith, T, eqb→eq, length}
 use native.Mathlib.Nat.{div-add-mod}
 use Rattle.mem.specs.Bytes.{zeros}
 use Rattle.mem.proofs.Tests.{and-left, and-right, T-true, choose-true}
@@ -8,8 +8,7 @@ use Rattle.model.specs.State.{wellFormed, spanSound, alignedFrom, aligne
 use Rattle.model.specs.Answers.{done}
 use Rattle.model.specs.Plans.{freshPool, totals}
 use Rattle.model.specs.Tables.{arenaRight}
-use Rattle.model.specs.Calls.{KeptBytes, engine, soundKept, setUp, setUpRight, setUpBy, setUpRightBy}
-use Rattle.model.proofs.Kept.{engine-lawful}
+use Rattle.model.specs.Calls.{Form, FormLaws, setUpBy, setUpRightBy}
 
 pub fresh-formed : (n : ℕ) → T (wellFormed (freshPool n))
 unfolding spanSound
@@ -40,19 +39,19 @@ pub whole-units : (row n : ℕ) → T (arenaRight row n) → row % 16 ≡ 0
 unfolding arenaRight
 whole-units row n t = eqb→eq (row % 16) 0 (search (and-left, and-right))
 
-module _ (row : ℕ) (a : List ℕ) (t : KeptBytes) (h : T (setUpRight row a t)) where
+module _ (row : ℕ) (F : Form) (a : List ℕ) (t : F .Room) (h : T (setUpRightBy row F a t)) where
   pub set-up-lawful : T (arenaRight row (length a))
   unfolding setUpRightBy
   set-up-lawful = search and-left
 
-  pub set-up-done : setUp row a t
-      ≡ record { answer = done (0 ∷ []); arena = zeros (length a); room = engine row .encode (freshPool (length a / row)) }
+  pub set-up-done : setUpBy row F a t
+      ≡ record { answer = done (0 ∷ []); arena = zeros (length a); room = F .encode (freshPool (length a / row)) }
   unfolding setUpBy
-  set-up-done = choose-true (setUpRight row a t) _ _ (T-true (setUpRight row a t) h)
+  set-up-done = choose-true (setUpRightBy row F a t) _ _ (T-true (setUpRightBy row F a t) h)
 
-  pub set-up-sound : 0 < row → T (soundKept row (length a) (engine row .encode (freshPool (length a / row))))
-  set-up-sound pos =
-      engine-lawful row pos .right (length a) (freshPool (length a / row)) (record {
+  pub set-up-sound : FormLaws row F → T (F .sound (length a) (F .encode (freshPool (length a / row))))
+  set-up-sound L =
+      L .right (length a) (freshPool (length a / row)) (record {
         lawful = set-up-lawful;
         long = sym (ap (λ n. row * n) (fresh-rows row (length a / row)) ∙ whole-rows row (length a) set-up-lawful);
         formed = fresh-formed (length a / row);

@@ -1,6 +1,6 @@
 -- The forms of the tables are lawful, without the record and with it: soundness with its rule is soundness of the tables, and a record that is
 -- their totals.
-use Rattle.mem.proofs.Prelude.{_∙_, _≡_, sym, ap, ap₂, subst, true, ℕ, _<_, _/_, mul-comm, T, length, getD}
+use Rattle.mem.proofs.Prelude.{_∙_, _≡_, sym, ap, ap₂, subst, true, ℕ, _<_, _*_, _/_, mul-comm, arith, eqb→eq, T, length, getD}
 use native.Mathlib.Nat.{mul-div-cancel}
 use Rattle.mem.proofs.Tests.{and-both, and-left, and-right, true-T, T-true, eq→eqb}
 use Rattle.mem.proofs.Laws.{same→eq, same-refl}
@@ -10,6 +10,7 @@ use Rattle.model.specs.State.{Pool, rows}
 use Rattle.model.specs.Plans.{totals}
 use Rattle.model.specs.Tables.{Layout, LayoutLaws, byMasks, encodeBy, view, sound, roomBytes}
 use Rattle.model.specs.Calls.{Kept, KeptBytes, Form, Stands, FormLaws, formOf, sameTotals, masked, counted, engine, soundKept}
+use Rattle.model.proofs.Fresh.{whole-rows}
 use Rattle.model.proofs.Tables.{masks-laws, view-encode, encode-length, encode-sound, sound-facts}
 
 -- totals are their six numbers
@@ -32,6 +33,11 @@ pub totals-same : (s : Totals) → T (sameTotals s s)
 unfolding sameTotals
 totals-same s = same-refl (listed s)
 
+-- a room's size tells its rows
+same-rows : (i j : ℕ) → roomBytes i ≡ roomBytes j → i ≡ j
+unfolding roomBytes
+same-rows i j e = omega (arith, e)
+
 -- tables in a lawful layout are a lawful form
 pub layout-lawful : (L : Layout) → LayoutLaws L → (row : ℕ) → 0 < row → FormLaws row (formOf row L)
 layout-lawful L law row pos = record {
@@ -41,6 +47,10 @@ layout-lawful L law row pos = record {
       let f = sound-facts L row n t h in
       (record { lawful = f .lawful; long = f .long; formed = f .formed; bounds = f .bounds }, f .form);
   taken = λ n P s. eq→eqb (length (encodeBy L row P)) (roomBytes (n / row)) (encode-length law row pos P (s .formed) ∙ ap roomBytes (rows-in n P s));
+  sized = λ n m P s h f.
+      let e : roomBytes (rows row P) ≡ roomBytes (m / row) =
+      sym (encode-length law row pos P (s .formed)) ∙ eqb→eq (length (encodeBy L row P)) (roomBytes (m / row)) f in
+      sym (whole-rows row m h) ∙ ap (λ k. row * k) (sym (same-rows (rows row P) (m / row) e)) ∙ sym (s .long);
 }
   where
     rows-in : (n : ℕ) (P : Pool) → Stands row n P → rows row P ≡ n / row
@@ -61,6 +71,7 @@ counted-lawful row F L = record {
             (and-right (F .sound n (t .tables)) (sameTotals (t .totals) (totals row (F .view (t .tables)))) h)),
       );
   taken = L .taken;
+  sized = L .sized;
 }
 
 pub engine-lawful : (row : ℕ) → 0 < row → FormLaws row (engine row)
@@ -85,9 +96,3 @@ module _ (row n : ℕ) (t : KeptBytes) where
     kept-totals =
         same-totals (t .totals) (totals row (view row (t .tables)))
         (and-right (sound row n (t .tables)) (sameTotals (t .totals) (totals row (view row (t .tables)))) (true-T (soundKept row n t) h))
-
-    -- tables and record are the form of what they say
-    pub kept-whole : engine row .encode (view row (t .tables)) ≡ t
-    kept-whole =
-        ap₂ {C = KeptBytes} (λ r z. record { tables = r; totals = z })
-        (sym (sound-facts byMasks row n (t .tables) (true-T (sound row n (t .tables)) kept-sound) .form)) (sym kept-totals)

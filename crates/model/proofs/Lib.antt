@@ -1,8 +1,10 @@
 pub mod Bench
+pub mod PlainBench
 pub mod Tables
 pub mod Rooms
 pub mod Kept
 pub mod Plain
+pub mod Octets
 pub mod Fresh
 pub mod Bounds
 pub mod Lookup

@@ -1,14 +1,14 @@
 -- Laws of the tables: their exact size, and that one state has one byte form, which says that state.
 use Rattle.mem.proofs.Prelude.{_∙_, _≡_, sym, ap, refl, ap₂, true, Bool, false, List, [], _∷_, _++_, append-assoc, map, append-nil, _+_, ℕ, _<_}
-use Rattle.mem.proofs.Prelude.{_≤_, _*_, _-_, suc, _/_, zero, _^_, zero-add, arith, eq-eqb, T, eqb, leb, lit≤, ltb, eqb→eq, leb→le, ltb→lt, lt→ltb}
+use Rattle.mem.proofs.Prelude.{_≤_, _*_, _-_, suc, _/_, zero, _^_, zero-add, arith, eq-eqb, T, eqb, leb, lit≤, ltb, eqb→eq, leb→le, ltb→lt}
 use Rattle.mem.proofs.Prelude.{length, drop, length-append, length-map, drop-at}
 use native.Mathlib.Nat.{le-trans, lt-of-lt-of-le, pow-le-pow-right, suc-add}
 use lib.Seq.{take-at}
 use Rattle.mem.specs.Lists.{choose, every, join}
 use Rattle.mem.specs.Bytes.{zeros, low, number, mask, same}
-use Rattle.mem.proofs.Tests.{and-left, and-right, and-both, true-T, every-append}
+use Rattle.mem.proofs.Tests.{and-left, and-right, and-both, true-T}
 use Rattle.mem.proofs.Masks.{mask-below, low-test, rest-bits}
-use Rattle.mem.proofs.Laws.{zeros-length, number-low, low-bytes, same-refl, same→eq}
+use Rattle.mem.proofs.Laws.{zeros-length, number-low, same-refl, same→eq}
 use Rattle.classes.specs.Classes.{slotBytes, slotsOf, rowsOf, tooLarge}
 use Rattle.classes.specs.Alignments.{enlarged}
 use Rattle.classes.proofs.Alignments.{enlarged-least}
@@ -20,7 +20,7 @@ use Rattle.model.specs.declared.Holder.the-variants.{Free, First, Later}
 use Rattle.model.specs.State.{Span, Pool, free, group, isReady, isWaiting, size, slotSound, spanSound, wellFormed, aligned, rows, rowsIn}
 use Rattle.model.specs.Tables.{slotRecord, holderBytes, rowRecord, laterRecords, roomBytes, viewSlot, viewSlots, viewGroup, rowRecordBytes}
 use Rattle.model.specs.Tables.{viewHolder, spanOf, encodeBy, soundBy, spanRecordsBy, viewBy, viewRowsBy}
-use Rattle.model.specs.Tables.{Layout, LayoutLaws, byMasks, spanRecords, encode, arenaRight}
+use Rattle.model.specs.Tables.{Layout, LayoutLaws, byMasks, arenaRight}
 
 -- ---- lengths
 
@@ -289,89 +289,6 @@ module _ (L : Layout) (row : ℕ) where
 pub masks-laws : LayoutLaws byMasks
 unfolding rowRecord
 masks-laws = record { long = λ c ss. row-length (First c) ss; holder = holder-first; slots = view-group }
-
--- ---- every element of the byte form is a byte
-
-unfoldable pub Bytes : List ℕ → Type 0
-Bytes bs = T (every (λ b. ltb b 256) bs)
-
-bytes-append : (xs ys : List ℕ) → Bytes xs → Bytes ys → Bytes (xs ++ ys)
-unfolding Bytes
-bytes-append xs ys t u = every-append (λ b. ltb b 256) xs ys t u
-
-byte : (b : ℕ) (bs : List ℕ) → b < 256 → Bytes bs → Bytes (b ∷ bs)
-unfolding Bytes
-byte b bs h t = and-both (ltb b 256) (every (λ b. ltb b 256) bs) (lt→ltb b 256 h) t
-
-no-bytes : Bytes []
-unfolding Bytes
-no-bytes = tt
-
-low-small : (k x : ℕ) → Bytes (low k x)
-unfolding Bytes
-low-small k x = low-bytes k x
-
-zeros-bytes : (n : ℕ) → Bytes (zeros n)
-unfolding zeros
-zeros-bytes zero = no-bytes
-zeros-bytes (suc n) = byte 0 (zeros n) (lit≤ tt) (zeros-bytes n)
-
-slot-bytes : (c : ℕ) (x : Slot) → T (slotSound c x) → Bytes (slotRecord x)
-unfolding slotRecord slotSound
-slot-bytes c Fresh t = zeros-bytes 8
-slot-bytes c (Idle r k d) t =
-    byte 1 _ (lit≤ tt) (byte k _ (ltb→lt k 256 (and-left (ltb k 256) (leb (16 * d) (slotBytes c - 4)) t))
-    (bytes-append (low 2 d) (zeros 4) (low-small 2 d) (zeros-bytes 4)))
-slot-bytes c (Live a) t =
-    let h : T (ltb (a .count) 256) = search (and-left, and-right) in
-    let k : T (leb (a .align) 9) = search (and-left, and-right) in
-    byte (a .align) _ (omega (arith, leb→le (a .align) 9 k)) (byte (a .count) _ (ltb→lt (a .count) 256 h)
-    (bytes-append (low 2 (a .disp)) (low 3 (a .size) ++ (0 ∷ [])) (low-small 2 (a .disp))
-    (bytes-append (low 3 (a .size)) (0 ∷ []) (low-small 3 (a .size)) (byte 0 [] (lit≤ tt) no-bytes))))
-
-slots-bytes : (c : ℕ) (ss : List Slot) → T (every (slotSound c) ss) → Bytes (join slotRecord ss)
-slots-bytes c [] t = no-bytes
-slots-bytes c (x ∷ ss) t =
-    bytes-append (slotRecord x) (join slotRecord ss) (slot-bytes c x (and-left (slotSound c x) (every (slotSound c) ss) t))
-    (slots-bytes c ss (and-right (slotSound c x) (every (slotSound c) ss) t))
-
-row-bytes : (h : Holder) (ss : List Slot) → Bytes (holderBytes h) → Bytes (join slotRecord ss) → Bytes (rowRecord h ss)
-unfolding rowRecord
-row-bytes h ss u t =
-    bytes-append (holderBytes h) _ u
-    (bytes-append (zeros 6) _ (zeros-bytes 6)
-    (bytes-append (low 4 (mask (map isReady ss))) _ (low-small 4 (mask (map isReady ss)))
-    (bytes-append (low 4 (mask (map isWaiting ss))) _ (low-small 4 (mask (map isWaiting ss)))
-    (bytes-append (join slotRecord ss) _ t (zeros-bytes (8 * (31 - length ss)))))))
-
-later-bytes : (m k : ℕ) → k + m ≤ 256 → Bytes (laterRecords m k)
-unfolding laterRecords
-later-bytes zero k h = no-bytes
-later-bytes (suc m) k h =
-    bytes-append (rowRecord (Later k) []) (laterRecords m (suc k))
-    (row-bytes (Later k) [] (byte 2 _ (lit≤ tt) (byte k [] (omega arith) no-bytes)) no-bytes) (later-bytes m (suc k) (omega arith))
-
-module _ (row : ℕ) (few : (c : ℕ) → c < 48 → rowsOf row c ≤ 256) where
-  spans-bytes : (P : Pool) → T (wellFormed P) → Bytes (join (spanRecords row) P)
-  unfolding spanRecordsBy spanSound
-  spans-bytes [] t = no-bytes
-  spans-bytes (free ∷ P) t =
-      bytes-append (rowRecord Free []) (join (spanRecords row) P) (row-bytes Free [] (byte 0 _ (lit≤ tt) (byte 0 [] (lit≤ tt) no-bytes)) no-bytes)
-      (spans-bytes P t)
-  spans-bytes (group c ss ∷ P) t =
-      let h : T (spanSound (group c ss)) = and-left (spanSound (group c ss)) (wellFormed P) t in
-      let l : c < 48 = ltb→lt c 48 (search (and-left, and-right)) in
-      bytes-append (rowRecord (First c) ss ++ laterRecords (rowsOf row c - 1) 1) (join (spanRecords row) P)
-      (bytes-append (rowRecord (First c) ss) (laterRecords (rowsOf row c - 1) 1)
-      (row-bytes (First c) ss (byte 1 _ (lit≤ tt) (byte c [] (omega arith) no-bytes)) (slots-bytes c ss (search (and-left, and-right))))
-      (later-bytes (rowsOf row c - 1) 1 (omega (arith, few c l))))
-      (spans-bytes P (and-right (spanSound (group c ss)) (wellFormed P) t))
-
-  pub encode-bytes : (P : Pool) → T (wellFormed P) → Bytes (encode row P)
-  unfolding encodeBy
-  encode-bytes P t =
-      bytes-append (low 4 (row * rows row P)) _ (low-small 4 (row * rows row P))
-      (bytes-append (zeros 12) _ (zeros-bytes 12) (spans-bytes P t))
 
 -- ---- a mask of a group's slots, read back
 

@@ -53,9 +53,13 @@ Result = Outcome KeptBytes
 unfoldable pub sameTotals : Totals → Totals → Bool
 sameTotals a b = same (listed a) (listed b)
 
+-- an answer, with the arena and the room that a call leaves
+abbrev pub left : {R : Type 0} → Answer → List ℕ → R → Outcome R
+left r a t = record { answer = r; arena = a; room = t }
+
 -- "With a refusal .. arena and tables keep every byte."
 abbrev pub keeps : {R : Type 0} → Answer → List ℕ → R → Outcome R
-keeps r a t = record { answer = r; arena = a; room = t }
+keeps r a t = left r a t
 
 -- the arena after writes, one after the other
 abbrev pub write : List ℕ → Write → List ℕ
@@ -129,12 +133,13 @@ module _ (row : ℕ) where
     pub formed : T (wellFormed P)
     pub bounds : T (aligned row P)
 
-  -- The laws of a form: a sound room is the one form of a state that stands, and says it; set up takes it back.
+  -- The laws of a form: a sound room is the one form of a state that stands, and says it; set up takes it back, over arenas of that length alone.
   pub record FormLaws (F : Form) : Type 0 where
     pub says : (P : Pool) → T (wellFormed P) → F .view (F .encode P) ≡ P
     pub right : (n : ℕ) (P : Pool) → Stands n P → T (F .sound n (F .encode P))
     pub only : (n : ℕ) (t : F .Room) → T (F .sound n t) → Stands n (F .view t) × (t ≡ F .encode (F .view t))
     pub taken : (n : ℕ) (P : Pool) → Stands n P → T (F .fits n (F .encode P))
+    pub sized : (n m : ℕ) (P : Pool) → Stands n P → T (arenaRight row m) → T (F .fits m (F .encode P)) → m ≡ n
 
   -- tables in bytes, in a layout: set up takes a room of the one exact size
   abbrev pub formOf : Layout → Form

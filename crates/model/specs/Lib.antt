@@ -7,3 +7,4 @@ pub mod Tables
 pub mod Calls
 pub mod Plain
 pub mod Bench
+pub mod PlainBench

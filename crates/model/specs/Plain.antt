@@ -11,7 +11,8 @@ use Rattle.model.specs.declared.Slot.the-variants.{Fresh, Idle, Live}
 use Rattle.model.specs.declared.Holder.the-variants.{First}
 use Rattle.model.specs.State.{count, disp, size}
 use Rattle.model.specs.Tables.{Layout, slotsAt, slotRecordBytes, countAt, dispAt, sizeAt, mostSlots, holderBytes}
-use Rattle.model.specs.Calls.{Form, formOf}
+use Rattle.model.specs.Plans.{Call}
+use Rattle.model.specs.Calls.{Form, Outcome, formOf, callBy}
 
 -- the condition of a slot: 0 never granted, 1 ready, 2 waiting; from 3 on live, with the alignment's code
 abbrev pub condition : Slot → ℕ
@@ -50,6 +51,10 @@ plainGroup c t = plainSlots (slotsOf c) (drop slotsAt t)
 abbrev pub bySlots : Layout
 bySlots = record { firstRow = plainRow; slotsIn = plainGroup }
 
--- THE SECOND ENGINE, by its form
+-- THE SECOND ENGINE, by its form: soundness is document 01's with 02 §6, "but without §4's rule"
 abbrev pub plainForm : ℕ → Form
 plainForm row = formOf row bySlots
+
+-- what its calls leave
+abbrev pub plainCall : ℕ → List ℕ → List ℕ → Call → Outcome (List ℕ)
+plainCall row a t c = callBy row (plainForm row) a t c

@@ -15,6 +15,7 @@ use Rattle.model.specs.Plans.{releaseAt, resizeAt, measureAt, report}
 use Rattle.model.specs.Tables.{byMasks, view, encode}
 use Rattle.model.specs.Calls.{KeptBytes, keptIn, engine, soundKept, call, carried, applied, keeps}
 use Rattle.model.proofs.Kept.{kept-sound, kept-totals, engine-lawful}
+use Rattle.model.proofs.Calls.{carried-whole}
 use Rattle.rows.specs.declared.Block.{Block}
 use Rattle.rows.specs.Rows.{Lent, looked, ownedAt, handleAt, Holds}
 use Rattle.rows.proofs.Rooms.{by-masks}
@@ -152,5 +153,5 @@ module _ {row : ℕ} {t : KeptBytes} (a : List ℕ) (r : Checked row a t) where
   pub reporting : call row a t reports ≡ keeps (done (listed (t .totals))) a t
   unfolding plan report
   reporting =
-      any.call-sound form reports tt ∙ any.carried-whole row (engine row) a t (report row (view row (t .tables))) refl
+      any.call-sound form reports tt ∙ carried-whole row (engine row) a t (report row (view row (t .tables))) refl
       ∙ ap₂ (λ z u. keeps (done (listed z)) a u) (sym (kept-totals row (length a) t (r .kept))) (any.same-room form)

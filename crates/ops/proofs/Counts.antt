@@ -1,5 +1,5 @@
 -- What a release and a resize in place do to the totals.
-use Rattle.mem.proofs.Prelude.{_∙_, _≡_, sym, ap, refl, subst, true, false, Bool, List, _++_, _∷_, ℕ, _+_, _<_, arith}
+use Rattle.mem.proofs.Prelude.{_∙_, _≡_, sym, ap, refl, subst, true, false, Bool, List, _++_, _∷_, ℕ, _<_, arith}
 use Rattle.mem.specs.Lists.{choose, any, sum}
 use Rattle.mem.specs.Bytes.{bit}
 use Rattle.classes.specs.Classes.{rowsOf, tooLarge}

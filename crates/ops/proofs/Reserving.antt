@@ -1,5 +1,5 @@
 -- A slot reserved in the first engine's tables, with the totals: the steps are those of any layout.
-use Rattle.mem.proofs.Prelude.{_∙_, _≡_, sym, ap, refl, ap₂, subst, not, some, none, Option, List, [], _∷_, _++_, _+_, ℕ, _<_, arith, T, length}
+use Rattle.mem.proofs.Prelude.{_∙_, _≡_, sym, ap, refl, ap₂, subst, not, some, none, Option, List, [], _∷_, _++_, ℕ, _<_, arith, T, length}
 use Rattle.mem.proofs.Prelude.{replicate}
 use Rattle.mem.specs.Lists.{any}
 use Rattle.mem.specs.Bytes.{put}

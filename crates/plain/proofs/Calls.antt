@@ -1,6 +1,7 @@
 -- The plain pool's tables as the calls over any form take them, and what a call leaves, part by part.
-use Rattle.mem.proofs.Prelude.{_∙_, _≡_, sym, ap, refl, true, false, Bool, List, ℕ, arith, lit≤, length}
-use Rattle.classes.specs.Classes.{rowBytes, Lawful}
+use Rattle.mem.proofs.Prelude.{_∙_, _≡_, sym, ap, refl, true, false, Bool, List, ℕ, arith, length}
+use Rattle.classes.specs.Classes.{rowBytes}
+use Rattle.classes.proofs.Laws.{card-some}
 use Rattle.model.specs.declared.Reply.{Reply}
 use Rattle.model.specs.declared.Totals.{Totals}
 use Rattle.model.specs.Answers.{replyAnswer, done, listed}
@@ -13,15 +14,11 @@ use Rattle.frames.specs.Blocks.{CarriedOutBy}
 use Rattle.rows.specs.declared.Counted.{Counted}
 use Rattle.rows.specs.Counts.{countedIf}
 use Rattle.mem.specs.Lists.{choose}
-use Rattle.frames.proofs.Calls.{Checked, call-sound, carried-whole}
-
--- the card's row
-pub card-row : Lawful rowBytes
-unfolding rowBytes
-card-row = (lit≤ tt, lit≤ tt, refl)
+use Rattle.model.proofs.Calls.{carried-whole}
+use Rattle.frames.proofs.Calls.{Checked, call-sound}
 
 pub by-check : (a t : List ℕ) → soundBy bySlots rowBytes (length a) t ≡ true → Checked rowBytes (plainForm rowBytes) a t
-by-check a t e = record { laws = plain-lawful rowBytes (omega (arith, card-row .0)); sound = e }
+by-check a t e = record { laws = plain-lawful rowBytes card-some; sound = e }
 
 -- equal results leave the same
 pub parts : {r s : Outcome (List ℕ)} → r ≡ s → (r .answer ≡ s .answer) × ((r .arena ≡ s .arena) × (r .room ≡ s .room))

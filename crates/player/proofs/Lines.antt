@@ -8,7 +8,7 @@ use Rattle.model.specs.declared.Totals.{Totals}
 use Rattle.model.specs.Answers.{Answer, done, reportRefusal, listed}
 use Rattle.model.specs.Plans.{reports, plan, report, totals}
 use Rattle.model.specs.Tables.{byMasks, arenaRight, sound, view}
-use Rattle.model.specs.Calls.{KeptBytes, Result, soundKept, call}
+use Rattle.model.specs.Calls.{KeptBytes, Result, engine, soundKept, call}
 use Rattle.model.proofs.Tables.{sound-facts}
 use Rattle.model.proofs.Kept.{kept-sound}
 use Rattle.model.proofs.Counts.{Few, totals-few}
@@ -50,7 +50,7 @@ module _ (a : List ℕ) (t : KeptBytes) where
       let q = sound-facts byMasks rowBytes (length a) (t .tables) (true-T (sound rowBytes (length a) (t .tables)) (kept-sound rowBytes (length a) t e)) in
       let n : length a ≤ 262144 = leb→le (length a) 262144 (let l = q .lawful in search (and-left, and-right)) in
       let f = totals-few rowBytes (lit≤ tt) P (q .formed) (omega (arith, q .long)) in
-      subst short (sym (ap (λ (r : Result). r .answer) (call-sound rowBytes a t e reports tt ∙ carried-whole rowBytes a t (report rowBytes P) refl)))
+      subst short (sym (ap (λ (r : Result). r .answer) (call-sound rowBytes (engine rowBytes) a t e reports tt ∙ carried-whole rowBytes (engine rowBytes) a t (report rowBytes P) refl)))
       (few-short (totals rowBytes P) f)
 
   pub report-short : short (call rowBytes a t reports .answer)
@@ -58,4 +58,4 @@ module _ (a : List ℕ) (t : KeptBytes) where
     where
       go : (b : Bool) → soundKept rowBytes (length a) t ≡ b → short (call rowBytes a t reports .answer)
       go true e = sound-short e
-      go false e = subst short (sym (ap (λ (r : Result). r .answer) (call-unsound rowBytes a t reports tt e))) unsound-short
+      go false e = subst short (sym (ap (λ (r : Result). r .answer) (call-unsound rowBytes (engine rowBytes) a t reports tt e))) unsound-short

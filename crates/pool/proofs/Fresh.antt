@@ -1,6 +1,5 @@
 -- What a call leaves, part by part.
-use Rattle.mem.proofs.Prelude.{_∙_, _≡_, sym, ap, refl, subst, List, ℕ, lit≤}
-use Rattle.classes.specs.Classes.{rowBytes, Lawful}
+use Rattle.mem.proofs.Prelude.{_∙_, _≡_, sym, ap, subst, List, ℕ}
 use Rattle.model.specs.declared.Refusal.{Refusal}
 use Rattle.model.specs.declared.Reply.{Reply}
 use Rattle.model.specs.declared.Totals.{Totals}
@@ -9,11 +8,6 @@ use Rattle.model.specs.Answers.{Answer, refusal, replyAnswer}
 use Rattle.model.specs.Plans.{Plan}
 use Rattle.model.specs.Calls.{Result, engine, applied}
 use Rattle.ops.specs.Blocks.{CarriedOut}
-
--- the card's row
-pub card-row : Lawful rowBytes
-unfolding rowBytes
-card-row = (lit≤ tt, lit≤ tt, refl)
 
 -- equal results leave the same
 pub parts : {r s : Result} → r ≡ s

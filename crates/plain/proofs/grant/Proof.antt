@@ -5,7 +5,8 @@ use Rattle.classes.specs.Alignments.{ordinary}
 use Rattle.model.specs.Plans.{grants, grantAs}
 use Rattle.model.specs.Tables.{viewBy}
 use Rattle.model.specs.Plain.{bySlots, plainForm}
-use Rattle.frames.proofs.Calls.{call-unsound, called, grant-does}
+use Rattle.model.proofs.Calls.{call-unsound}
+use Rattle.frames.proofs.Calls.{called, grant-does}
 use Rattle.plain.proofs.Calls.{by-check, parts, carried-as}
 use Rattle.plain.proofs.grant.Statement.{statement}
 use Rattle.plain.proofs.grant.Tie as tie

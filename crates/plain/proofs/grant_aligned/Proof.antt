@@ -7,7 +7,8 @@ use Rattle.model.specs.Plans.{grantsAligned, grantAs, refused}
 use Rattle.model.specs.Tables.{viewBy}
 use Rattle.model.specs.Plain.{bySlots, plainForm}
 use Rattle.frames.specs.Blocks.{CarriedOutBy}
-use Rattle.frames.proofs.Calls.{Checked, call-unsound, called, refused-out, aligned-none, aligned-does}
+use Rattle.model.proofs.Calls.{call-unsound}
+use Rattle.frames.proofs.Calls.{Checked, called, refused-out, aligned-none, aligned-does}
 use Rattle.plain.proofs.Calls.{by-check, parts, carried-as}
 use Rattle.plain.proofs.grant_aligned.Statement.{statement}
 use Rattle.plain.proofs.grant_aligned.Tie as tie

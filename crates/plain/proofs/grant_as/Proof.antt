@@ -2,6 +2,7 @@
 use Rattle.mem.proofs.Prelude.{_∙_, _≡_, sym, ap, subst, some, [], _∷_, now, needs, leb-true, leb-false, length}
 use Rattle.classes.specs.Classes.{rowBytes, tooLarge}
 use Rattle.classes.specs.Alignments.{enlarged, Askable}
+use Rattle.classes.proofs.Laws.{card-row}
 use Rattle.model.specs.State.{Place}
 use Rattle.model.specs.Answers.{done}
 use Rattle.model.specs.Plans.{reserve}
@@ -13,7 +14,7 @@ use Rattle.frames.proofs.Places.{reserved-stands}
 use Rattle.frames.proofs.Calls.{Checked, grant-too-large, granted-none, granted-at}
 use Rattle.plain_find.proofs.Opens.{by-slots}
 use Rattle.plain_ops.proofs.Reserves.{reserved-place, reserved-none}
-use Rattle.plain.proofs.Calls.{card-row, by-check}
+use Rattle.plain.proofs.Calls.{by-check}
 use Rattle.plain.proofs.grant_as.Statement.{statement}
 use Rattle.plain.proofs.grant_as.Tie as tie
 

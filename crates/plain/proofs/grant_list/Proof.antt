@@ -4,14 +4,16 @@ use Rattle.mem.specs.Lists.{isSome}
 use Rattle.mem.specs.Bytes.{put}
 use Rattle.mem.proofs.Tests.{true-T, T-true}
 use Rattle.classes.specs.Classes.{rowBytes}
+use Rattle.classes.proofs.Laws.{card-row}
 use Rattle.model.specs.Proposals.{entries, accepts, plannable}
 use Rattle.model.specs.declared.Refusal.the-variants.{Unsound, NoRoom, TooLong, BadProposal}
 use Rattle.model.specs.Plans.{grantsList, reserveAll}
 use Rattle.model.specs.Tables.{viewBy}
 use Rattle.model.specs.Plain.{bySlots, plainForm}
 use Rattle.model.proofs.Lists.{small, accepts-small, accepts-few}
-use Rattle.frames.proofs.Calls.{Checked, call-unsound}
-use Rattle.plain.proofs.Calls.{card-row, by-check}
+use Rattle.model.proofs.Calls.{call-unsound}
+use Rattle.frames.proofs.Calls.{Checked}
+use Rattle.plain.proofs.Calls.{by-check}
 use Rattle.frames.proofs.Lists.{refused-parts, too-long, bad-proposal, no-room, whole}
 use Rattle.plain.proofs.grant_list.Statement.{statement}
 use Rattle.plain.proofs.grant_list.Tie as tie

@@ -1,12 +1,14 @@
 -- By what is located.
 use Rattle.mem.proofs.Prelude.{_∙_, sym, ap, refl, [], _∷_, now, needs, not-false, not-true}
 use Rattle.classes.specs.Classes.{rowBytes}
+use Rattle.classes.proofs.Laws.{card-row}
 use Rattle.model.specs.Answers.{done}
 use Rattle.model.specs.Plans.{measures, measureAt}
 use Rattle.model.specs.Tables.{viewBy}
 use Rattle.model.specs.Plain.{bySlots, plainForm}
-use Rattle.frames.proofs.Calls.{Checked, call-unsound, called-at, called-refused, measuring}
-use Rattle.plain.proofs.Calls.{card-row, by-check, parts}
+use Rattle.model.proofs.Calls.{call-unsound}
+use Rattle.frames.proofs.Calls.{Checked, called-at, called-refused, measuring}
+use Rattle.plain.proofs.Calls.{by-check, parts}
 use Rattle.plain.proofs.measure.Statement.{statement}
 use Rattle.plain.proofs.measure.Tie as tie
 

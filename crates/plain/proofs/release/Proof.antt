@@ -1,14 +1,16 @@
 -- By what is located.
 use Rattle.mem.proofs.Prelude.{_∙_, sym, now, needs, not-false, not-true}
 use Rattle.classes.specs.Classes.{rowBytes}
+use Rattle.classes.proofs.Laws.{card-row}
 use Rattle.model.specs.State.{startOf}
 use Rattle.model.specs.Plans.{releases, releaseAt}
 use Rattle.model.specs.Plain.{bySlots, plainForm}
 use Rattle.rows.specs.Rows.{Holds}
 use Rattle.frames.proofs.Places.{found-holds}
-use Rattle.frames.proofs.Calls.{Checked, call-unsound, Called, called-at, called-refused, releasing, release-names, release-done}
+use Rattle.model.proofs.Calls.{call-unsound}
+use Rattle.frames.proofs.Calls.{Checked, Called, called-at, called-refused, releasing, release-names, release-done}
 use Rattle.plain_find.proofs.Opens.{by-slots}
-use Rattle.plain.proofs.Calls.{card-row, by-check, parts}
+use Rattle.plain.proofs.Calls.{by-check, parts}
 use Rattle.plain.proofs.release.Statement.{statement}
 use Rattle.plain.proofs.release.Tie as tie
 

@@ -5,7 +5,7 @@ use Rattle.model.specs.Answers.{done, listed}
 use Rattle.model.specs.Plans.{reports, totals}
 use Rattle.model.specs.Tables.{soundBy, viewBy}
 use Rattle.model.specs.Plain.{bySlots, plainForm}
-use Rattle.frames.proofs.Calls.{call-unsound}
+use Rattle.model.proofs.Calls.{call-unsound}
 use Rattle.plain.proofs.Calls.{by-check, parts, reporting, counted-sound, counted-unsound}
 use Rattle.plain.proofs.report.Statement.{statement}
 use Rattle.plain.proofs.report.Tie as tie

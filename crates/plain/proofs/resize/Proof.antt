@@ -2,6 +2,7 @@
 use Rattle.mem.proofs.Prelude.{_∙_, _≡_, sym, ap, subst, _<_, arith, now, needs, not-false, not-true, leb, leb-false, length}
 use Rattle.classes.specs.Classes.{rowBytes, tooLarge}
 use Rattle.classes.specs.Alignments.{enlarged, Askable}
+use Rattle.classes.proofs.Laws.{card-row}
 use Rattle.model.specs.State.{startOf}
 use Rattle.model.specs.Plans.{resizes, resizeAt, lookup, newSize}
 use Rattle.model.specs.Tables.{viewBy}
@@ -11,9 +12,10 @@ use Rattle.model.proofs.Formed.{code-kept}
 use Rattle.rows.specs.Rows.{Lent, looked, Holds}
 use Rattle.frames.specs.Blocks.{codeFound, judged, located, CarriedOutBy}
 use Rattle.frames.proofs.Places.{held-pool, Known, found-known, found-holds, judged-looked, new-size}
-use Rattle.frames.proofs.Calls.{Checked, call-unsound, Called, called-at, called-refused, resizing, resize-names, resize-too-large}
+use Rattle.model.proofs.Calls.{call-unsound}
+use Rattle.frames.proofs.Calls.{Checked, Called, called-at, called-refused, resizing, resize-names, resize-too-large}
 use Rattle.plain_find.proofs.Opens.{by-slots}
-use Rattle.plain.proofs.Calls.{card-row, by-check, parts, carried-as}
+use Rattle.plain.proofs.Calls.{by-check, parts, carried-as}
 use Rattle.plain.proofs.resize.Statement.{statement}
 use Rattle.plain.proofs.resize.Tie as tie
 

@@ -4,11 +4,13 @@ use Rattle.mem.specs.Lists.{choose}
 use Rattle.mem.specs.Bytes.{part}
 use Rattle.mem.proofs.Tests.{choose-true, choose-false}
 use Rattle.classes.specs.Classes.{rowBytes}
+use Rattle.classes.proofs.Laws.{card-some}
 use Rattle.model.specs.declared.Totals.{Totals}
 use Rattle.model.specs.declared.Answered.{Answered}
 use Rattle.model.specs.Answers.{Answer, done, replyAnswer}
 use Rattle.model.specs.Plans.{Call, grants, releases, resizes, measures, reports}
-use Rattle.model.specs.Calls.{KeptBytes, keptIn, Result, call}
+use Rattle.model.specs.Calls.{KeptBytes, keptIn, Result, engine, call}
+use Rattle.model.proofs.Kept.{engine-lawful}
 use Rattle.model.proofs.Calls.{LeftAsIs, measure-keeps, report-keeps}
 use Rattle.trace.specs.declared.Op.{Op}
 use Rattle.trace.specs.Trace.{Within, operationOf}
@@ -98,7 +100,8 @@ unfolding performed operationOf
 returns-4 c =
     let s = c .before .before .before .before .before .before .before .before .before in
     let o = c .before .before .before .before .op4 .given in
-    let k = measure-keeps rowBytes (now (s .args .arena)) (keptIn (now (s .args .room)) (s .args .t)) (o .0 .0) in
+    let k = measure-keeps rowBytes (engine rowBytes) (engine-lawful rowBytes card-some) (now (s .args .arena)) (keptIn (now (s .args .room)) (s .args .t))
+    (o .0 .0) in
     (tt, asks s (Op.Measure (o .0 .0)) (measures (o .0 .0)) _ _ _ _ (o .1) refl (c .measure .ensures, as-they-were k))
 
 -- a store made of a part of the trace
@@ -128,7 +131,7 @@ returns-7 : tie.Need-returns-7
 unfolding performed operationOf
 returns-7 c =
     let s = c .before .before .before .before .before .before .before .before in
-    let k = report-keeps rowBytes (now (s .args .arena)) (keptIn (now (s .args .room)) (s .args .t)) in
+    let k = report-keeps rowBytes (engine rowBytes) (engine-lawful rowBytes card-some) (now (s .args .arena)) (keptIn (now (s .args .room)) (s .args .t)) in
     let e = c .report .ensures in (
       subst (λ (r : Answer). length (lineText (Line.told r)) ≤ 45) (sym e) (report-short (now (s .args .arena)) (keptIn (now (s .args .room)) (s .args .t))),
       asks s Op.Report reports _ _ _ _ (c .before .before .before .enum-told .given .1) refl (e, as-they-were k),

@@ -2,12 +2,13 @@
 use Rattle.mem.proofs.Prelude.{_∙_, sym, now, needs, not-false, not-true, lit≤}
 use Rattle.classes.specs.Classes.{rowBytes}
 use Rattle.classes.specs.Alignments.{ordinary}
+use Rattle.classes.proofs.Laws.{card-row}
 use Rattle.model.specs.Plans.{grants, grantAs}
 use Rattle.model.specs.Tables.{view}
-use Rattle.model.specs.Calls.{keptIn}
+use Rattle.model.specs.Calls.{keptIn, engine}
 use Rattle.model.proofs.Calls.{call-unsound}
 use Rattle.ops.proofs.Calls.{by-check, called, grant-does}
-use Rattle.pool.proofs.Fresh.{card-row, parts, refused-as, carried-as}
+use Rattle.pool.proofs.Fresh.{parts, refused-as, carried-as}
 use Rattle.pool.proofs.grant.Statement.{statement}
 use Rattle.pool.proofs.grant.Tie as tie
 
@@ -17,7 +18,7 @@ returns d =
     let c = d .before in
     let a = c .before .before .before .before .before .args in
     let w = c .before .sound in
-    refused-as (d .refused .ensures) (parts (sym (call-unsound rowBytes (now (a .arena)) (keptIn (now (a .room)) (a .t)) (grants (a .n)) tt
+    refused-as (d .refused .ensures) (parts (sym (call-unsound rowBytes (engine rowBytes) (now (a .arena)) (keptIn (now (a .room)) (a .t)) (grants (a .n)) tt
     (sym (w .ensures) ∙ not-true (w .result) (c .if1 .taken)))))
 
 grant-as-requires : tie.Need-grant-as-requires

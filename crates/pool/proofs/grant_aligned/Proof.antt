@@ -2,14 +2,15 @@
 use Rattle.mem.proofs.Prelude.{_∙_, sym, subst, _<_, arith, now, needs, not-false, not-true}
 use Rattle.classes.specs.Classes.{rowBytes}
 use Rattle.classes.specs.Alignments.{codeOf}
+use Rattle.classes.proofs.Laws.{card-row}
 use Rattle.model.specs.Plans.{grantsAligned, grantAs, refused}
 use Rattle.model.specs.Tables.{view}
 use Rattle.model.specs.declared.Refusal.the-variants.{BadAlignment}
-use Rattle.model.specs.Calls.{keptIn}
+use Rattle.model.specs.Calls.{keptIn, engine}
 use Rattle.model.proofs.Calls.{call-unsound}
 use Rattle.ops.specs.Blocks.{CarriedOut}
 use Rattle.ops.proofs.Calls as calls
-use Rattle.pool.proofs.Fresh.{card-row, parts, refused-as, refused-out, carried-as}
+use Rattle.pool.proofs.Fresh.{parts, refused-as, refused-out, carried-as}
 use Rattle.pool.proofs.grant_aligned.Statement.{statement}
 use Rattle.pool.proofs.grant_aligned.Tie as tie
 
@@ -19,7 +20,7 @@ returns d =
     let c = d .before in
     let a = c .before .before .before .before .before .args in
     let w = c .before .sound in
-    refused-as (d .refused .ensures) (parts (sym (call-unsound rowBytes (now (a .arena)) (keptIn (now (a .room)) (a .t)) (grantsAligned (a .n) (a .align)) tt
+    refused-as (d .refused .ensures) (parts (sym (call-unsound rowBytes (engine rowBytes) (now (a .arena)) (keptIn (now (a .room)) (a .t)) (grantsAligned (a .n) (a .align)) tt
     (sym (w .ensures) ∙ not-true (w .result) (c .if1 .taken)))))
 
 -- the tables are sound

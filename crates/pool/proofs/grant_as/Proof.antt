@@ -2,13 +2,14 @@
 use Rattle.mem.proofs.Prelude.{_∙_, _≡_, sym, ap, [], _∷_, now, needs, leb-true, leb-false, length}
 use Rattle.classes.specs.Classes.{rowBytes, tooLarge}
 use Rattle.classes.specs.Alignments.{enlarged, Askable}
+use Rattle.classes.proofs.Laws.{card-row}
 use Rattle.model.specs.Answers.{done}
 use Rattle.model.specs.Plans.{totals}
 use Rattle.model.specs.Tables.{view}
 use Rattle.model.specs.Calls.{keptIn}
 use Rattle.model.proofs.Kept.{kept-totals}
 use Rattle.ops.proofs.Calls.{Checked, by-check, grant-too-large, GrantedAt, granted-at, granted-none}
-use Rattle.pool.proofs.Fresh.{card-row, refused-out}
+use Rattle.pool.proofs.Fresh.{refused-out}
 use Rattle.pool.proofs.grant_as.Statement.{statement}
 use Rattle.pool.proofs.grant_as.Tie as tie
 

@@ -4,16 +4,16 @@ use Rattle.mem.specs.Lists.{isSome}
 use Rattle.mem.specs.Bytes.{put}
 use Rattle.mem.proofs.Tests.{true-T, T-true}
 use Rattle.classes.specs.Classes.{rowBytes}
+use Rattle.classes.proofs.Laws.{card-row}
 use Rattle.model.specs.Proposals.{entries, accepts, plannable}
 use Rattle.model.specs.declared.Refusal.the-variants.{Unsound, NoRoom, TooLong, BadProposal}
 use Rattle.model.specs.Plans.{grantsList, reserveAll, totals}
 use Rattle.model.specs.Tables.{view}
-use Rattle.model.specs.Calls.{KeptBytes, keptIn}
+use Rattle.model.specs.Calls.{KeptBytes, keptIn, engine}
 use Rattle.model.proofs.Kept.{kept-totals}
 use Rattle.model.proofs.Calls.{call-unsound}
 use Rattle.model.proofs.Lists.{small, accepts-small, accepts-few}
 use Rattle.ops.proofs.Calls.{Checked, by-check, form}
-use Rattle.pool.proofs.Fresh.{card-row}
 use Rattle.frames.proofs.Lists.{too-long, bad-proposal, no-room, whole}
 use Rattle.pool.proofs.Lists.{refused-parts}
 use Rattle.pool.proofs.grant_list.Statement.{statement}
@@ -26,7 +26,7 @@ returns z =
     let w = c .before .sound in
     let a = c .before .before .before .before .before .before .before .args in
     refused-parts Unsound (now (a .handles)) (z .refused .ensures)
-    (call-unsound rowBytes (now (a .arena)) (keptIn (now (a .room)) (a .t)) (grantsList (a .total) (a .cap) (length (now (a .handles))) (now (a .sizes))) tt
+    (call-unsound rowBytes (engine rowBytes) (now (a .arena)) (keptIn (now (a .room)) (a .t)) (grantsList (a .total) (a .cap) (length (now (a .handles))) (now (a .sizes))) tt
     (sym (w .ensures) ∙ not-true (w .result) (c .if1 .taken)))
 
 -- the tables are sound

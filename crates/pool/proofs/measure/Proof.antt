@@ -1,13 +1,14 @@
 -- By what is located.
 use Rattle.mem.proofs.Prelude.{_∙_, sym, ap, refl, [], _∷_, now, needs, not-false, not-true}
 use Rattle.classes.specs.Classes.{rowBytes}
+use Rattle.classes.proofs.Laws.{card-row}
 use Rattle.model.specs.Answers.{done}
 use Rattle.model.specs.Plans.{measures, measureAt}
 use Rattle.model.specs.Tables.{view}
-use Rattle.model.specs.Calls.{keptIn}
+use Rattle.model.specs.Calls.{keptIn, engine}
 use Rattle.model.proofs.Calls.{call-unsound}
 use Rattle.ops.proofs.Calls.{Checked, by-check, called-at, called-refused, measuring}
-use Rattle.pool.proofs.Fresh.{card-row, parts}
+use Rattle.pool.proofs.Fresh.{parts}
 use Rattle.pool.proofs.measure.Statement.{statement}
 use Rattle.pool.proofs.measure.Tie as tie
 
@@ -16,7 +17,7 @@ unfolding rowBytes
 returns c =
     let a = c .before .before .before .before .args in
     let w = c .before .sound in
-    parts (sym (call-unsound rowBytes (now (a .arena)) (keptIn (now (a .room)) (a .t)) (measures (a .handle)) tt
+    parts (sym (call-unsound rowBytes (engine rowBytes) (now (a .arena)) (keptIn (now (a .room)) (a .t)) (measures (a .handle)) tt
     (sym (w .ensures) ∙ not-true (w .result) (c .if1 .taken)))) .0
 
 -- the tables are sound

@@ -1,13 +1,14 @@
 -- By what is located.
 use Rattle.mem.proofs.Prelude.{_∙_, _≡_, sym, now, needs, not-false, not-true, length}
 use Rattle.classes.specs.Classes.{rowBytes}
+use Rattle.classes.proofs.Laws.{card-row}
 use Rattle.model.specs.Plans.{releases, releaseAt, totals}
 use Rattle.model.specs.Tables.{view}
-use Rattle.model.specs.Calls.{keptIn}
+use Rattle.model.specs.Calls.{keptIn, engine}
 use Rattle.model.proofs.Kept.{kept-totals}
 use Rattle.model.proofs.Calls.{call-unsound}
 use Rattle.ops.proofs.Calls.{Checked, by-check, Called, called-at, called-refused, releasing, release-names, release-done}
-use Rattle.pool.proofs.Fresh.{card-row, parts, refused-as}
+use Rattle.pool.proofs.Fresh.{parts, refused-as}
 use Rattle.pool.proofs.release.Statement.{statement}
 use Rattle.pool.proofs.release.Tie as tie
 
@@ -17,7 +18,7 @@ returns d =
     let c = d .before in
     let a = c .before .before .before .before .before .args in
     let w = c .before .sound in
-    refused-as (d .refused .ensures) (parts (sym (call-unsound rowBytes (now (a .arena)) (keptIn (now (a .room)) (a .t)) (releases (a .handle)) tt
+    refused-as (d .refused .ensures) (parts (sym (call-unsound rowBytes (engine rowBytes) (now (a .arena)) (keptIn (now (a .room)) (a .t)) (releases (a .handle)) tt
     (sym (w .ensures) ∙ not-true (w .result) (c .if1 .taken)))))
 
 -- the tables are sound

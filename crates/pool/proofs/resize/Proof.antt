@@ -2,10 +2,11 @@
 use Rattle.mem.proofs.Prelude.{_∙_, _≡_, sym, ap, subst, _<_, arith, now, needs, not-false, not-true, leb, leb-false, length}
 use Rattle.classes.specs.Classes.{rowBytes, tooLarge}
 use Rattle.classes.specs.Alignments.{enlarged, Askable}
+use Rattle.classes.proofs.Laws.{card-row}
 use Rattle.model.specs.State.{startOf}
 use Rattle.model.specs.Plans.{resizes, resizeAt, lookup, newSize, totals}
 use Rattle.model.specs.Tables.{view}
-use Rattle.model.specs.Calls.{keptIn}
+use Rattle.model.specs.Calls.{keptIn, engine}
 use Rattle.model.proofs.Kept.{kept-totals}
 use Rattle.model.proofs.Calls.{call-unsound}
 use Rattle.model.proofs.Lookup.{fits}
@@ -15,7 +16,7 @@ use Rattle.frames.specs.Blocks.{codeFound, judged, located}
 use Rattle.ops.specs.Blocks.{CarriedOut}
 use Rattle.frames.proofs.Places.{held-pool, Known, found-known, judged-looked, new-size}
 use Rattle.ops.proofs.Calls.{Checked, by-check, Called, called-at, called-refused, resizing, resize-names, resize-too-large}
-use Rattle.pool.proofs.Fresh.{card-row, parts, refused-as, carried-as}
+use Rattle.pool.proofs.Fresh.{parts, refused-as, carried-as}
 use Rattle.pool.proofs.resize.Statement.{statement}
 use Rattle.pool.proofs.resize.Tie as tie
 
@@ -25,7 +26,7 @@ returns d =
     let c = d .before in
     let a = c .before .before .before .before .before .args in
     let w = c .before .sound in
-    refused-as (d .refused .ensures) (parts (sym (call-unsound rowBytes (now (a .arena)) (keptIn (now (a .room)) (a .t)) (resizes (a .handle) (a .n)) tt
+    refused-as (d .refused .ensures) (parts (sym (call-unsound rowBytes (engine rowBytes) (now (a .arena)) (keptIn (now (a .room)) (a .t)) (resizes (a .handle) (a .n)) tt
     (sym (w .ensures) ∙ not-true (w .result) (c .if1 .taken)))))
 
 -- the tables are sound
