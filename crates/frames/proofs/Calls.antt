@@ -13,11 +13,11 @@ use Rattle.model.specs.declared.Damage.the-variants.{Intact, Damaged}
 use Rattle.model.specs.declared.Reply.{Reply}
 use Rattle.model.specs.State.{Pool, Place, isLive, count, align, useBits, startOf, poolOf}
 use Rattle.model.specs.Blocks.{damage, frame}
-use Rattle.model.specs.Answers.{done, refusal}
+use Rattle.model.specs.Answers.{Answer, replyAnswer, listed, done, refusal}
 use Rattle.model.specs.Plans.{Plan, Call, grants, grantsAligned, releases, resizes, measures, refused, plan, grantAs, grantAligned}
-use Rattle.model.specs.Plans.{grantAt, reserve, enframe, lookup, onBlock, byHandle, onHandle, newSize}
+use Rattle.model.specs.Plans.{report, totals, reports, grantAt, reserve, enframe, lookup, onBlock, byHandle, onHandle, newSize}
 use Rattle.model.specs.Plans.{release, releaseAt, resize, resizeAt, resizeInPlace, resizeMove, moveTo, inPlace, measure, measureAt}
-use Rattle.model.specs.Calls.{Form, FormLaws, callBy, carriedBy, applied, damaged, keeps}
+use Rattle.model.specs.Calls.{Outcome, left, Form, FormLaws, callBy, carriedBy, applied, damaged, keeps}
 use Rattle.model.proofs.Calls as calls
 use Rattle.model.proofs.Calls.{Asks, on-live, carried-whole, carried-damaged}
 use Rattle.rows.specs.declared.Block.{Block}
@@ -223,3 +223,25 @@ resize-names row P n p = choose-case (λ (r : Plan). r .checks ≡ some p) (inPl
     moved : (o : Option Place) → moveTo row P p n o .checks ≡ some p
     moved none = refl
     moved (some q) = refl
+
+-- ---- what a call leaves, as one equation
+
+module _ {R : Type 0} where
+  -- an outcome by its parts
+  pub whole : {x : Answer} {a : List ℕ} {t : R} {o : Outcome R} → x ≡ o .answer → a ≡ o .arena → t ≡ o .room → left x a t ≡ o
+  whole {x} {a} {t} {o} e f g = ap (λ x. left x a t) e ∙ ap (λ a. left (o .answer) a t) f ∙ ap (left (o .answer) (o .arena)) g
+
+module _ {F : Form} {a : List ℕ} {p : Plan} {w : Reply} {x : List ℕ} {u : F .Room} {r : Outcome (F .Room)} where
+  -- what a call leaves that carries a plan out
+  pub carried-as : CarriedOutBy F a p w x u → r ≡ applied F a p → left (replyAnswer w) x u ≡ r
+  carried-as d e = whole (d .answer) (d .arena) (d .room) ∙ sym e
+
+module _ {row : ℕ} {F : Form} {a : List ℕ} {t : F .Room} (r : Checked row F a t) where
+  -- a call that writes nothing and keeps the state of sound tables: all stays, but for the answer
+  pub kept-as : {x y : Answer} {o : Outcome (F .Room)} → x ≡ y → o ≡ left y a (F .encode (F .view t)) → left x a t ≡ o
+  kept-as e h = whole e refl (sym (same-room r)) ∙ sym h
+
+  -- report, by what is counted
+  pub reporting : {x : Answer} → x ≡ done (listed (totals row (F .view t))) → left x a t ≡ callBy row F a t reports
+  unfolding plan report
+  reporting e = kept-as e (call-sound r reports tt ∙ carried-whole row F a t (report row (F .view t)) refl)

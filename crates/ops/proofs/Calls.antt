@@ -1,5 +1,5 @@
 -- The first engine's calls by what the code finds: those over any form, with the tables and the totals apart.
-use Rattle.mem.proofs.Prelude.{_∙_, _≡_, sym, ap, refl, ap₂, subst, true, false, some, Option, List, ℕ, _<_, _≤_, leb, length}
+use Rattle.mem.proofs.Prelude.{_≡_, sym, ap, subst, true, false, some, Option, List, ℕ, _<_, _≤_, leb, length}
 use Rattle.mem.specs.Bytes.{put}
 use Rattle.classes.specs.Classes.{Lawful, tooLarge}
 use Rattle.classes.specs.Alignments.{ordinary, codeOf, enlarged, Askable}
@@ -10,12 +10,11 @@ use Rattle.model.specs.declared.Totals.{Totals}
 use Rattle.model.specs.State.{Pool, Place, startOf, poolOf}
 use Rattle.model.specs.Blocks.{frame}
 use Rattle.model.specs.Answers.{done, refusal, listed}
-use Rattle.model.specs.Plans.{Plan, Call, grants, grantsAligned, releases, resizes, measures, reports, refused, plan, grantAs, reserve, lookup, onHandle}
-use Rattle.model.specs.Plans.{releaseAt, resizeAt, measureAt, report}
+use Rattle.model.specs.Plans.{Plan, Call, grants, grantsAligned, releases, resizes, measures, reports, refused, grantAs, reserve, lookup, onHandle}
+use Rattle.model.specs.Plans.{releaseAt, resizeAt, measureAt}
 use Rattle.model.specs.Tables.{byMasks, view, encode}
 use Rattle.model.specs.Calls.{KeptBytes, keptIn, engine, soundKept, call, carried, applied, keeps}
 use Rattle.model.proofs.Kept.{kept-sound, kept-totals, engine-lawful}
-use Rattle.model.proofs.Calls.{carried-whole}
 use Rattle.rows.specs.declared.Block.{Block}
 use Rattle.rows.specs.Rows.{Lent, looked, ownedAt, handleAt, Holds}
 use Rattle.rows.proofs.Rooms.{by-masks}
@@ -151,7 +150,4 @@ module _ {row : ℕ} {t : KeptBytes} (a : List ℕ) (r : Checked row a t) where
   -- ---- report
 
   pub reporting : call row a t reports ≡ keeps (done (listed (t .totals))) a t
-  unfolding plan report
-  reporting =
-      any.call-sound form reports tt ∙ carried-whole row (engine row) a t (report row (view row (t .tables))) refl
-      ∙ ap₂ (λ z u. keeps (done (listed z)) a u) (sym (kept-totals row (length a) t (r .kept))) (any.same-room form)
+  reporting = sym (any.reporting form (ap (λ z. done (listed z)) (kept-totals row (length a) t (r .kept))))

@@ -1,18 +1,17 @@
-// The calls of the plain pool, over a lent arena and a lent table room: the second engine, with a plain record for each slot, walked one by one.
-//
-// Each says with equations what it answers and what it leaves of arena and room, for any bytes, handle and size.
+// The calls of the plain pool, over a lent arena and a lent table room. Each takes any bytes, handle and size, and one equation says what it answers
+// and leaves: what the model's call does on these bytes (plainCall, crates/model/specs/Plain.antt). For C: slotpool_plain.
 ghost use mathlib.Core.Path.{_≡_};
 ghost use mathlib.Core.Bool.{true};
 ghost use Prim.Native.Nat.{_≤_};
 ghost use lib.ListN.{length};
-ghost use Rattle.mem.specs.Bytes.{put};
 ghost use Rattle.classes.specs.Classes.{rowBytes};
 ghost use Rattle.model.specs.Answers.{replyAnswer, reportAnswer};
 ghost use Rattle.model.specs.Plans.{setsUp, grants, grantsAligned, releases, resizes, measures, reports, grantsList, grantAs};
 ghost use Rattle.model.specs.Tables.{soundBy, viewBy};
-ghost use Rattle.model.specs.Plain.{bySlots, plainForm};
-ghost use Rattle.model.specs.Calls.{callBy};
+ghost use Rattle.model.specs.Plain.{bySlots, plainForm, plainCall};
+ghost use Rattle.model.specs.Calls.{left};
 ghost use Rattle.frames.specs.Blocks.{CarriedOutBy};
+ghost use Rattle.plain.specs.Listed.{Listed};
 use frames::Located;
 use model::Refusal;
 use model::Reply;
@@ -20,11 +19,11 @@ use model::Report;
 use plain_ops::Reserved;
 use rows::Counted;
 
-// Set up: zero over the whole arena, and tables with no groups.
+// "Set up writes zero over the whole arena and makes tables with no groups."
+// Answer 1: "arena length outside the rule, or table room of another size"
 pub fn set_up(arena: &mut [u8], room: &mut [u8]) -> Reply
-    ensures { λ r. ⌜ replyAnswer r ≡ callBy rowBytes (plainForm rowBytes) (now (arena .entry)) (now (room .entry)) setsUp .answer ⌝ }
-    ensures { λ r. ⌜ now (arena .exit) ≡ callBy rowBytes (plainForm rowBytes) (now (arena .entry)) (now (room .entry)) setsUp .arena ⌝ }
-    ensures { λ r. ⌜ now (room .exit) ≡ callBy rowBytes (plainForm rowBytes) (now (arena .entry)) (now (room .entry)) setsUp .room ⌝ }
+    ensures { λ r. ⌜ left (replyAnswer r) (now (arena .exit)) (now (room .exit))
+        ≡ plainCall rowBytes (now (arena .entry)) (now (room .entry)) setsUp ⌝ }
 {
     let len = arena.len();
     let size = fresh::room_len(len);
@@ -39,7 +38,34 @@ pub fn set_up(arena: &mut [u8], room: &mut [u8]) -> Reply
     Reply::Done(0)
 }
 
-// A grant on sound tables: a slot is reserved in the tables, and its block laid out in the arena.
+// An ordinary block of n bytes. Answers are tested in this order: "grant 2, 3, 8".
+pub fn grant(arena: &mut [u8], room: &mut [u8], n: usize) -> Reply
+    ensures { λ r. ⌜ left (replyAnswer r) (now (arena .exit)) (now (room .exit))
+        ≡ plainCall rowBytes (now (arena .entry)) (now (room .entry)) (grants n) ⌝ }
+{
+    if !plain_sound::sound(classes::ROW, arena.len(), room) {
+        return Reply::Refused(Refusal::Unsound);
+    }
+    grant_as(arena, room, classes::ORDINARY, n)
+}
+
+// 02 §6: "Alignments 1, 2, 4, 8 and 16 are an ordinary grant. Any other that is not a power of two up to 4,096 is answer 13, tested between 2 and 3"
+pub fn grant_aligned(arena: &mut [u8], room: &mut [u8], n: usize, align: usize) -> Reply
+    ensures { λ r. ⌜ left (replyAnswer r) (now (arena .exit)) (now (room .exit))
+        ≡ plainCall rowBytes (now (arena .entry)) (now (room .entry)) (grantsAligned n align) ⌝ }
+{
+    if !plain_sound::sound(classes::ROW, arena.len(), room) {
+        return Reply::Refused(Refusal::Unsound);
+    }
+    let code = classes::code_of(align);
+    if code == 0 {
+        return Reply::Refused(Refusal::BadAlignment);
+    }
+    grant_as(arena, room, code, n)
+}
+
+// A grant on sound tables. 02 §6: "an enlarged size of 131,052 or more is 3". First a slot is taken in the tables, then its block laid out in the arena:
+// "The slot's s owned bytes become zero, then header and guard are written; no other arena byte changes. The value is the start.", 02 §7: as a handle.
 fn grant_as(arena: &mut [u8], room: &mut [u8], code: u8, n: usize) -> Reply
     requires { ⌜ soundBy bySlots rowBytes (length (now arena)) (now room) ≡ true ⌝ }
     requires { ⌜ (1 ≤ code) × (code ≤ 9) ⌝ }
@@ -56,39 +82,10 @@ fn grant_as(arena: &mut [u8], room: &mut [u8], code: u8, n: usize) -> Reply
     Reply::Done(frames::lay_out(classes::ROW, arena, b))
 }
 
-// Grant: an ordinary block.
-pub fn grant(arena: &mut [u8], room: &mut [u8], n: usize) -> Reply
-    ensures { λ r. ⌜ replyAnswer r ≡ callBy rowBytes (plainForm rowBytes) (now (arena .entry)) (now (room .entry)) (grants n) .answer ⌝ }
-    ensures { λ r. ⌜ now (arena .exit) ≡ callBy rowBytes (plainForm rowBytes) (now (arena .entry)) (now (room .entry)) (grants n) .arena ⌝ }
-    ensures { λ r. ⌜ now (room .exit) ≡ callBy rowBytes (plainForm rowBytes) (now (arena .entry)) (now (room .entry)) (grants n) .room ⌝ }
-{
-    if !plain_sound::sound(classes::ROW, arena.len(), room) {
-        return Reply::Refused(Refusal::Unsound);
-    }
-    grant_as(arena, room, classes::ORDINARY, n)
-}
-
-// Grant aligned: a block whose start is on a boundary of 32 to 4,096 bytes; with an alignment up to 16, an ordinary one.
-pub fn grant_aligned(arena: &mut [u8], room: &mut [u8], n: usize, align: usize) -> Reply
-    ensures { λ r. ⌜ replyAnswer r ≡ callBy rowBytes (plainForm rowBytes) (now (arena .entry)) (now (room .entry)) (grantsAligned n align) .answer ⌝ }
-    ensures { λ r. ⌜ now (arena .exit) ≡ callBy rowBytes (plainForm rowBytes) (now (arena .entry)) (now (room .entry)) (grantsAligned n align) .arena ⌝ }
-    ensures { λ r. ⌜ now (room .exit) ≡ callBy rowBytes (plainForm rowBytes) (now (arena .entry)) (now (room .entry)) (grantsAligned n align) .room ⌝ }
-{
-    if !plain_sound::sound(classes::ROW, arena.len(), room) {
-        return Reply::Refused(Refusal::Unsound);
-    }
-    let code = classes::code_of(align);
-    if code == 0 {
-        return Reply::Refused(Refusal::BadAlignment);
-    }
-    grant_as(arena, room, code, n)
-}
-
-// Release: the slot waits and its bytes become zero, or the group goes with its last live slot.
+// Answers: "release and measure 2, 4, 5, 6, 7", and 10 before 6 (02 §7). "Set up and release, when done, give the value 0"
 pub fn release(arena: &mut [u8], room: &mut [u8], handle: usize) -> Reply
-    ensures { λ r. ⌜ replyAnswer r ≡ callBy rowBytes (plainForm rowBytes) (now (arena .entry)) (now (room .entry)) (releases handle) .answer ⌝ }
-    ensures { λ r. ⌜ now (arena .exit) ≡ callBy rowBytes (plainForm rowBytes) (now (arena .entry)) (now (room .entry)) (releases handle) .arena ⌝ }
-    ensures { λ r. ⌜ now (room .exit) ≡ callBy rowBytes (plainForm rowBytes) (now (arena .entry)) (now (room .entry)) (releases handle) .room ⌝ }
+    ensures { λ r. ⌜ left (replyAnswer r) (now (arena .exit)) (now (room .exit))
+        ≡ plainCall rowBytes (now (arena .entry)) (now (room .entry)) (releases handle) ⌝ }
 {
     if !plain_sound::sound(classes::ROW, arena.len(), room) {
         return Reply::Refused(Refusal::Unsound);
@@ -102,18 +99,16 @@ pub fn release(arena: &mut [u8], room: &mut [u8], handle: usize) -> Reply
     }
 }
 
-// Resize: in place where the block's slot serves the new size, or else by a move.
+// 02 §7: "Order: 2, 3, 4, 5, 10, 6, 7, 8; §6's answer 3 goes by the start, whatever the bits."
 pub fn resize(arena: &mut [u8], room: &mut [u8], handle: usize, n: usize) -> Reply
-    ensures { λ r. ⌜ replyAnswer r ≡ callBy rowBytes (plainForm rowBytes) (now (arena .entry)) (now (room .entry)) (resizes handle n) .answer ⌝ }
-    ensures { λ r. ⌜ now (arena .exit) ≡ callBy rowBytes (plainForm rowBytes) (now (arena .entry)) (now (room .entry)) (resizes handle n) .arena ⌝ }
-    ensures { λ r. ⌜ now (room .exit) ≡ callBy rowBytes (plainForm rowBytes) (now (arena .entry)) (now (room .entry)) (resizes handle n) .room ⌝ }
+    ensures { λ r. ⌜ left (replyAnswer r) (now (arena .exit)) (now (room .exit))
+        ≡ plainCall rowBytes (now (arena .entry)) (now (room .entry)) (resizes handle n) ⌝ }
 {
     let len = arena.len();
     if !plain_sound::sound(classes::ROW, len, room) {
         return Reply::Refused(Refusal::Unsound);
     }
-    // The size goes by the alignment of a live block, before the handle's bits and the block's damage are looked at.
-    let found = plain_find::find_block(classes::ROW, len, room, frames::start_in(handle));
+    let found = plain_tables::find_block(classes::ROW, len, room, frames::start_in(handle));
     if classes::too_large(frames::code_found(found), n) {
         return Reply::Refused(Refusal::TooLarge);
     }
@@ -123,8 +118,33 @@ pub fn resize(arena: &mut [u8], room: &mut [u8], handle: usize, n: usize) -> Rep
     }
 }
 
-// Grant list: the sizes of an accepted proposal, all granted or none; the handles to the front of a lent list, and the value is their number.
-// It is found first whether all of them fit; only then is anything written.
+// "Measure gives n."
+pub fn measure(arena: &[u8], room: &[u8], handle: usize) -> Reply
+    ensures { λ r. ⌜ left (replyAnswer r) (now (arena .entry)) (now (room .entry))
+        ≡ plainCall rowBytes (now (arena .entry)) (now (room .entry)) (measures handle) ⌝ }
+{
+    if !plain_sound::sound(classes::ROW, arena.len(), room) {
+        return Reply::Refused(Refusal::Unsound);
+    }
+    match plain_ops::locate(classes::ROW, arena, room, handle) {
+        Located::At(b) => Reply::Done(b.alloc.size),
+        Located::Refused(r) => Reply::Refused(r),
+    }
+}
+
+// "Report gives, in this order: live blocks, their requested bytes, rows held, rows free, ready slots, waiting slots": counted at each call.
+pub fn report(arena: &[u8], room: &[u8]) -> Report
+    ensures { λ r. ⌜ left (reportAnswer r) (now (arena .entry)) (now (room .entry))
+        ≡ plainCall rowBytes (now (arena .entry)) (now (room .entry)) reports ⌝ }
+{
+    match plain_sound::counted(classes::ROW, arena.len(), room) {
+        Counted::Sound(t) => Report::Counted(t),
+        Counted::Unsound => Report::Refused(Refusal::Unsound),
+    }
+}
+
+// 02 §3: "The list call takes a proposal, grants its sizes in order, writes the starts to the front of a lent list, keeps its later places and gives
+// the number of entries"; "Order: 2, 9, 17, 8. A refused list leaves arena, tables and lent list unchanged, use counts included."
 pub fn grant_list(
     arena: &mut [u8],
     room: &mut [u8],
@@ -133,16 +153,9 @@ pub fn grant_list(
     sizes: &[usize],
     handles: &mut [usize],
 ) -> Reply
-    ensures { λ r. ⌜ replyAnswer r .number ≡ callBy rowBytes (plainForm rowBytes) (now (arena .entry)) (now (room .entry))
-        (grantsList «total» cap (length (now (handles .entry))) (now (sizes .entry))) .answer .number ⌝ }
-    ensures { λ r. ⌜ replyAnswer r .values ≡ callBy rowBytes (plainForm rowBytes) (now (arena .entry)) (now (room .entry))
-        (grantsList «total» cap (length (now (handles .entry))) (now (sizes .entry))) .answer .values ⌝ }
-    ensures { λ r. ⌜ now (handles .exit) ≡ put 0 (callBy rowBytes (plainForm rowBytes) (now (arena .entry)) (now (room .entry))
-        (grantsList «total» cap (length (now (handles .entry))) (now (sizes .entry))) .answer .lent) (now (handles .entry)) ⌝ }
-    ensures { λ r. ⌜ now (arena .exit) ≡ callBy rowBytes (plainForm rowBytes) (now (arena .entry)) (now (room .entry))
-        (grantsList «total» cap (length (now (handles .entry))) (now (sizes .entry))) .arena ⌝ }
-    ensures { λ r. ⌜ now (room .exit) ≡ callBy rowBytes (plainForm rowBytes) (now (arena .entry)) (now (room .entry))
-        (grantsList «total» cap (length (now (handles .entry))) (now (sizes .entry))) .room ⌝ }
+    ensures { λ r. ⌜ Listed (plainCall rowBytes (now (arena .entry)) (now (room .entry))
+        (grantsList «total» cap (length (now (handles .entry))) (now (sizes .entry))))
+        (replyAnswer r) (now (handles .entry)) (now (handles .exit)) (now (arena .exit)) (now (room .exit)) ⌝ }
 {
     let len = arena.len();
     if !plain_sound::sound(classes::ROW, len, room) {
@@ -157,32 +170,9 @@ pub fn grant_list(
     if !proposals::accepts(total, cap, sizes) {
         return Reply::Refused(Refusal::BadProposal);
     }
-    if !plain_survey::fits(classes::ROW, len, room, sizes) {
+    if !plain_ops::fits(classes::ROW, len, room, sizes) {
         return Reply::Refused(Refusal::NoRoom);
     }
-    plain_lists::grant_all(classes::ROW, arena, room, sizes, handles);
+    plain_ops::grant_all(classes::ROW, arena, room, sizes, handles);
     Reply::Done(sizes.len())
-}
-
-// Measure: the requested size.
-pub fn measure(arena: &[u8], room: &[u8], handle: usize) -> Reply
-    ensures { λ r. ⌜ replyAnswer r ≡ callBy rowBytes (plainForm rowBytes) (now (arena .entry)) (now (room .entry)) (measures handle) .answer ⌝ }
-{
-    if !plain_sound::sound(classes::ROW, arena.len(), room) {
-        return Reply::Refused(Refusal::Unsound);
-    }
-    match plain_ops::locate(classes::ROW, arena, room, handle) {
-        Located::At(b) => Reply::Done(b.alloc.size),
-        Located::Refused(r) => Reply::Refused(r),
-    }
-}
-
-// Report: the six totals, counted.
-pub fn report(arena: &[u8], room: &[u8]) -> Report
-    ensures { λ r. ⌜ reportAnswer r ≡ callBy rowBytes (plainForm rowBytes) (now (arena .entry)) (now (room .entry)) reports .answer ⌝ }
-{
-    match plain_sound::counted(classes::ROW, arena.len(), room) {
-        Counted::Sound(t) => Report::Counted(t),
-        Counted::Unsound => Report::Refused(Refusal::Unsound),
-    }
 }

@@ -1,1 +1,2 @@
 pub mod Reserves
+pub mod Idle

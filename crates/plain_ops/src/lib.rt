@@ -1,4 +1,9 @@
-// What the calls do with a block, over arena and plain tables: reserve a slot, locate a block, give it back, change its size.
+// What the calls do with a block, over arena and plain tables: reserve a slot, locate a block, give it back, change its size; then, in list.rt, a list.
+// What reads no table of either engine, as header and guard of a block, is in frames and blocks. Read next: plain.
+mod list;
+
+pub use list::fits;
+pub use list::grant_all;
 ghost use mathlib.Core.Path.{_≡_};
 ghost use mathlib.Core.Bool.{true};
 ghost use Prim.Native.Nat.{_<_};
@@ -19,31 +24,12 @@ use model::Reply;
 use rows::Block;
 use rows::Found;
 
-// The slot that a grant takes.
 pub enum Reserved {
     Taken(Block),
     NoRoom,
 }
 
-// The group in which a slot of class c is taken: the lowest with a slot that is not live, or a new one at the lowest run of free rows.
-fn site_for(row: usize, len: usize, room: &mut [u8], c: usize) -> Found
-    requires { ⌜ soundBy bySlots row len (now room) ≡ true ⌝ }
-    requires { ⌜ c < 48 ⌝ }
-    requires { ⌜ Lawful row ⌝ }
-    ensures { λ r. ⌜ r ≡ siteFound row (site row (viewBy bySlots row (now (room .entry))) c) ⌝ }
-    ensures { λ r. ⌜ now (room .exit) ≡ siteRoomBy bySlots row c (now (room .entry)) (site row (viewBy bySlots row (now (room .entry))) c) ⌝ }
-{
-    if let Found::At(i) = plain_find::find_open(row, len, room, c) {
-        return Found::At(i);
-    }
-    let Found::At(i) = rows::find_run(row, len, room, c) else {
-        return Found::Nothing;
-    };
-    plain_change::make_group(row, room, i, c);
-    Found::At(i)
-}
-
-// Reserves a slot for n bytes with an alignment.
+// 02 §6: "the class and slot are those of n + align − 16"; for an ordinary block, those of n. "Larger classes are not tried."
 pub fn reserve_slot(row: usize, len: usize, room: &mut [u8], code: u8, n: usize) -> Reserved
     requires { ⌜ soundBy bySlots row len (now room) ≡ true ⌝ }
     requires { ⌜ Askable code n ⌝ }
@@ -55,10 +41,29 @@ pub fn reserve_slot(row: usize, len: usize, room: &mut [u8], code: u8, n: usize)
     let Found::At(i) = site_for(row, len, room, c) else {
         return Reserved::NoRoom;
     };
-    Reserved::Taken(plain_change::take_slot(row, room, i, c, code, n))
+    Reserved::Taken(plain_tables::take_slot(row, room, i, c, code, n))
 }
 
-// The block of a handle, if it is live, the handle its present one, and undamaged.
+// "Of the groups of n's class with a slot not live, take the one with the lowest first row."
+// "If there is no such group, make one at the lowest run of R free rows, all slots ready; if there is no such run, answer 8."
+fn site_for(row: usize, len: usize, room: &mut [u8], c: usize) -> Found
+    requires { ⌜ soundBy bySlots row len (now room) ≡ true ⌝ }
+    requires { ⌜ c < 48 ⌝ }
+    requires { ⌜ Lawful row ⌝ }
+    ensures { λ r. ⌜ r ≡ siteFound row (site row (viewBy bySlots row (now (room .entry))) c) ⌝ }
+    ensures { λ r. ⌜ now (room .exit) ≡ siteRoomBy bySlots row c (now (room .entry)) (site row (viewBy bySlots row (now (room .entry))) c) ⌝ }
+{
+    if let Found::At(i) = plain_tables::find_open(row, len, room, c) {
+        return Found::At(i);
+    }
+    let Found::At(i) = rows::find_run(row, len, room, c) else {
+        return Found::Nothing;
+    };
+    plain_tables::make_group(row, room, i, c);
+    Found::At(i)
+}
+
+// The live block of a handle, undamaged, or else why not, in the order 4, 5, 10, 6, 7. 02 §7: "starts are handles with the low four bits cleared"
 pub fn locate(row: usize, arena: &[u8], room: &[u8], handle: usize) -> Located
     requires { ⌜ soundBy bySlots row (length (now arena)) (now room) ≡ true ⌝ }
     requires { ⌜ Lawful row ⌝ }
@@ -67,12 +72,12 @@ pub fn locate(row: usize, arena: &[u8], room: &[u8], handle: usize) -> Located
     frames::judge(
         row,
         arena,
-        plain_find::find_block(row, arena.len(), room, frames::start_in(handle)),
+        plain_tables::find_block(row, arena.len(), room, frames::start_in(handle)),
         handle,
     )
 }
 
-// Gives a live block back: its slot waits and its bytes become zero, or the group goes with its last live slot.
+// "The slot becomes waiting and its s owned bytes zero. If no slot of the group is live, the group goes, all its rows become zero and free."
 pub fn discard(row: usize, arena: &mut [u8], room: &mut [u8], b: Block)
     requires { ⌜ soundBy bySlots row (length (now arena)) (now room) ≡ true ⌝ }
     requires { ⌜ ((p : Place) × Holds bySlots row (now room) b p) ⌝ }
@@ -80,14 +85,31 @@ pub fn discard(row: usize, arena: &mut [u8], room: &mut [u8], b: Block)
     ensures { λ _. ⌜ ((p : Place) → Holds bySlots row (now (room .entry)) b p
         → (now (arena .exit) ≡ written (now (arena .entry)) (releaseAt row p .changes)) × (now (room .exit) ≡ encodeBy bySlots row (releaseAt row p .pool))) ⌝ }
 {
-    if plain_change::give_slot(row, room, b) {
+    if plain_tables::give_slot(row, room, b) {
         frames::clear_slot(row, arena, b);
         return;
     }
     frames::clear_group(row, arena, b);
 }
 
-// Changes a block's size where it is: the first bytes stay, and header and guard are written anew.
+// "In place if n is at most s − 4 − 16d and the block's class is at most one above n's class"; 02 §6: "the block's class is that of the enlarged size
+// or the next one up". 02 §7: "Resize in place keeps the handle."
+pub fn change_size(row: usize, arena: &mut [u8], room: &mut [u8], b: Block, n: usize) -> Reply
+    requires { ⌜ soundBy bySlots row (length (now arena)) (now room) ≡ true ⌝ }
+    requires { ⌜ ((p : Place) × Holds bySlots row (now room) b p) ⌝ }
+    requires { ⌜ Askable (b .alloc .align) n ⌝ }
+    requires { ⌜ Lawful row ⌝ }
+    ensures { λ r. ⌜ ((p : Place) → Holds bySlots row (now (room .entry)) b p
+        → CarriedOutBy (plainForm row) (now (arena .entry)) (resizeAt row (poolOf p) n p) r (now (arena .exit)) (now (room .exit))) ⌝ }
+{
+    if frames::stays_in(b, n) {
+        resize_in_place(row, arena, room, b, n);
+        return Reply::Done(frames::handle_of(row, b));
+    }
+    resize_by_move(row, arena, room, b, n)
+}
+
+// "the first bytes, as many as the lesser of old and new n, stay, all from there to the end become zero, header and guard are written anew."
 fn resize_in_place(row: usize, arena: &mut [u8], room: &mut [u8], b: Block, n: usize)
     requires { ⌜ soundBy bySlots row (length (now arena)) (now room) ≡ true ⌝ }
     requires { ⌜ ((p : Place) × Holds bySlots row (now room) b p) ⌝ }
@@ -107,10 +129,11 @@ fn resize_in_place(row: usize, arena: &mut [u8], room: &mut [u8], b: Block, n: u
         kept,
         n,
     );
-    plain_change::resize_slot(room, b, n);
+    plain_tables::resize_slot(room, b, n);
 }
 
-// Moves a block: a grant while the old one is live, a copy of the first bytes, then the old one is given back.
+// "Otherwise a grant of n is made while the old block is live, that many bytes are copied, then the old is released."
+// 02 §6: "Resize of an aligned block keeps the boundary"
 fn resize_by_move(row: usize, arena: &mut [u8], room: &mut [u8], b: Block, n: usize) -> Reply
     requires { ⌜ soundBy bySlots row (length (now arena)) (now room) ≡ true ⌝ }
     requires { ⌜ ((p : Place) × Holds bySlots row (now room) b p) ⌝ }
@@ -131,20 +154,4 @@ fn resize_by_move(row: usize, arena: &mut [u8], room: &mut [u8], b: Block, n: us
     );
     discard(row, arena, room, b);
     Reply::Done(handle)
-}
-
-// Changes the size of a live block, in place or by a move.
-pub fn change_size(row: usize, arena: &mut [u8], room: &mut [u8], b: Block, n: usize) -> Reply
-    requires { ⌜ soundBy bySlots row (length (now arena)) (now room) ≡ true ⌝ }
-    requires { ⌜ ((p : Place) × Holds bySlots row (now room) b p) ⌝ }
-    requires { ⌜ Askable (b .alloc .align) n ⌝ }
-    requires { ⌜ Lawful row ⌝ }
-    ensures { λ r. ⌜ ((p : Place) → Holds bySlots row (now (room .entry)) b p
-        → CarriedOutBy (plainForm row) (now (arena .entry)) (resizeAt row (poolOf p) n p) r (now (arena .exit)) (now (room .exit))) ⌝ }
-{
-    if frames::stays_in(b, n) {
-        resize_in_place(row, arena, room, b, n);
-        return Reply::Done(frames::handle_of(row, b));
-    }
-    resize_by_move(row, arena, room, b, n)
 }

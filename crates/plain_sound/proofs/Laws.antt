@@ -20,7 +20,7 @@ use Rattle.rows.specs.declared.Counted.{Counted}
 use Rattle.rows.specs.Checks.{groupChecked}
 use Rattle.rows.specs.Counts.{plus, countedIf, groupTotals}
 use Rattle.rows.proofs.Checks.{holder-first-bytes}
-use Rattle.slots.specs.Slots.{Small, slotIn}
+use Rattle.plain_slots.specs.Slots.{Small, slotIn}
 use Rattle.plain_sound.specs.Checks.{slotsRight, withSlot, FewSlots, someLive}
 
 -- ---- one slot after the other

@@ -1,5 +1,5 @@
-// Whether the bytes of a room are sound tables of the second engine, and what they count. The room is walked once, row by row and slot by
-// slot; each rule is one line.
+// Whether the bytes of a room are sound tables, and what they count. The room is walked once, row by row and slot by slot; each rule is one test.
+// Read next: plain_tables.
 ghost use mathlib.Core.Path.{_≡_};
 ghost use mathlib.Core.Bool.{_&&_};
 ghost use Prim.Native.Nat.{_+_, _*_, _≤_, _<_};
@@ -14,7 +14,7 @@ ghost use Rattle.model.specs.Tables.{headBytes, rowRecordBytes, slotsAt, slotRe
 ghost use Rattle.model.specs.Plain.{plainRecord, plainSlots, plainGroup, bySlots};
 ghost use Rattle.rows.specs.Checks.{groupChecked};
 ghost use Rattle.rows.specs.Counts.{countedIf, groupTotals, spanCounted, rowsCounted};
-ghost use Rattle.slots.specs.Slots.{Small};
+ghost use Rattle.plain_slots.specs.Slots.{Small};
 ghost use Rattle.plain_sound.specs.Checks.{slotsRight, withSlot, someLive, FewSlots};
 use model::Alloc;
 use model::Slot;
@@ -22,221 +22,45 @@ use model::Totals;
 use rows::Counted;
 use rows::Frame;
 
-// Whether a class is that of a size, or the next one up.
-fn own_class(c: usize, n: usize) -> bool
-    requires { ⌜ n < tooLarge ⌝ }
-    ensures { λ r. ⌜ r ≡ ownClass c n ⌝ }
-{
-    let own = classes::class_of(n);
-    (c == own) | (c == own + 1)
-}
+const NOTHING: Totals = Totals {
+    blocks: 0,
+    bytes: 0,
+    held: 0,
+    free: 0,
+    ready: 0,
+    waiting: 0,
+};
 
-// A live block in a slot of class c that begins at a byte of the arena.
-fn live_sound(c: usize, begin: usize, a: Alloc) -> bool
-    requires { ⌜ (c < 48) × (begin < 16777216) × (a .disp < 65536) × (a .size < 16777216) ⌝ }
-    ensures { λ r. ⌜ r ≡ slotSound c (Live a) && slotAligned begin (Live a) ⌝ }
-{
-    // It ends within the slot.
-    if 16 * classes::units(c) - 4 < 16 * a.disp + a.size {
-        return false;
-    }
-    // There is such an alignment.
-    if a.align < classes::ORDINARY {
-        return false;
-    }
-    if 9 < a.align {
-        return false;
-    }
-    // Its enlarged size is one that can be asked for,
-    if classes::too_large(a.align, a.size) {
-        return false;
-    }
-    // and the slot's class is that of it, or the next one up.
-    if !own_class(c, classes::enlarged(a.align, a.size)) {
-        return false;
-    }
-    // It starts on a boundary.
-    (begin + 16 * a.disp) % classes::align_of(a.align) == 0
-}
-
-// A slot of class c that begins at a byte of the arena.
-fn slot_sound(c: usize, begin: usize, x: Slot) -> bool
-    requires { ⌜ (c < 48) × (begin < 16777216) × Small x ⌝ }
-    ensures { λ r. ⌜ r ≡ slotSound c x && slotAligned begin x ⌝ }
-{
-    match x {
-        Slot::Fresh => true,
-        // The last block began within the slot.
-        Slot::Idle {
-            ready: _,
-            count: _,
-            disp,
-        } => 16 * disp <= 16 * classes::units(c) - 4,
-        Slot::Live(a) => live_sound(c, begin, a),
-    }
-}
-
-// Whether slot j of a group of class c, which was read as x and begins at a byte of the arena, is sound, and its record is that of x.
-fn record_sound(room: &[u8], i: usize, j: usize, c: usize, begin: usize, x: Slot) -> bool
-    requires { ⌜ (i < 512) × (rowAt i + rowRecordBytes ≤ length (now room)) × (j < mostSlots) ⌝ }
-    requires { ⌜ (c < 48) × (begin < 16777216) × Small x ⌝ }
-    ensures { λ r. ⌜ r ≡ starts (drop (rowAt i + (slotsAt + slotRecordBytes * j)) (now (room .entry))) (plainRecord x)
-        && (slotSound c x && slotAligned begin x) ⌝ }
-{
-    let at = slots::slot_place(i, j);
-    let record = slots::slot_record(x);
-    if !mem::same_bytes(&room[at..at + model::SLOT_RECORD], &record) {
-        return false;
-    }
-    slot_sound(c, begin, x)
-}
-
-// Totals with one slot more that is not live.
-fn with_idle(t: Totals, ready: bool) -> Totals
-    requires { ⌜ FewSlots mostSlots t ⌝ }
-    ensures { λ r. ⌜ r ≡ withSlot t (Idle ready 0 0) ⌝ }
-{
-    if ready {
-        return Totals {
-            blocks: t.blocks,
-            bytes: t.bytes,
-            held: t.held,
-            free: t.free,
-            ready: t.ready + 1,
-            waiting: t.waiting,
-        };
-    }
-    Totals {
-        blocks: t.blocks,
-        bytes: t.bytes,
-        held: t.held,
-        free: t.free,
-        ready: t.ready,
-        waiting: t.waiting + 1,
-    }
-}
-
-// Totals with one slot more.
-fn with_slot(t: Totals, x: Slot) -> Totals
-    requires { ⌜ FewSlots mostSlots t × Small x ⌝ }
-    ensures { λ r. ⌜ r ≡ withSlot t x ⌝ }
-{
-    match x {
-        Slot::Fresh => with_idle(t, true),
-        Slot::Idle {
-            ready,
-            count: _,
-            disp: _,
-        } => with_idle(t, ready),
-        Slot::Live(a) => Totals {
-            blocks: t.blocks + 1,
-            bytes: t.bytes + a.size,
-            held: t.held,
-            free: t.free,
-            ready: t.ready,
-            waiting: t.waiting,
-        },
-    }
-}
-
-// The slots of a group of class c and of k rows, whose first row is row i and whose first slot begins at a byte of the arena, one by one.
-fn slots_counted(room: &[u8], i: usize, c: usize, k: usize, begin: usize) -> Counted
-    requires { ⌜ (i < 512) × (rowAt i + rowRecordBytes ≤ length (now room)) ⌝ }
-    requires { ⌜ (c < 48) × (begin < 8388608) ⌝ }
-    ensures { λ r. ⌜ r ≡ countedIf (slotsRight c begin (slotsOf c) (drop (rowAt i + slotsAt) (now (room .entry))))
-        (groupTotals k (plainSlots (slotsOf c) (drop (rowAt i + slotsAt) (now (room .entry))))) ⌝ }
-{
-    let n = classes::slots(c);
-    let bytes = 16 * classes::units(c);
-    let mut t = Totals {
-        blocks: 0,
-        bytes: 0,
-        held: k,
-        free: 0,
-        ready: 0,
-        waiting: 0,
-    };
-    let mut place = begin;
-    let mut j = 0;
-    while j < n {
-        let x = slots::slot_at(room, i, j);
-        if !record_sound(room, i, j, c, place, x) {
-            return Counted::Unsound;
-        }
-        t = with_slot(t, x);
-        place += bytes;
-        j += 1;
-    }
-    Counted::Sound(t)
-}
-
-// A group must have a live slot.
-fn some_live(found: Counted) -> Counted
-    ensures { λ r. ⌜ r ≡ someLive found ⌝ }
-{
-    let Counted::Sound(t) = found else {
-        return Counted::Unsound;
-    };
-    if t.blocks == 0 {
-        return Counted::Unsound;
-    }
-    Counted::Sound(t)
-}
-
-// The first row of a group of class c and of k rows, which is row i.
-fn group_counted(row: usize, room: &[u8], i: usize, c: usize, k: usize) -> Counted
-    requires { ⌜ (i < 512) × (rowAt i + rowRecordBytes ≤ length (now room)) ⌝ }
-    requires { ⌜ (c < 48) × (viewHolder (drop (rowAt i) (now room)) ≡ First c) ⌝ }
+// "unsound ones get answer 2 from all calls but set up": whether a room is sound under an arena of len bytes.
+pub fn sound(row: usize, len: usize, room: &[u8]) -> bool
     requires { ⌜ Lawful row ⌝ }
-    ensures { λ r. ⌜ r ≡ countedIf (groupChecked bySlots (row * i) c (drop (rowAt i) (now (room .entry))))
-        (groupTotals k (plainGroup c (drop (rowAt i) (now (room .entry))))) ⌝ }
+    ensures { λ r. ⌜ r ≡ soundBy bySlots row len (now (room .entry)) ⌝ }
 {
-    // Between its class and its slots there is nothing, nor behind them.
-    if !mem::zeros_at(room, rows::row_at(i) + 2, model::SLOTS - 2) {
-        return Counted::Unsound;
+    match counted(row, len, room) {
+        Counted::Sound(_) => true,
+        Counted::Unsound => false,
     }
-    let n = classes::slots(c);
-    let after = slots::slot_place(i, n);
-    if !mem::zeros_at(room, after, model::SLOT_RECORD * (model::MOST_SLOTS - n)) {
-        return Counted::Unsound;
-    }
-    some_live(slots_counted(room, i, c, k, row * i + 16))
 }
 
-// The span that begins at row i, where n rows are left: a free row, or a group.
-fn span_counted(row: usize, room: &[u8], i: usize, n: usize) -> Counted
-    requires { ⌜ (0 < n) × (i + n ≤ 512) × (rowAt (i + n) ≤ length (now room)) ⌝ }
+// "The tables are sound if: the arena length is the recorded one"; and what they count.
+pub fn counted(row: usize, len: usize, room: &[u8]) -> Counted
     requires { ⌜ Lawful row ⌝ }
-    ensures { λ r. ⌜ r ≡ spanCounted bySlots row (row * i) n (drop (rowAt i) (now (room .entry))) ⌝ }
+    ensures { λ r. ⌜ r ≡ countedIf (soundBy bySlots row len (now (room .entry))) (totals row (viewBy bySlots row (now (room .entry)))) ⌝ }
 {
-    match rows::frame_at(row, room, i, n) {
-        Frame::Free => Counted::Sound(Totals {
-            blocks: 0,
-            bytes: 0,
-            held: 0,
-            free: 1,
-            ready: 0,
-            waiting: 0,
-        }),
-        Frame::Group { class, rows } => group_counted(row, room, i, class, rows),
-        Frame::Unsound => Counted::Unsound,
+    let n = rows::rows_under(row, len, room);
+    if n == 0 {
+        return Counted::Unsound;
     }
+    rows_counted(row, room, n)
 }
 
-// The n rows of a room. What is held and what is free are the rows passed.
+// The n rows of a room: "rows held plus rows free is the arena's rows", so these are the rows passed.
 fn rows_counted(row: usize, room: &[u8], n: usize) -> Counted
     requires { ⌜ (n ≤ 512) × (length (now room) ≡ rowAt n) ⌝ }
     requires { ⌜ Lawful row ⌝ }
     ensures { λ r. ⌜ r ≡ rowsCounted bySlots row 0 n (drop headBytes (now (room .entry))) ⌝ }
 {
-    let mut s = Totals {
-        blocks: 0,
-        bytes: 0,
-        held: 0,
-        free: 0,
-        ready: 0,
-        waiting: 0,
-    };
+    let mut s = NOTHING;
     while s.held + s.free < n {
         let i = s.held + s.free;
         match span_counted(row, room, i, n - i) {
@@ -251,25 +75,168 @@ fn rows_counted(row: usize, room: &[u8], n: usize) -> Counted
     Counted::Sound(s)
 }
 
-// What a room counts that is sound under an arena of len bytes.
-pub fn counted(row: usize, len: usize, room: &[u8]) -> Counted
+// "groups lie inside the arena and no two share a row": what begins at row i, where n rows are left, is a free row or a whole group.
+fn span_counted(row: usize, room: &[u8], i: usize, n: usize) -> Counted
+    requires { ⌜ (0 < n) × (i + n ≤ 512) × (rowAt (i + n) ≤ length (now room)) ⌝ }
     requires { ⌜ Lawful row ⌝ }
-    ensures { λ r. ⌜ r ≡ countedIf (soundBy bySlots row len (now (room .entry))) (totals row (viewBy bySlots row (now (room .entry)))) ⌝ }
+    ensures { λ r. ⌜ r ≡ spanCounted bySlots row (row * i) n (drop (rowAt i) (now (room .entry))) ⌝ }
 {
-    let n = rows::rows_under(row, len, room);
-    if n == 0 {
-        return Counted::Unsound;
+    match rows::frame_at(row, room, i, n) {
+        Frame::Free => Counted::Sound(Totals { free: 1, ..NOTHING }),
+        Frame::Group { class, rows } => group_counted(row, room, i, class, rows),
+        Frame::Unsound => Counted::Unsound,
     }
-    rows_counted(row, room, n)
 }
 
-// Whether a room is sound under an arena of len bytes.
-pub fn sound(row: usize, len: usize, room: &[u8]) -> bool
+// "with zero wherever nothing is to be said": between the class of a group and its slots, and after its slots.
+fn group_counted(row: usize, room: &[u8], i: usize, c: usize, k: usize) -> Counted
+    requires { ⌜ (i < 512) × (rowAt i + rowRecordBytes ≤ length (now room)) ⌝ }
+    requires { ⌜ (c < 48) × (viewHolder (drop (rowAt i) (now room)) ≡ First c) ⌝ }
     requires { ⌜ Lawful row ⌝ }
-    ensures { λ r. ⌜ r ≡ soundBy bySlots row len (now (room .entry)) ⌝ }
+    ensures { λ r. ⌜ r ≡ countedIf (groupChecked bySlots (row * i) c (drop (rowAt i) (now (room .entry))))
+        (groupTotals k (plainGroup c (drop (rowAt i) (now (room .entry))))) ⌝ }
 {
-    match counted(row, len, room) {
-        Counted::Sound(_) => true,
-        Counted::Unsound => false,
+    if !mem::zeros_at(room, rows::row_at(i) + 2, model::SLOTS - 2) {
+        return Counted::Unsound;
+    }
+    let n = classes::slots(c);
+    let after = plain_slots::slot_place(i, n);
+    if !mem::zeros_at(room, after, model::SLOT_RECORD * (model::MOST_SLOTS - n)) {
+        return Counted::Unsound;
+    }
+    some_live(slots_counted(room, i, c, k, row * i + 16))
+}
+
+// "each group has a live slot"
+fn some_live(found: Counted) -> Counted
+    ensures { λ r. ⌜ r ≡ someLive found ⌝ }
+{
+    let Counted::Sound(t) = found else {
+        return Counted::Unsound;
+    };
+    if t.blocks == 0 {
+        return Counted::Unsound;
+    }
+    Counted::Sound(t)
+}
+
+// "Slot i of a group begins 16 + i·s bytes after the group's first byte." The first begins at the byte given, each other where the one before ends.
+fn slots_counted(room: &[u8], i: usize, c: usize, k: usize, begin: usize) -> Counted
+    requires { ⌜ (i < 512) × (rowAt i + rowRecordBytes ≤ length (now room)) ⌝ }
+    requires { ⌜ (c < 48) × (begin < 8388608) ⌝ }
+    ensures { λ r. ⌜ r ≡ countedIf (slotsRight c begin (slotsOf c) (drop (rowAt i + slotsAt) (now (room .entry))))
+        (groupTotals k (plainSlots (slotsOf c) (drop (rowAt i + slotsAt) (now (room .entry))))) ⌝ }
+{
+    let n = classes::slots(c);
+    let bytes = 16 * classes::units(c);
+    let mut t = Totals { held: k, ..NOTHING };
+    let mut place = begin;
+    let mut j = 0;
+    while j < n {
+        let x = plain_slots::slot_at(room, i, j);
+        if !record_sound(room, i, j, c, place, x) {
+            return Counted::Unsound;
+        }
+        t = with_slot(t, x);
+        place += bytes;
+        j += 1;
+    }
+    Counted::Sound(t)
+}
+
+// "One state of the tables has one byte form over the whole room, with zero wherever nothing is to be said; other bytes are unsound."
+// The record of slot j, which was read as x, must be that of x.
+fn record_sound(room: &[u8], i: usize, j: usize, c: usize, begin: usize, x: Slot) -> bool
+    requires { ⌜ (i < 512) × (rowAt i + rowRecordBytes ≤ length (now room)) × (j < mostSlots) ⌝ }
+    requires { ⌜ (c < 48) × (begin < 16777216) × Small x ⌝ }
+    ensures { λ r. ⌜ r ≡ starts (drop (rowAt i + (slotsAt + slotRecordBytes * j)) (now (room .entry))) (plainRecord x)
+        && (slotSound c x && slotAligned begin x) ⌝ }
+{
+    let at = plain_slots::slot_place(i, j);
+    let record = plain_slots::slot_record(x);
+    if !mem::same_bytes(&room[at..at + model::SLOT_RECORD], &record) {
+        return false;
+    }
+    slot_sound(c, begin, x)
+}
+
+// "a slot granted but not live has 16d at most s − 4"; "a slot never granted is ready with count 0", which its record says.
+fn slot_sound(c: usize, begin: usize, x: Slot) -> bool
+    requires { ⌜ (c < 48) × (begin < 16777216) × Small x ⌝ }
+    ensures { λ r. ⌜ r ≡ slotSound c x && slotAligned begin x ⌝ }
+{
+    match x {
+        Slot::Fresh => true,
+        Slot::Idle { disp, .. } => 16 * disp <= 16 * classes::units(c) - 4,
+        Slot::Live(a) => live_sound(c, begin, a),
+    }
+}
+
+// The rules of a live slot of class c that begins at a byte of the arena.
+fn live_sound(c: usize, begin: usize, a: Alloc) -> bool
+    requires { ⌜ (c < 48) × (begin < 16777216) × (a .disp < 65536) × (a .size < 16777216) ⌝ }
+    ensures { λ r. ⌜ r ≡ slotSound c (Live a) && slotAligned begin (Live a) ⌝ }
+{
+    // "a live slot was granted, has 16d + n at most s − 4"
+    if 16 * classes::units(c) - 4 < 16 * a.disp + a.size {
+        return false;
+    }
+    // 02 §6: "The tables keep the alignment": 1 for an ordinary block, up to 9 for 4,096.
+    if a.align < classes::ORDINARY {
+        return false;
+    }
+    if 9 < a.align {
+        return false;
+    }
+    // "a live n is below 131,052". 02 §6: "soundness reads the enlarged size where it speaks of a live block's class"
+    if classes::too_large(a.align, a.size) {
+        return false;
+    }
+    if !own_class(c, classes::enlarged(a.align, a.size)) {
+        return false;
+    }
+    // 02 §6: "and demands the boundary"
+    (begin + 16 * a.disp) % classes::align_of(a.align) == 0
+}
+
+// "its class is that of n or the next one up"
+fn own_class(c: usize, n: usize) -> bool
+    requires { ⌜ n < tooLarge ⌝ }
+    ensures { λ r. ⌜ r ≡ ownClass c n ⌝ }
+{
+    let own = classes::class_of(n);
+    (c == own) | (c == own + 1)
+}
+
+// "live blocks, their requested bytes": totals with one slot more.
+fn with_slot(t: Totals, x: Slot) -> Totals
+    requires { ⌜ FewSlots mostSlots t × Small x ⌝ }
+    ensures { λ r. ⌜ r ≡ withSlot t x ⌝ }
+{
+    match x {
+        Slot::Fresh => with_idle(t, true),
+        Slot::Idle { ready, .. } => with_idle(t, ready),
+        Slot::Live(a) => Totals {
+            blocks: t.blocks + 1,
+            bytes: t.bytes + a.size,
+            ..t
+        },
+    }
+}
+
+// "ready slots, waiting slots (the last two over present groups)"
+fn with_idle(t: Totals, ready: bool) -> Totals
+    requires { ⌜ FewSlots mostSlots t ⌝ }
+    ensures { λ r. ⌜ r ≡ withSlot t (Idle ready 0 0) ⌝ }
+{
+    if ready {
+        return Totals {
+            ready: t.ready + 1,
+            ..t
+        };
+    }
+    Totals {
+        waiting: t.waiting + 1,
+        ..t
     }
 }

@@ -1,28 +1,43 @@
--- What C sees, by what the call said and by what the answer's number and value are.
+-- What C sees, by what the call left and by what the answer's number and value are.
 use Rattle.mem.proofs.Prelude.{_∙_, _≡_, ap, List, ℕ, getD}
-use Rattle.mem.specs.Bytes.{put}
 use Rattle.model.specs.Answers.{Answer}
-use Rattle.model.specs.Calls.{Outcome}
-use Rattle.slotpool_plain.specs.Gives.{Leaves, Tells, Gives, Lists}
+use Rattle.model.specs.Calls.{Outcome, left}
+use Rattle.plain.specs.Listed.{Listed}
+use Rattle.slotpool_plain.specs.Gives.{Leaves, Tells, Gives, Reports, Lists}
 
-pub tells : {r : Answer} {n v : ℕ} (x : Answer) → n ≡ x .number → v ≡ getD (x .values) 0 0 → x ≡ r → Tells r n v
-tells x e f h = record { number-due = e ∙ ap (λ (r : Answer). r .number) h; value-due = f ∙ ap (λ (r : Answer). getD (r .values) 0 0) h }
+module _ {o : Outcome (List ℕ)} {n : ℕ} {a t : List ℕ} (x : Answer) (e : n ≡ x .number) where
+  pub tells : {v : ℕ} → v ≡ getD (x .values) 0 0 → left x a t ≡ o → Tells (o .answer) n v
+  tells f h = record {
+    number-due = e ∙ ap (λ (o : Outcome (List ℕ)). o .answer .number) h;
+    value-due = f ∙ ap (λ (o : Outcome (List ℕ)). getD (o .answer .values) 0 0) h;
+  }
 
-module _ {o : Outcome (List ℕ)} {n : ℕ} {a t : List ℕ} where
-  pub leaves : (x : Answer) → n ≡ x .number → (x ≡ o .answer) × ((a ≡ o .arena) × (t ≡ o .room)) → Leaves o n a t
-  leaves x e h = record { number-due = e ∙ ap (λ (r : Answer). r .number) (h .0); arena-due = h .1 .0; room-due = h .1 .1 }
+  pub reports : {vs : List ℕ} → vs ≡ x .values → left x a t ≡ o → Reports (o .answer) n vs
+  reports f h = record {
+    number-due = e ∙ ap (λ (o : Outcome (List ℕ)). o .answer .number) h;
+    values-due = f ∙ ap (λ (o : Outcome (List ℕ)). o .answer .values) h;
+  }
 
-  pub gives : {v : ℕ} (x : Answer) → n ≡ x .number → v ≡ getD (x .values) 0 0 → (x ≡ o .answer) × ((a ≡ o .arena) × (t ≡ o .room)) → Gives o n v a t
-  gives x e f h = record { tells = tells x e f (h .0); arena-due = h .1 .0; room-due = h .1 .1 }
+  pub leaves : left x a t ≡ o → Leaves o n a t
+  leaves h = record {
+    number-due = e ∙ ap (λ (o : Outcome (List ℕ)). o .answer .number) h;
+    arena-due = ap (λ (o : Outcome (List ℕ)). o .arena) h;
+    room-due = ap (λ (o : Outcome (List ℕ)). o .room) h;
+  }
 
-  pub lists : {v : ℕ} {l k : List ℕ} (x : Answer) → n ≡ x .number → v ≡ getD (x .values) 0 0
-      → (x .number ≡ o .answer .number) × ((x .values ≡ o .answer .values) × ((k ≡ put 0 (o .answer .lent) l) × ((a ≡ o .arena) × (t ≡ o .room))))
-      → Lists o n v l k a t
-  lists x e f h = record {
+  pub gives : {v : ℕ} → v ≡ getD (x .values) 0 0 → left x a t ≡ o → Gives o n v a t
+  gives f h = record {
+    tells = tells f h;
+    arena-due = ap (λ (o : Outcome (List ℕ)). o .arena) h;
+    room-due = ap (λ (o : Outcome (List ℕ)). o .room) h;
+  }
+
+  pub lists : {v : ℕ} {l k : List ℕ} → v ≡ getD (x .values) 0 0 → Listed o x l k a t → Lists o n v l k a t
+  lists f h = record {
     gives = record {
-      tells = record { number-due = e ∙ h .0; value-due = f ∙ ap (λ vs. getD vs 0 0) (h .1 .0) };
-      arena-due = h .1 .1 .1 .0;
-      room-due = h .1 .1 .1 .1;
+      tells = record { number-due = e ∙ h .number-due; value-due = f ∙ ap (λ vs. getD vs 0 0) (h .values-due) };
+      arena-due = h .arena-due;
+      room-due = h .room-due;
     };
-    list-due = h .1 .1 .0;
+    list-due = h .list-due;
   }

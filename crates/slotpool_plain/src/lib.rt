@@ -1,12 +1,11 @@
-// The C interface of the second engine, a plain record for each slot and no totals: include/slotpool_plain.h. A slice is passed as a pointer
-// and a length.
+// The second engine for C: include/slotpool_plain.h. Each function makes the call of plain with its name, and hands out the answer's number and values.
+// A slice is passed as a pointer and a length.
 ghost use mathlib.Core.Path.{_≡_};
 ghost use lib.ListN.{length};
 ghost use Rattle.classes.specs.Classes.{rowBytes};
 ghost use Rattle.model.specs.Plans.{setsUp, grants, grantsAligned, releases, resizes, measures, reports, grantsList};
 ghost use Rattle.model.specs.Tables.{roomFor};
-ghost use Rattle.model.specs.Plain.{plainForm};
-ghost use Rattle.model.specs.Calls.{callBy};
+ghost use Rattle.model.specs.Plain.{plainCall};
 ghost use Rattle.slotpool_plain.specs.Gives.{Leaves, Tells, Gives, Reports, Lists};
 
 #[no_mangle]
@@ -18,7 +17,7 @@ pub extern "C" fn slotpool_plain_room_len(arena_len: usize) -> usize
 
 #[no_mangle]
 pub extern "C" fn slotpool_plain_set_up(arena: &mut [u8], room: &mut [u8]) -> u32
-    ensures { λ r. ⌜ Leaves (callBy rowBytes (plainForm rowBytes) (now (arena .entry)) (now (room .entry)) setsUp)
+    ensures { λ r. ⌜ Leaves (plainCall rowBytes (now (arena .entry)) (now (room .entry)) setsUp)
         r (now (arena .exit)) (now (room .exit)) ⌝ }
 {
     answers::number_of(plain::set_up(arena, room))
@@ -31,7 +30,7 @@ pub extern "C" fn slotpool_plain_grant(
     n: usize,
     value: &mut usize,
 ) -> u32
-    ensures { λ r. ⌜ Gives (callBy rowBytes (plainForm rowBytes) (now (arena .entry)) (now (room .entry)) (grants n))
+    ensures { λ r. ⌜ Gives (plainCall rowBytes (now (arena .entry)) (now (room .entry)) (grants n))
         r (now (value .exit)) (now (arena .exit)) (now (room .exit)) ⌝ }
 {
     let r = plain::grant(arena, room, n);
@@ -47,7 +46,7 @@ pub extern "C" fn slotpool_plain_grant_aligned(
     align: usize,
     value: &mut usize,
 ) -> u32
-    ensures { λ r. ⌜ Gives (callBy rowBytes (plainForm rowBytes) (now (arena .entry)) (now (room .entry)) (grantsAligned n align))
+    ensures { λ r. ⌜ Gives (plainCall rowBytes (now (arena .entry)) (now (room .entry)) (grantsAligned n align))
         r (now (value .exit)) (now (arena .exit)) (now (room .exit)) ⌝ }
 {
     let r = plain::grant_aligned(arena, room, n, align);
@@ -57,7 +56,7 @@ pub extern "C" fn slotpool_plain_grant_aligned(
 
 #[no_mangle]
 pub extern "C" fn slotpool_plain_release(arena: &mut [u8], room: &mut [u8], handle: usize) -> u32
-    ensures { λ r. ⌜ Leaves (callBy rowBytes (plainForm rowBytes) (now (arena .entry)) (now (room .entry)) (releases handle))
+    ensures { λ r. ⌜ Leaves (plainCall rowBytes (now (arena .entry)) (now (room .entry)) (releases handle))
         r (now (arena .exit)) (now (room .exit)) ⌝ }
 {
     answers::number_of(plain::release(arena, room, handle))
@@ -71,7 +70,7 @@ pub extern "C" fn slotpool_plain_resize(
     n: usize,
     value: &mut usize,
 ) -> u32
-    ensures { λ r. ⌜ Gives (callBy rowBytes (plainForm rowBytes) (now (arena .entry)) (now (room .entry)) (resizes handle n))
+    ensures { λ r. ⌜ Gives (plainCall rowBytes (now (arena .entry)) (now (room .entry)) (resizes handle n))
         r (now (value .exit)) (now (arena .exit)) (now (room .exit)) ⌝ }
 {
     let r = plain::resize(arena, room, handle, n);
@@ -86,7 +85,7 @@ pub extern "C" fn slotpool_plain_measure(
     handle: usize,
     value: &mut usize,
 ) -> u32
-    ensures { λ r. ⌜ Tells (callBy rowBytes (plainForm rowBytes) (now (arena .entry)) (now (room .entry)) (measures handle) .answer)
+    ensures { λ r. ⌜ Tells (plainCall rowBytes (now (arena .entry)) (now (room .entry)) (measures handle) .answer)
         r (now (value .exit)) ⌝ }
 {
     let r = plain::measure(arena, room, handle);
@@ -96,7 +95,7 @@ pub extern "C" fn slotpool_plain_measure(
 
 #[no_mangle]
 pub extern "C" fn slotpool_plain_report(arena: &[u8], room: &[u8], out: &mut [usize; 6]) -> u32
-    ensures { λ r. ⌜ Reports (callBy rowBytes (plainForm rowBytes) (now (arena .entry)) (now (room .entry)) reports .answer) r (now (out .exit)) ⌝ }
+    ensures { λ r. ⌜ Reports (plainCall rowBytes (now (arena .entry)) (now (room .entry)) reports .answer) r (now (out .exit)) ⌝ }
 {
     let r = plain::report(arena, room);
     *out = answers::report_values(r);
@@ -113,7 +112,7 @@ pub extern "C" fn slotpool_plain_grant_list(
     handles: &mut [usize],
     value: &mut usize,
 ) -> u32
-    ensures { λ r. ⌜ Lists (callBy rowBytes (plainForm rowBytes) (now (arena .entry)) (now (room .entry))
+    ensures { λ r. ⌜ Lists (plainCall rowBytes (now (arena .entry)) (now (room .entry))
         (grantsList «total» cap (length (now (handles .entry))) (now (sizes .entry))))
         r (now (value .exit)) (now (handles .entry)) (now (handles .exit)) (now (arena .exit)) (now (room .exit)) ⌝ }
 {

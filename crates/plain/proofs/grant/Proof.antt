@@ -6,8 +6,8 @@ use Rattle.model.specs.Plans.{grants, grantAs}
 use Rattle.model.specs.Tables.{viewBy}
 use Rattle.model.specs.Plain.{bySlots, plainForm}
 use Rattle.model.proofs.Calls.{call-unsound}
-use Rattle.frames.proofs.Calls.{called, grant-does}
-use Rattle.plain.proofs.Calls.{by-check, parts, carried-as}
+use Rattle.frames.proofs.Calls.{called, grant-does, carried-as}
+use Rattle.plain.proofs.Calls.{by-check}
 use Rattle.plain.proofs.grant.Statement.{statement}
 use Rattle.plain.proofs.grant.Tie as tie
 
@@ -16,8 +16,8 @@ unfolding rowBytes
 returns c =
     let a = c .before .before .before .before .before .args in
     let w = c .before .sound in
-    parts (sym (call-unsound rowBytes (plainForm rowBytes) (now (a .arena)) (now (a .room)) (grants (a .n)) tt
-    (sym (w .ensures) ∙ not-true (w .result) (c .if1 .taken))))
+    sym (call-unsound rowBytes (plainForm rowBytes) (now (a .arena)) (now (a .room)) (grants (a .n)) tt
+    (sym (w .ensures) ∙ not-true (w .result) (c .if1 .taken)))
 
 grant-as-requires : tie.Need-grant-as-requires
 unfolding rowBytes

@@ -8,8 +8,8 @@ use Rattle.model.specs.Tables.{viewBy}
 use Rattle.model.specs.Plain.{bySlots, plainForm}
 use Rattle.frames.specs.Blocks.{CarriedOutBy}
 use Rattle.model.proofs.Calls.{call-unsound}
-use Rattle.frames.proofs.Calls.{Checked, called, refused-out, aligned-none, aligned-does}
-use Rattle.plain.proofs.Calls.{by-check, parts, carried-as}
+use Rattle.frames.proofs.Calls.{Checked, called, refused-out, aligned-none, aligned-does, carried-as}
+use Rattle.plain.proofs.Calls.{by-check}
 use Rattle.plain.proofs.grant_aligned.Statement.{statement}
 use Rattle.plain.proofs.grant_aligned.Tie as tie
 
@@ -18,8 +18,8 @@ unfolding rowBytes
 returns c =
     let a = c .before .before .before .before .before .args in
     let w = c .before .sound in
-    parts (sym (call-unsound rowBytes (plainForm rowBytes) (now (a .arena)) (now (a .room)) (grantsAligned (a .n) (a .align)) tt
-    (sym (w .ensures) ∙ not-true (w .result) (c .if1 .taken))))
+    sym (call-unsound rowBytes (plainForm rowBytes) (now (a .arena)) (now (a .room)) (grantsAligned (a .n) (a .align)) tt
+    (sym (w .ensures) ∙ not-true (w .result) (c .if1 .taken)))
 
 -- the tables are sound
 lent : (c : tie.Else1) → (let a = c .before .before .before .before .before .args in Checked rowBytes (plainForm rowBytes) (now (a .arena)) (now (a .room)))

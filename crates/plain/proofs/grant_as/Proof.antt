@@ -12,7 +12,7 @@ use Rattle.rows.specs.Rows.{blockOf}
 use Rattle.frames.specs.Blocks.{Standing, roomAfterBy}
 use Rattle.frames.proofs.Places.{reserved-stands}
 use Rattle.frames.proofs.Calls.{Checked, grant-too-large, granted-none, granted-at}
-use Rattle.plain_find.proofs.Opens.{by-slots}
+use Rattle.plain_tables.proofs.Opens.{by-slots}
 use Rattle.plain_ops.proofs.Reserves.{reserved-place, reserved-none}
 use Rattle.plain.proofs.Calls.{by-check}
 use Rattle.plain.proofs.grant_as.Statement.{statement}

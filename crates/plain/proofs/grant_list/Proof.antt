@@ -13,8 +13,8 @@ use Rattle.model.specs.Plain.{bySlots, plainForm}
 use Rattle.model.proofs.Lists.{small, accepts-small, accepts-few}
 use Rattle.model.proofs.Calls.{call-unsound}
 use Rattle.frames.proofs.Calls.{Checked}
-use Rattle.plain.proofs.Calls.{by-check}
-use Rattle.frames.proofs.Lists.{refused-parts, too-long, bad-proposal, no-room, whole}
+use Rattle.plain.proofs.Calls.{by-check, refused-list}
+use Rattle.frames.proofs.Lists.{too-long, bad-proposal, no-room, whole}
 use Rattle.plain.proofs.grant_list.Statement.{statement}
 use Rattle.plain.proofs.grant_list.Tie as tie
 
@@ -23,7 +23,7 @@ unfolding rowBytes
 returns c =
     let w = c .before .sound in
     let a = c .before .before .before .before .before .before .before .args in
-    refused-parts Unsound (now (a .handles))
+    refused-list Unsound (now (a .handles))
     (call-unsound rowBytes (plainForm rowBytes) (now (a .arena)) (now (a .room)) (grantsList (a .total) (a .cap) (length (now (a .handles))) (now (a .sizes)))
     tt
     (sym (w .ensures) ∙ not-true (w .result) (c .if1 .taken)))
@@ -42,7 +42,7 @@ returns-2 c =
     let d = c .before .before in
     let a = d .before .before .before .before .before .before .before .args in
     let w = c .before .plannable in
-    refused-parts TooLong (now (a .handles))
+    refused-list TooLong (now (a .handles))
     (too-long (lent d) (a .total) (a .cap) (length (now (a .handles))) (now (a .sizes))
     (ap (λ b. b && leb entries (length (now (a .handles)))) (sym (w .ensures) ∙ not-true (w .result) (c .if2 .taken))))
 
@@ -52,7 +52,7 @@ returns-3 c =
     let d = c .before .before .before in
     let a = d .before .before .before .before .before .before .before .args in
     let e = lt-leb entries (length (now (a .handles))) (c .if3 .taken) in
-    refused-parts TooLong (now (a .handles))
+    refused-list TooLong (now (a .handles))
     (too-long (lent d) (a .total) (a .cap) (length (now (a .handles))) (now (a .sizes))
     (ap (λ b. plannable (a .total) (a .cap) && b) e ∙ and-false (plannable (a .total) (a .cap))))
 
@@ -72,7 +72,7 @@ returns-4 c =
     let s = d .before .before .before in
     let a = s .before .before .before .before .before .before .before .args in
     let w = c .before .accepts in
-    refused-parts BadProposal (now (a .handles))
+    refused-list BadProposal (now (a .handles))
     (bad-proposal (lent s) (a .total) (a .cap) (length (now (a .handles))) (now (a .sizes)) (short d)
     (sym (w .ensures) ∙ not-true (w .result) (c .if4 .taken)))
 
@@ -97,7 +97,7 @@ returns-5 c =
     let s = k .before .before .before in
     let a = s .before .before .before .before .before .before .before .args in
     let w = c .before .fits2 in
-    refused-parts NoRoom (now (a .handles))
+    refused-list NoRoom (now (a .handles))
     (no-room (lent s) (a .total) (a .cap) (length (now (a .handles))) (now (a .sizes)) (short k) (right d)
     (sym (w .ensures) ∙ not-true (w .result) (c .if5 .taken)))
 
@@ -134,16 +134,14 @@ returns-6 c =
     let k = d .before .before in
     let s = k .before .before .before in
     let a = s .before .before .before .before .before .before .before .args in
-    let w = whole (lent s) (a .total) (a .cap) (length (now (a .handles))) (now (a .sizes)) (short k) (right d) (fit e) in (
-      w .number,
-      (
-        w .values,
-        (
-          g .ensures .1 .1 ∙ ap (λ l. put 0 l (now (a .handles))) (w .lent),
-          (g .ensures .0 ∙ w .arena, g .ensures .1 .0 ∙ w .room),
-        ),
-      ),
-    )
+    let w = whole (lent s) (a .total) (a .cap) (length (now (a .handles))) (now (a .sizes)) (short k) (right d) (fit e) in
+    record {
+      number-due = w .number;
+      values-due = w .values;
+      list-due = g .ensures .1 .1 ∙ ap (λ l. put 0 l (now (a .handles))) (w .lent);
+      arena-due = g .ensures .0 ∙ w .arena;
+      room-due = g .ensures .1 .0 ∙ w .room;
+    }
 
 pub grant-list-spec : {M : Type 1} → statement M
 grant-list-spec =

@@ -7,8 +7,8 @@ use Rattle.model.specs.Plans.{measures, measureAt}
 use Rattle.model.specs.Tables.{viewBy}
 use Rattle.model.specs.Plain.{bySlots, plainForm}
 use Rattle.model.proofs.Calls.{call-unsound}
-use Rattle.frames.proofs.Calls.{Checked, called-at, called-refused, measuring}
-use Rattle.plain.proofs.Calls.{by-check, parts}
+use Rattle.frames.proofs.Calls.{Checked, called-at, called-refused, measuring, kept-as}
+use Rattle.plain.proofs.Calls.{by-check}
 use Rattle.plain.proofs.measure.Statement.{statement}
 use Rattle.plain.proofs.measure.Tie as tie
 
@@ -17,8 +17,8 @@ unfolding rowBytes
 returns c =
     let a = c .before .before .before .before .args in
     let w = c .before .sound in
-    parts (sym (call-unsound rowBytes (plainForm rowBytes) (now (a .arena)) (now (a .room)) (measures (a .handle)) tt
-    (sym (w .ensures) ∙ not-true (w .result) (c .if1 .taken)))) .0
+    sym (call-unsound rowBytes (plainForm rowBytes) (now (a .arena)) (now (a .room)) (measures (a .handle)) tt
+    (sym (w .ensures) ∙ not-true (w .result) (c .if1 .taken)))
 
 -- the tables are sound
 lent : (c : tie.Else1) → (let a = c .before .before .before .before .args in Checked rowBytes (plainForm rowBytes) (now (a .arena)) (now (a .room)))
@@ -38,15 +38,15 @@ returns-2 c =
     let a = z .before .before .before .before .args in
     let b = called-at (lent z) (a .handle) (measureAt rowBytes (viewBy bySlots rowBytes (now (a .room)))) (λ p. refl) (c .before .b .given .0 .0)
     (sym (c .before .b .given .1) ∙ c .before .before .before .locate .ensures) in
-    ap (λ b. done (b .alloc .size ∷ [])) (b .block) ∙ parts (sym (measuring (lent z) (a .handle) ∙ b .result)) .0
+    kept-as (lent z) (ap (λ b. done (b .alloc .size ∷ [])) (b .block)) (measuring (lent z) (a .handle) ∙ b .result)
 
 returns-3 : tie.Need-returns-3
 unfolding rowBytes
 returns-3 c =
     let z = c .before .before .before .before in
     let a = z .before .before .before .before .args in
-    parts (sym (measuring (lent z) (a .handle) ∙ called-refused (lent z) (a .handle) (measureAt rowBytes (viewBy bySlots rowBytes (now (a .room)))) (λ p. refl)
-    (c .before .r .given .0 .0) (sym (c .before .r .given .1) ∙ c .before .before .before .locate .ensures))) .0
+    sym (measuring (lent z) (a .handle) ∙ called-refused (lent z) (a .handle) (measureAt rowBytes (viewBy bySlots rowBytes (now (a .room)))) (λ p. refl)
+    (c .before .r .given .0 .0) (sym (c .before .r .given .1) ∙ c .before .before .before .locate .ensures))
 
 pub measure-spec : {M : Type 1} → statement M
 measure-spec = tie.close (tie.spec (λ c κs. search needs) returns locate-requires (λ c. search needs) (λ c. search needs) returns-2 returns-3)

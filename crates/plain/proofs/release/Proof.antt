@@ -8,9 +8,9 @@ use Rattle.model.specs.Plain.{bySlots, plainForm}
 use Rattle.rows.specs.Rows.{Holds}
 use Rattle.frames.proofs.Places.{found-holds}
 use Rattle.model.proofs.Calls.{call-unsound}
-use Rattle.frames.proofs.Calls.{Checked, Called, called-at, called-refused, releasing, release-names, release-done}
-use Rattle.plain_find.proofs.Opens.{by-slots}
-use Rattle.plain.proofs.Calls.{by-check, parts}
+use Rattle.frames.proofs.Calls.{Checked, Called, called-at, called-refused, releasing, release-names, release-done, whole}
+use Rattle.plain_tables.proofs.Opens.{by-slots}
+use Rattle.plain.proofs.Calls.{by-check}
 use Rattle.plain.proofs.release.Statement.{statement}
 use Rattle.plain.proofs.release.Tie as tie
 
@@ -19,8 +19,8 @@ unfolding rowBytes
 returns c =
     let a = c .before .before .before .before .before .args in
     let w = c .before .sound in
-    parts (sym (call-unsound rowBytes (plainForm rowBytes) (now (a .arena)) (now (a .room)) (releases (a .handle)) tt
-    (sym (w .ensures) ∙ not-true (w .result) (c .if1 .taken))))
+    sym (call-unsound rowBytes (plainForm rowBytes) (now (a .arena)) (now (a .room)) (releases (a .handle)) tt
+    (sym (w .ensures) ∙ not-true (w .result) (c .if1 .taken)))
 
 -- the tables are sound
 lent : (c : tie.Else1) → (let a = c .before .before .before .before .before .args in Checked rowBytes (plainForm rowBytes) (now (a .arena)) (now (a .room)))
@@ -62,17 +62,17 @@ unfolding rowBytes
 returns-2 c =
     let k = c .before .before .before .before .before .before .before in
     let z = k .before .before .before .before .before .before in
-    let p = parts (sym (releasing (lent z) (z .before .before .before .before .before .args .handle) ∙ block k .result)) in
     let d = c .before .before .before .before .discard .ensures (block k .place) (holds k) in
-    (sym (release-done rowBytes (block k .place)) ∙ p .0, (d .0 ∙ p .1 .0, d .1 ∙ p .1 .1))
+    whole (sym (release-done rowBytes (block k .place))) (d .0) (d .1)
+    ∙ sym (releasing (lent z) (z .before .before .before .before .before .args .handle) ∙ block k .result)
 
 returns-3 : tie.Need-returns-3
 unfolding rowBytes
 returns-3 c =
     let z = c .before .before .before .before .before .before in
     let h = z .before .before .before .before .before .args .handle in
-    parts (sym (releasing (lent z) h ∙ called-refused (lent z) h (releaseAt rowBytes) (release-names rowBytes) (c .before .r .given .0 .0)
-    (sym (c .before .r .given .1) ∙ c .before .before .before .locate .ensures)))
+    sym (releasing (lent z) h ∙ called-refused (lent z) h (releaseAt rowBytes) (release-names rowBytes) (c .before .r .given .0 .0)
+    (sym (c .before .r .given .1) ∙ c .before .before .before .locate .ensures))
 
 pub release-spec : {M : Type 1} → statement M
 release-spec =

@@ -6,7 +6,8 @@ use Rattle.model.specs.Plans.{reports, totals}
 use Rattle.model.specs.Tables.{soundBy, viewBy}
 use Rattle.model.specs.Plain.{bySlots, plainForm}
 use Rattle.model.proofs.Calls.{call-unsound}
-use Rattle.plain.proofs.Calls.{by-check, parts, reporting, counted-sound, counted-unsound}
+use Rattle.frames.proofs.Calls.{reporting}
+use Rattle.plain.proofs.Calls.{by-check, counted-sound, counted-unsound}
 use Rattle.plain.proofs.report.Statement.{statement}
 use Rattle.plain.proofs.report.Tie as tie
 
@@ -19,16 +20,16 @@ returns c =
     let q = counted-sound (soundBy bySlots rowBytes (length (now (a .arena))) (now (a .room))) (totals rowBytes (viewBy bySlots rowBytes (now (a .room))))
     (x .0 .0)
     (sym (x .1) ∙ k .counted .ensures) in
-    ap (λ t. done (listed t)) (q .1) ∙ sym (reporting (by-check (now (a .arena)) (now (a .room)) (q .0)))
+    reporting (by-check (now (a .arena)) (now (a .room)) (q .0)) (ap (λ t. done (listed t)) (q .1))
 
 returns-2 : tie.Need-returns-2
 unfolding rowBytes
 returns-2 c =
     let k = c .before .before in
     let a = k .before .before .before .args in
-    parts (sym (call-unsound rowBytes (plainForm rowBytes) (now (a .arena)) (now (a .room)) reports tt
+    sym (call-unsound rowBytes (plainForm rowBytes) (now (a .arena)) (now (a .room)) reports tt
     (counted-unsound (soundBy bySlots rowBytes (length (now (a .arena))) (now (a .room))) (totals rowBytes (viewBy bySlots rowBytes (now (a .room))))
-    (sym (c .enum-told .given .1) ∙ k .counted .ensures)))) .0
+    (sym (c .enum-told .given .1) ∙ k .counted .ensures)))
 
 pub report-spec : {M : Type 1} → statement M
 report-spec = tie.close (tie.spec (λ c κs. search needs) (λ c. search needs) (λ c. search needs) returns returns-2)

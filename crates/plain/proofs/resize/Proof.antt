@@ -13,9 +13,9 @@ use Rattle.rows.specs.Rows.{Lent, looked, Holds}
 use Rattle.frames.specs.Blocks.{codeFound, judged, located, CarriedOutBy}
 use Rattle.frames.proofs.Places.{held-pool, Known, found-known, found-holds, judged-looked, new-size}
 use Rattle.model.proofs.Calls.{call-unsound}
-use Rattle.frames.proofs.Calls.{Checked, Called, called-at, called-refused, resizing, resize-names, resize-too-large}
-use Rattle.plain_find.proofs.Opens.{by-slots}
-use Rattle.plain.proofs.Calls.{by-check, parts, carried-as}
+use Rattle.frames.proofs.Calls.{Checked, Called, called-at, called-refused, resizing, resize-names, resize-too-large, carried-as}
+use Rattle.plain_tables.proofs.Opens.{by-slots}
+use Rattle.plain.proofs.Calls.{by-check}
 use Rattle.plain.proofs.resize.Statement.{statement}
 use Rattle.plain.proofs.resize.Tie as tie
 
@@ -24,8 +24,8 @@ unfolding rowBytes
 returns c =
     let a = c .before .before .before .before .before .args in
     let w = c .before .sound in
-    parts (sym (call-unsound rowBytes (plainForm rowBytes) (now (a .arena)) (now (a .room)) (resizes (a .handle) (a .n)) tt
-    (sym (w .ensures) ∙ not-true (w .result) (c .if1 .taken))))
+    sym (call-unsound rowBytes (plainForm rowBytes) (now (a .arena)) (now (a .room)) (resizes (a .handle) (a .n)) tt
+    (sym (w .ensures) ∙ not-true (w .result) (c .if1 .taken)))
 
 -- the tables are sound
 lent : (c : tie.Else1) → (let a = c .before .before .before .before .before .args in Checked rowBytes (plainForm rowBytes) (now (a .arena)) (now (a .room)))
@@ -78,7 +78,7 @@ unfolding rowBytes
 returns-2 c =
     let i = c .before .before .before .before .before .before in
     let a = i .before .before .before .before .before .args in
-    parts (sym (resize-too-large (lent i) (a .handle) (a .n) (tested (c .before) ∙ c .if2 .taken)))
+    sym (resize-too-large (lent i) (a .handle) (a .n) (tested (c .before) ∙ c .if2 .taken))
 
 judge-requires : tie.Need-judge-requires
 unfolding rowBytes
@@ -166,9 +166,9 @@ returns-4 c =
     let z = e .before .before .before .before .before .before in
     let a = z .before .before .before .before .before .args in
     let P = viewBy bySlots rowBytes (now (a .room)) in
-    parts (sym (resizing (lent z) (a .handle) (a .n) (tested (e .before) ∙ e .if2 .left)
+    sym (resizing (lent z) (a .handle) (a .n) (tested (e .before) ∙ e .if2 .left)
     ∙ called-refused (lent z) (a .handle) (resizeAt rowBytes P (a .n)) (resize-names rowBytes P (a .n)) (c .before .r .given .0 .0)
-    (sym (c .before .r .given .1) ∙ judging j)))
+    (sym (c .before .r .given .1) ∙ judging j))
 
 pub resize-spec : {M : Type 1} → statement M
 resize-spec =

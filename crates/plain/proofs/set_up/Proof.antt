@@ -5,7 +5,7 @@ use Rattle.classes.specs.Classes.{rowBytes}
 use Rattle.model.specs.Tables.{arenaRight, roomBytes}
 use Rattle.model.specs.Plain.{bySlots, plainForm}
 use Rattle.fresh.proofs.SetUp.{Fitting, fitting, set-up-refused, set-up-made, formatted}
-use Rattle.plain.proofs.Calls.{parts}
+use Rattle.frames.proofs.Calls.{whole}
 use Rattle.plain.proofs.set_up.Statement.{statement}
 use Rattle.plain.proofs.set_up.Tie as tie
 
@@ -13,14 +13,14 @@ returns : tie.Need-returns
 returns c =
     let a = c .before .before .before .before .args in
     let r = c .before .room-len in
-    parts (sym (set-up-refused rowBytes (plainForm rowBytes) (now (a .arena)) (now (a .room)) (now (a .room)) refl (λ h. sym (r .ensures) ∙ c .if1 .taken)))
+    sym (set-up-refused rowBytes (plainForm rowBytes) (now (a .arena)) (now (a .room)) (now (a .room)) refl (λ h. sym (r .ensures) ∙ c .if1 .taken))
 
 returns-2 : tie.Need-returns-2
 returns-2 c =
     let a = c .before .before .before .before .before .args in
     let r = c .before .before .room-len in
-    parts (sym (set-up-refused rowBytes (plainForm rowBytes) (now (a .arena)) (now (a .room)) (now (a .room)) refl
-    (λ h. absurd (c .if2 .taken (h ∙ sym (r .ensures))))))
+    sym (set-up-refused rowBytes (plainForm rowBytes) (now (a .arena)) (now (a .room)) (now (a .room)) refl
+    (λ h. absurd (c .if2 .taken (h ∙ sym (r .ensures)))))
 
 -- the room has the size that the arena asks for
 fit : (c : tie.Else2) → (let a = c .before .before .before .before .before .args in
@@ -48,13 +48,9 @@ returns-3 c =
     let z = w .before .before .before .before in
     let e = z .before .before in
     let a = e .before .before .before .before .before .args in
-    let p = parts (sym (set-up-made rowBytes (plainForm rowBytes) (now (a .arena)) (now (a .room)) (now (a .room)) refl (fit e))) in (
-      p .0,
-      (
-        z .fill-zero .ensures ∙ p .1 .0,
-        w .format .ensures ∙ formatted rowBytes (plainForm rowBytes) (now (a .arena)) (now (a .room)) (now (a .room)) refl bySlots (fit e) ∙ p .1 .1,
-      ),
-    )
+    whole refl (z .fill-zero .ensures)
+    (w .format .ensures ∙ formatted rowBytes (plainForm rowBytes) (now (a .arena)) (now (a .room)) (now (a .room)) refl bySlots (fit e))
+    ∙ sym (set-up-made rowBytes (plainForm rowBytes) (now (a .arena)) (now (a .room)) (now (a .room)) refl (fit e))
 
 pub set-up-spec : {M : Type 1} → statement M
 set-up-spec =

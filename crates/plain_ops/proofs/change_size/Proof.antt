@@ -6,7 +6,7 @@ use Rattle.model.specs.Answers.{done}
 use Rattle.model.specs.Plans.{resizeInPlace, resizeAt, inPlace}
 use Rattle.model.specs.Plain.{bySlots}
 use Rattle.rows.specs.Rows.{handleAt, Holds}
-use Rattle.plain_find.proofs.Opens.{by-slots}
+use Rattle.plain_tables.proofs.Opens.{by-slots}
 use Rattle.frames.specs.Blocks.{Standing, staysIn}
 use Rattle.frames.proofs.Places.{held-stands}
 use Rattle.plain_ops.proofs.change_size.Statement.{statement}

@@ -3,7 +3,7 @@ use Rattle.mem.proofs.Prelude.{_∙_, sym, now, needs, length}
 use Rattle.frames.specs.Blocks.{Standing}
 use Rattle.frames.proofs.Places.{held-stands}
 use Rattle.frames.proofs.Plans.{kept-writes, dropped-writes}
-use Rattle.plain_find.proofs.Opens.{by-slots}
+use Rattle.plain_tables.proofs.Opens.{by-slots}
 use Rattle.plain_ops.proofs.discard.Statement.{statement}
 use Rattle.plain_ops.proofs.discard.Tie as tie
 

@@ -5,7 +5,7 @@ use Rattle.model.specs.Tables.{viewBy}
 use Rattle.model.specs.Plain.{bySlots}
 use Rattle.frames.specs.Blocks.{Lies, judged, located}
 use Rattle.frames.proofs.Places.{found-lies, judged-looked}
-use Rattle.plain_find.proofs.Opens.{by-slots}
+use Rattle.plain_tables.proofs.Opens.{by-slots}
 use Rattle.plain_ops.proofs.locate.Statement.{statement}
 use Rattle.plain_ops.proofs.locate.Tie as tie
 

@@ -10,7 +10,7 @@ use Rattle.model.specs.Plain.{bySlots}
 use Rattle.rows.specs.Rows.{Lent, Offers}
 use Rattle.frames.specs.Blocks.{roomAfterBy}
 use Rattle.frames.proofs.Sites.{site-offers, reserved-nothing, reserved-at}
-use Rattle.plain_find.proofs.Opens.{by-slots}
+use Rattle.plain_tables.proofs.Opens.{by-slots}
 use Rattle.plain_ops.specs.declared.Reserved.the-variants.{Taken}
 use Rattle.plain_ops.specs.Reserves.{reservedAs}
 use Rattle.plain_ops.proofs.reserve_slot.Statement.{statement}

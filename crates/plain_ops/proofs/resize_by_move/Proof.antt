@@ -10,7 +10,7 @@ use Rattle.rows.specs.Rows.{Lent, blockOf, startAt, Holds}
 use Rattle.frames.specs.Blocks.{Standing, roomAfterBy}
 use Rattle.frames.proofs.Places.{held-stands}
 use Rattle.frames.proofs.Moves.{reserve-leaves, beside, beside-holds, copy-apart, taken-size, moved, moved-nowhere}
-use Rattle.plain_find.proofs.Opens.{by-slots}
+use Rattle.plain_tables.proofs.Opens.{by-slots}
 use Rattle.plain_ops.proofs.Reserves.{reserved-place, reserved-none}
 use Rattle.plain_ops.proofs.resize_by_move.Statement.{statement}
 use Rattle.plain_ops.proofs.resize_by_move.Tie as tie

@@ -2,7 +2,7 @@
 use Rattle.mem.proofs.Prelude.{_∙_, ap, arith, now, needs, length}
 use Rattle.model.specs.Tables.{encodeBy}
 use Rattle.model.specs.Plain.{bySlots}
-use Rattle.plain_find.proofs.Opens.{by-slots}
+use Rattle.plain_tables.proofs.Opens.{by-slots}
 use Rattle.frames.specs.Blocks.{Standing}
 use Rattle.frames.proofs.Places.{held-stands}
 use Rattle.frames.proofs.Plans.{stays-fits, in-place-writes, in-place-pool}

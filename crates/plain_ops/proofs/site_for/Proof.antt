@@ -6,7 +6,7 @@ use Rattle.model.specs.Plain.{bySlots}
 use Rattle.rows.specs.declared.Found.the-variants.{At, Nothing}
 use Rattle.rows.specs.Rows.{Lent, siteFound}
 use Rattle.frames.proofs.Sites.{site-open, site-none, run-inside, site-made}
-use Rattle.plain_find.proofs.Opens.{by-slots}
+use Rattle.plain_tables.proofs.Opens.{by-slots}
 use Rattle.plain_ops.proofs.site_for.Statement.{statement}
 use Rattle.plain_ops.proofs.site_for.Tie as tie
 

@@ -2,7 +2,7 @@
 use Rattle.mem.proofs.Prelude.{_∙_, sym, subst, and-true, _*_, _-_, arith, needs, leb, lt-ltb}
 use Rattle.classes.specs.Classes.{slotBytes}
 use Rattle.model.specs.State.{slotSound}
-use Rattle.slots.specs.Slots.{Small}
+use Rattle.plain_slots.specs.Slots.{Small}
 use Rattle.plain_sound.proofs.slot_sound.Statement.{statement}
 use Rattle.plain_sound.proofs.slot_sound.Tie as tie
 

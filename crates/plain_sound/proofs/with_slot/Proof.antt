@@ -1,6 +1,6 @@
 -- `with_slot` meets its contract, by what the slot is.
 use Rattle.mem.proofs.Prelude.{_∙_, subst, add-zero, arith, needs}
-use Rattle.slots.specs.Slots.{Small}
+use Rattle.plain_slots.specs.Slots.{Small}
 use Rattle.plain_sound.proofs.with_slot.Statement.{statement}
 use Rattle.plain_sound.proofs.with_slot.Tie as tie
 

@@ -1,3 +1,0 @@
-pub mod Walks
-pub mod Opens
-pub mod Blocks

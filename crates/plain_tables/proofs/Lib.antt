@@ -1,0 +1,5 @@
+pub mod Walks
+pub mod Opens
+pub mod Blocks
+pub mod Groups
+pub mod Changes
