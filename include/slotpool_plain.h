@@ -1,9 +1,10 @@
 /* The second engine of the slot pool: a plain record for each slot in the tables, and no record of the totals beside them.
  *
  * The calls of slotpool.h, but without `totals`: from a set up that is done, each pool with its own room, the same calls and the same
- * stores to the arena get the same answers and leave the same bytes of the arena. Only the bytes of the tables differ, so a room belongs to
- * the engine that set it up. Numbers, handles, what the caller owes and what a refusal keeps are as in slotpool.h; the check of a proposal
- * and the planner, which take no pool, are there.
+ * stores to the arena get the same answers and leave the same bytes of the arena. Only the bytes of the tables differ, and nothing in a room
+ * says whose it is: a room belongs to the engine that set it up, and a call of the other on it answers 2 or goes by what it reads there.
+ * Numbers, handles, what the caller owes and what a refusal keeps are as in slotpool.h; the check of a proposal and the planner, which take
+ * no pool, are there. A program that uses both engines links both archives.
  */
 #ifndef SLOTPOOL_PLAIN_H
 #define SLOTPOOL_PLAIN_H

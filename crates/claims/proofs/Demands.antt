@@ -10,7 +10,7 @@ use Rattle.model.proofs.Bench.{bench}
 use Rattle.model.proofs.PlainBench.{plain-bench}
 use Rattle.trace.proofs.Sheet.{lines-due}
 use Rattle.trace.proofs.Written.{reads-back, writes-back}
-use Rattle.claims.specs.Demands.{Meets, Demands}
+use Rattle.claims.specs.Demands.{MeetsDemands, Demands}
 use Rattle.claims.proofs.Tables.{tables, plain-tables}
 use Rattle.claims.proofs.Bench.{too-large-anywhere}
 use Rattle.claims.proofs.Demand1.{demand1}
@@ -32,8 +32,8 @@ use Rattle.claims.proofs.Alike.{two-engines, stores-anywhere}
 use Rattle.claims.proofs.Traces.{lines-modelled, stores-steer-nothing, replay-steers-nothing}
 
 -- an engine whose tables have a lawful form meets the demands
-pub meets : (row : ℕ) → 0 < row → (F : Form) → FormLaws row F → Meets row F
-meets row pos F L = record {
+pub meets-demands : (row : ℕ) → 0 < row → (F : Form) → FormLaws row F → MeetsDemands row F
+meets-demands row pos F L = record {
   demand1 = demand1 row pos F L;
   releases-exactly = releases-exactly row pos F L;
   measures-exactly = measures-exactly row pos F L;
@@ -65,8 +65,8 @@ meets row pos F L = record {
 
 pub demands : Demands rowBytes
 demands = record {
-  first-engine = meets rowBytes card-some (engine rowBytes) (engine-lawful rowBytes card-some);
-  second-engine = meets rowBytes card-some (plainForm rowBytes) (plain-lawful rowBytes card-some);
+  first-engine = meets-demands rowBytes card-some (engine rowBytes) (engine-lawful rowBytes card-some);
+  second-engine = meets-demands rowBytes card-some (plainForm rowBytes) (plain-lawful rowBytes card-some);
   two-engines = two-engines rowBytes card-some;
   stores-anywhere = stores-anywhere;
   room-follows = room-follows rowBytes (engine rowBytes) (λ t. t .tables) (λ n t. refl);

@@ -1,5 +1,5 @@
--- Two forms of the tables: from an accepted set up over arenas of one length, each lent its own room as its last call left it, for every
--- sequence of calls with any arena stores between, the same in both, they give equal answers and equal arena bytes.
+-- Two forms of the tables, 02 §8: "From an accepted set up over arenas of one length, each lent its own room (the first engine also §4's record) as its
+-- last call left it, for every sequence of calls with any arena stores between, the same in both, they give equal answers and equal arena bytes."
 use Prim.Native.Nat.{ℕ}
 use mathlib.Core.Path.{_≡_}
 use mathlib.Core.List.{List, [], _∷_}

@@ -16,8 +16,7 @@ use Rattle.claims.specs.Tables.{TableForm}
 use Rattle.claims.specs.Bench.{TooLargeAnywhere}
 use Rattle.claims.specs.Demand1.{Demand1}
 use Rattle.claims.specs.Demand2.{ReleasesExactly, MeasuresExactly, GrantsExactly, AlignedExactly, GrantsAsSaid, AlignedAsSaid, AlignedOrdinary}
-use Rattle.claims.specs.Demand2.{NeverShared}
-use Rattle.claims.specs.Demand2.{LeavesSound}
+use Rattle.claims.specs.Demand2.{NeverShared, LeavesSound}
 use Rattle.claims.specs.AsSaid.{ServesOrdinary, NeverAtZero, GuardsAsSaid, SetsUpAsSaid, ReadsOnly, ReportsAsSaid, ReleasesAsSaid, ResizesAsSaid}
 use Rattle.claims.specs.Alignment.{OnBoundaries, ResizesKeepAlignment, OthersStay}
 use Rattle.claims.specs.Stale.{StartsCleared, CountsStep, StaleRefused}
@@ -29,7 +28,7 @@ use Rattle.claims.specs.Alike.{TwoEngines, StoresAnywhere}
 use Rattle.claims.specs.Traces.{LinesModelled, StoresSteerNothing, ReplaySteersNothing}
 
 -- what is claimed of an engine, by the form of its tables: the three demands
-pub record Meets (row : ℕ) (F : Form) : Type 0 where
+pub record MeetsDemands (row : ℕ) (F : Form) : Type 0 where
   -- 1: every call ends with the first answer due, and a refusal changes nothing
   pub demand1 : Demand1 row F
   -- 2: every call does what document 01 says
@@ -67,8 +66,8 @@ pub record Meets (row : ℕ) (F : Form) : Type 0 where
 
 pub record Demands (row : ℕ) : Type 0 where
   -- THE THREE DEMANDS, of both engines
-  pub first-engine : Meets row (engine row)
-  pub second-engine : Meets row (plainForm row)
+  pub first-engine : MeetsDemands row (engine row)
+  pub second-engine : MeetsDemands row (plainForm row)
   -- 02 §8: the same answers and the same arena bytes from both, whatever is called, and whatever is stored in the arena between
   pub two-engines : TwoEngines row
   pub stores-anywhere : StoresAnywhere
