@@ -1,14 +1,14 @@
 //! Nanoseconds per call, of the library and of the second implementation with its own full check of the tables, over arenas of four
 //! sizes, empty, half full and nearly full; of the soundness check alone, dense and sparse, with ordinary and with aligned blocks; of aligned
-//! grants beside ordinary ones; of grants that do little but find a class; of the grants of a list beside its list call; and records per
-//! second, of the replay program and of the second implementation's replay.
+//! grants beside ordinary ones; of grants that do little but find a class; of the grants of a list beside its list call; of the plain engine beside
+//! the first; and records per second, of the replay program and of the second implementation's replay.
 //! Each figure is the median of several runs, with the least and the most.
 
 #[path = "../tests/program/mod.rs"]
 mod program;
 
 use slotpool::trace::{self, Op};
-use slotpool::{room_len, Handle, Pool, Refusal, Totals, ENTRIES};
+use slotpool::{room_len, Handle, PlainPool, Pool, Refusal, Totals, ENTRIES};
 use slotpool_reference::{replay, start_of, Reference, Tables, ORDINARY};
 use std::hash::{BuildHasher, BuildHasherDefault, DefaultHasher};
 use std::hint::black_box;
@@ -197,20 +197,30 @@ impl Kept {
         Kept { state: (arena.clone(), room.clone(), totals), arena, room, totals }
     }
 
+    /// The same with the plain engine's tables.
+    fn plain(&self) -> Kept {
+        let tables = Tables::read(self.arena.len(), &self.room, &self.totals).expect("sound tables");
+        let room = tables.write_plain();
+        Kept { state: (self.arena.clone(), room.clone(), self.totals), room, ..self.clone() }
+    }
+
     fn pool(&mut self) -> Pool<'_> {
         Pool::over(&mut self.arena, &mut self.room, &mut self.totals)
     }
 
+    fn plain_pool(&mut self) -> PlainPool<'_> {
+        PlainPool::over(&mut self.arena, &mut self.room)
+    }
+
     /// Nanoseconds per turn of one run. That the bytes are copied back before each turn is not timed.
-    fn run<T>(&mut self, turns: usize, mut turn: impl FnMut(&mut Pool) -> T) -> f64 {
+    fn run<T>(&mut self, turns: usize, mut turn: impl FnMut(&mut Kept) -> T) -> f64 {
         let mut spent = Duration::ZERO;
         for _ in 0..turns {
             self.arena.copy_from_slice(&self.state.0);
             self.room.copy_from_slice(&self.state.1);
             self.totals = self.state.2;
-            let mut pool = self.pool();
             let begun = Instant::now();
-            black_box(turn(&mut pool));
+            black_box(turn(self));
             spent += begun.elapsed();
         }
         spent.as_nanos() as f64 / turns as f64
@@ -244,9 +254,11 @@ fn half_at_random(blocks: &[Handle]) -> Vec<Handle> {
 const STATES: [(&str, Released); 3] =
     [("empty", all), ("half full", |blocks| spread(blocks, blocks.len() / 2)), ("nearly full", |blocks| spread(blocks, ENTRIES))];
 
-/// A list call under the largest cap.
-fn list_call(pool: &mut Pool, sizes: &[usize; ENTRIES]) -> Result<usize, Refusal> {
-    pool.grant_list(sizes.iter().sum(), 131_051, black_box(sizes), black_box(&mut [Handle::default(); ENTRIES]))
+/// A list call under the largest cap, of either engine.
+macro_rules! list_call {
+    ($pool:expr, $sizes:expr) => {
+        $pool.grant_list($sizes.iter().sum(), 131_051, black_box(&$sizes), black_box(&mut [Handle::default(); ENTRIES]))
+    };
 }
 
 /// Times 17 grants of one size beside a list call of the same, and a list call that is refused at its last entry.
@@ -263,16 +275,16 @@ fn lists() {
             short[ENTRIES - 1] = 131_051;
             let mut one = Kept::with_room(1024 * kib, size, released);
             let mut other = one.clone();
-            if list_call(&mut one.pool(), &sizes).is_err() {
+            if list_call!(one.pool(), sizes).is_err() {
                 println!("{name:<36} no room for 17");
                 continue;
             }
             let turns = 4000 / kib + 40;
             let (grants, list, ratio) = runs_beside(
-                || one.run(turns, |pool| sizes.map(|n| pool.grant(black_box(n)).unwrap())),
-                || other.run(turns, |pool| list_call(pool, &sizes).unwrap()),
+                || one.run(turns, |kept| sizes.map(|n| kept.pool().grant(black_box(n)).unwrap())),
+                || other.run(turns, |kept| list_call!(kept.pool(), sizes).unwrap()),
             );
-            let refused = sorted((0..RUNS).map(|_| other.run(turns, |pool| list_call(pool, &short).unwrap_err())).collect());
+            let refused = sorted((0..RUNS).map(|_| other.run(turns, |kept| list_call!(kept.pool(), short).unwrap_err())).collect());
             println!("{name:<36} {:>26} {:>26} {:>20} {:>26}", show(&grants), show(&list), show_ratio(&ratio), show(&refused));
         }
     }
@@ -382,6 +394,48 @@ fn aligned() {
     }
 }
 
+/// A grant of 160 bytes with its release, of either engine.
+macro_rules! grant_and_release {
+    ($pool:expr) => {{
+        let block = $pool.grant(black_box(160)).unwrap();
+        $pool.release(black_box(block)).unwrap();
+    }};
+}
+
+/// Times the plain engine beside the first, over the same pools in each one's tables.
+fn plain() {
+    println!("\nthe plain engine beside the first: grant and release of 160 bytes, the soundness check alone (a measure of handle 1, answer 4), a");
+    println!("report, which the plain engine counts, and a list call of 17 blocks of 160 bytes. The pools are those of the lists, of that size");
+    println!("{:<44} {:>26} {:>26} {:>20}", "arena, call", "plain", "first", "ratio of a run");
+    for kib in [4, 16, 64, 256] {
+        for (state, released) in STATES {
+            let name = |call: &str| format!("{kib} KiB, {state}, {call}");
+            let line = |call: &str, (plain, first, ratio): (Time, Time, Time)| {
+                println!("{:<44} {:>26} {:>26} {:>20}", name(call), show(&plain), show(&first), show_ratio(&ratio));
+            };
+            let mut first = Kept::with_room(1024 * kib, 160, released);
+            let mut plain = first.plain();
+            let mut copies = (plain.clone(), first.clone());
+            let (mut one, mut other) = (copies.0.plain_pool(), copies.1.pool());
+            let turns = 40_000 / kib + 200;
+            line("grant and release", time_beside(turns, || grant_and_release!(one), || grant_and_release!(other)));
+            let none = black_box(Handle::from_raw(1));
+            line("check", time_beside(turns, || assert!(one.measure(none).is_err()), || assert!(other.measure(none).is_err())));
+            line("report", time_beside(turns, || assert!(one.report().is_ok()), || assert!(other.report().is_ok())));
+            let (sizes, turns) = ([160; ENTRIES], 4000 / kib + 40);
+            if list_call!(one, sizes).is_err() {
+                println!("{:<44} no room", name("list of 17"));
+                continue;
+            }
+            let list = runs_beside(
+                || plain.run(turns, |kept| list_call!(kept.plain_pool(), sizes).unwrap()),
+                || first.run(turns, |kept| list_call!(kept.pool(), sizes).unwrap()),
+            );
+            line("list of 17", list);
+        }
+    }
+}
+
 fn main() {
     println!("nanoseconds per call: median of {RUNS} runs (least to most)");
     println!("{:<22} {:>26} {:>26} {:>26} {:>26}", "arena", "grant and release", "second, with full check", "measure", "second, with full check");
@@ -404,10 +458,7 @@ fn main() {
                 pool.release(Handle::from_raw(h)).unwrap();
                 second.release(h).unwrap();
             }
-            let first = time(turns, || {
-                let h = pool.grant(black_box(160)).unwrap();
-                pool.release(black_box(h)).unwrap();
-            });
+            let first = time(turns, || grant_and_release!(pool));
             // the second implementation checks the tables as they are before each call
             let before = lent(&second);
             let h = second.grant(160).unwrap();
@@ -450,5 +501,6 @@ fn main() {
     aligned();
     classes();
     lists();
+    plain();
     replays();
 }

@@ -1,5 +1,5 @@
 //! A safe interface of the slot pool: blocks of a lent arena of bytes, with the tables in a lent room of their own and their totals in a
-//! lent record.
+//! lent record. [`PlainPool`] is the same by a second engine, without the record.
 //!
 //! ```
 //! let mut arena = vec![0; 16_384];
@@ -122,48 +122,58 @@ impl Handle {
 }
 
 mod sys {
-    use super::{Handle, Totals};
-
-    /// Declares calls on a pool, which all begin with what it is lent, to be changed or only read.
+    /// Declares a call on a pool. It begins with what the pool is lent, to be changed or only read: arena, room and, if there is one, the record.
     macro_rules! on_pool {
-        ($access:tt: $($name:ident($($argument:ident: $type:ty),*);)*) => {
+        ($prefix:literal [$($record:ident)?] $access:tt $name:ident($($argument:ident: $type:ty),*)) => {
             extern "C" {
-                $(pub fn $name(
+                #[link_name = concat!($prefix, stringify!($name))]
+                pub fn $name(
                     arena: *$access u8,
                     arena_len: usize,
                     room: *$access u8,
                     room_len: usize,
-                    totals: *$access Totals,
+                    $(totals: *$access $record,)?
                     $($argument: $type),*
-                ) -> u32;)*
+                ) -> u32;
             }
         };
     }
 
-    on_pool! { mut:
-        slotpool_set_up();
-        slotpool_grant(n: usize, value: *mut Handle);
-        slotpool_grant_aligned(n: usize, align: usize, value: *mut Handle);
-        slotpool_release(handle: Handle);
-        slotpool_resize(handle: Handle, n: usize, value: *mut Handle);
-        slotpool_grant_list(
-            length: usize,
-            cap: usize,
-            sizes: *const usize,
-            sizes_len: usize,
-            handles: *mut Handle,
-            handles_len: usize,
-            value: *mut usize
-        );
+    /// Declares the calls of an engine, whose C names begin with a prefix.
+    macro_rules! engine {
+        ($engine:ident, $prefix:literal, $record:tt) => {
+            pub mod $engine {
+                use crate::{Handle, Totals};
+
+                on_pool!($prefix $record mut set_up());
+                on_pool!($prefix $record mut grant(n: usize, value: *mut Handle));
+                on_pool!($prefix $record mut grant_aligned(n: usize, align: usize, value: *mut Handle));
+                on_pool!($prefix $record mut release(handle: Handle));
+                on_pool!($prefix $record mut resize(handle: Handle, n: usize, value: *mut Handle));
+                on_pool!($prefix $record const measure(handle: Handle, value: *mut usize));
+                on_pool!($prefix $record const report(out: *mut Totals));
+                on_pool!($prefix $record mut grant_list(
+                    length: usize,
+                    cap: usize,
+                    sizes: *const usize,
+                    sizes_len: usize,
+                    handles: *mut Handle,
+                    handles_len: usize,
+                    value: *mut usize
+                ));
+
+                extern "C" {
+                    #[link_name = concat!($prefix, "room_len")]
+                    pub fn room_len(arena_len: usize) -> usize;
+                }
+            }
+        };
     }
 
-    on_pool! { const:
-        slotpool_measure(handle: Handle, value: *mut usize);
-        slotpool_report(out: *mut Totals);
-    }
+    engine!(masks, "slotpool_", [Totals]);
+    engine!(plain, "slotpool_plain_", []);
 
     extern "C" {
-        pub fn slotpool_room_len(arena_len: usize) -> usize;
         pub fn slotpool_check_list(length: usize, cap: usize, sizes: *const usize, sizes_len: usize) -> u32;
         pub fn slotpool_plan_list(length: usize, cap: usize, sizes: *mut usize, value: *mut usize) -> u32;
     }
@@ -171,14 +181,14 @@ mod sys {
 
 /// Makes a call on a pool with what it is lent, to be changed or only read, and with further arguments: the answer's number.
 macro_rules! call {
-    ($access:tt $pool:ident.$name:ident($($argument:expr),*)) => {
+    ($access:tt $pool:ident[$($record:ident)?] $engine:ident::$name:ident($($argument:expr),*)) => {
         unsafe {
-            sys::$name(
+            sys::$engine::$name(
                 (&raw $access *$pool.arena).cast(),
                 $pool.arena.len(),
                 (&raw $access *$pool.room).cast(),
                 $pool.room.len(),
-                &raw $access *$pool.totals,
+                $(&raw $access *$pool.$record,)?
                 $($argument),*
             )
         }
@@ -187,7 +197,7 @@ macro_rules! call {
 
 /// The exact size of the table room for an arena, or 0 where the arena's length is outside the rule.
 pub fn room_len(arena_len: usize) -> usize {
-    unsafe { sys::slotpool_room_len(arena_len) }
+    unsafe { sys::masks::room_len(arena_len) }
 }
 
 fn answer<T>(number: u32, value: T) -> Result<T, Refusal> {
@@ -215,6 +225,89 @@ pub fn plan_list(length: usize, cap: usize, sizes: &mut [usize; ENTRIES]) -> Res
     answer(number, value)
 }
 
+/// Writes the calls that the pools of both engines have; in brackets the field of the record, for the one that is lent it.
+macro_rules! calls {
+    ($pool:ident, $engine:ident, $record:tt, $report:literal) => {
+        impl $pool<'_> {
+            /// Grants a block of `n` zero bytes.
+            pub fn grant(&mut self, n: usize) -> Result<Handle, Refusal> {
+                let mut value = Handle::default();
+                let number = call!(mut self $record $engine::grant(n, &mut value));
+                answer(number, value)
+            }
+
+            /// Grants a block of `n` zero bytes that starts at a multiple of `align`, a power of two from 1 to 4,096. Up to 16 this is
+            /// [`Self::grant`]; from 32 on the block takes the slot of one of `n + align - 16` bytes, and keeps the alignment when it is
+            /// resized. Refused with [`Refusal::BadAlignment`] for any other `align`.
+            pub fn grant_aligned(&mut self, n: usize, align: usize) -> Result<Handle, Refusal> {
+                let mut value = Handle::default();
+                let number = call!(mut self $record $engine::grant_aligned(n, align, &mut value));
+                answer(number, value)
+            }
+
+            /// Grants the sizes of a proposal in order, all of them or none. Writes the handles of the blocks to the front of `handles`,
+            /// keeps its later places, and gives the number of entries. Refused with [`Refusal::TooLong`] where [`plan_list`] is, or if
+            /// `handles` has fewer than [`ENTRIES`] places; with [`Refusal::BadProposal`] if [`check_list`] says no; with
+            /// [`Refusal::NoRoom`] if one of the grants would be.
+            pub fn grant_list(&mut self, length: usize, cap: usize, sizes: &[usize], handles: &mut [Handle]) -> Result<usize, Refusal> {
+                let mut value = 0;
+                let number = call!(mut self $record $engine::grant_list(
+                    length,
+                    cap,
+                    sizes.as_ptr(),
+                    sizes.len(),
+                    handles.as_mut_ptr(),
+                    handles.len(),
+                    &mut value
+                ));
+                answer(number, value)
+            }
+
+            /// Takes a block back.
+            pub fn release(&mut self, handle: Handle) -> Result<(), Refusal> {
+                answer(call!(mut self $record $engine::release(handle)), ())
+            }
+
+            /// Gives a block another size, and gives its handle from then on, the same if it stays where it is. An aligned block stays
+            /// aligned.
+            pub fn resize(&mut self, handle: Handle, n: usize) -> Result<Handle, Refusal> {
+                let mut value = Handle::default();
+                let number = call!(mut self $record $engine::resize(handle, n, &mut value));
+                answer(number, value)
+            }
+
+            /// The size of a block.
+            pub fn measure(&self, handle: Handle) -> Result<usize, Refusal> {
+                let mut value = 0;
+                let number = call!(const self $record $engine::measure(handle, &mut value));
+                answer(number, value)
+            }
+
+            #[doc = $report]
+            pub fn report(&self) -> Result<Totals, Refusal> {
+                let mut out = Totals::default();
+                let number = call!(const self $record $engine::report(&mut out));
+                answer(number, out)
+            }
+
+            /// The arena, for reading.
+            pub fn arena(&self) -> &[u8] {
+                self.arena
+            }
+
+            /// The arena, for writing packets into granted blocks.
+            pub fn arena_mut(&mut self) -> &mut [u8] {
+                self.arena
+            }
+
+            /// The tables, for keeping or looking at them.
+            pub fn room(&self) -> &[u8] {
+                self.room
+            }
+        }
+    };
+}
+
 /// A pool over a lent arena, a lent table room and a lent record of its totals.
 pub struct Pool<'a> {
     arena: &'a mut [u8],
@@ -226,7 +319,7 @@ impl<'a> Pool<'a> {
     /// Makes a pool with no blocks. The room must have [`room_len`] bytes; the record is written, whatever stands in it.
     pub fn set_up(arena: &'a mut [u8], room: &'a mut [u8], totals: &'a mut Totals) -> Result<Pool<'a>, Refusal> {
         let pool = Pool { arena, room, totals };
-        answer(call!(mut pool.slotpool_set_up()), pool)
+        answer(call!(mut pool[totals] masks::set_up()), pool)
     }
 
     /// A pool over buffers and a record that hold one already, or hold anything: every call checks them.
@@ -234,83 +327,61 @@ impl<'a> Pool<'a> {
         Pool { arena, room, totals }
     }
 
-    /// Grants a block of `n` zero bytes.
-    pub fn grant(&mut self, n: usize) -> Result<Handle, Refusal> {
-        let mut value = Handle::default();
-        let number = call!(mut self.slotpool_grant(n, &mut value));
-        answer(number, value)
-    }
-
-    /// Grants a block of `n` zero bytes that starts at a multiple of `align`, a power of two from 1 to 4,096. Up to 16 this is
-    /// [`Pool::grant`]; from 32 on the block takes the slot of one of `n + align - 16` bytes, and keeps the alignment when it is resized.
-    /// Refused with [`Refusal::BadAlignment`] for any other `align`.
-    pub fn grant_aligned(&mut self, n: usize, align: usize) -> Result<Handle, Refusal> {
-        let mut value = Handle::default();
-        let number = call!(mut self.slotpool_grant_aligned(n, align, &mut value));
-        answer(number, value)
-    }
-
-    /// Grants the sizes of a proposal in order, all of them or none. Writes the handles of the blocks to the front of `handles`, keeps its
-    /// later places, and gives the number of entries. Refused with [`Refusal::TooLong`] where [`plan_list`] is, or if `handles` has fewer
-    /// than [`ENTRIES`] places; with [`Refusal::BadProposal`] if [`check_list`] says no; with [`Refusal::NoRoom`] if one of the grants
-    /// would be.
-    pub fn grant_list(&mut self, length: usize, cap: usize, sizes: &[usize], handles: &mut [Handle]) -> Result<usize, Refusal> {
-        let mut value = 0;
-        let number = call!(mut self.slotpool_grant_list(
-            length,
-            cap,
-            sizes.as_ptr(),
-            sizes.len(),
-            handles.as_mut_ptr(),
-            handles.len(),
-            &mut value
-        ));
-        answer(number, value)
-    }
-
-    /// Takes a block back.
-    pub fn release(&mut self, handle: Handle) -> Result<(), Refusal> {
-        answer(call!(mut self.slotpool_release(handle)), ())
-    }
-
-    /// Gives a block another size, and gives its handle from then on, the same if it stays where it is. An aligned block stays aligned.
-    pub fn resize(&mut self, handle: Handle, n: usize) -> Result<Handle, Refusal> {
-        let mut value = Handle::default();
-        let number = call!(mut self.slotpool_resize(handle, n, &mut value));
-        answer(number, value)
-    }
-
-    /// The size of a block.
-    pub fn measure(&self, handle: Handle) -> Result<usize, Refusal> {
-        let mut value = 0;
-        let number = call!(const self.slotpool_measure(handle, &mut value));
-        answer(number, value)
-    }
-
-    /// The totals of the pool: the record, if it and the tables are sound.
-    pub fn report(&self) -> Result<Totals, Refusal> {
-        let mut out = Totals::default();
-        let number = call!(const self.slotpool_report(&mut out));
-        answer(number, out)
-    }
-
-    /// The arena, for reading.
-    pub fn arena(&self) -> &[u8] {
-        self.arena
-    }
-
-    /// The arena, for writing packets into granted blocks.
-    pub fn arena_mut(&mut self) -> &mut [u8] {
-        self.arena
-    }
-
-    /// The tables, for keeping or looking at them.
-    pub fn room(&self) -> &[u8] {
-        self.room
-    }
-
     /// The record of the totals as it stands, to be kept with the tables; [`Pool::report`] checks it first.
     pub fn totals(&self) -> &Totals {
         self.totals
     }
 }
+
+calls!(Pool, masks, [totals], "The totals of the pool: the record, if it and the tables are sound.");
+
+/// A pool of the second engine, over a lent arena and a lent table room: a plain record for each slot in the tables, and no record of the
+/// totals beside them.
+///
+/// From a set up that is done, the same calls and the same stores to the arena get the answers that a [`Pool`] gives, and leave the bytes
+/// of the arena that it leaves. Only the bytes of the tables differ, so a room belongs to the engine that set it up.
+///
+/// ```
+/// use slotpool::{PlainPool, Pool, Refusal, Totals};
+///
+/// let (mut arena, mut room, mut totals) = (vec![0; 4096], vec![0; slotpool::room_len(4096)], Totals::default());
+/// let mut pool = Pool::set_up(&mut arena, &mut room, &mut totals).unwrap();
+///
+/// // a monitor beside it, with an arena and a room of its own
+/// let (mut copy, mut tables) = (vec![0; 4096], vec![0; PlainPool::room_len(4096)]);
+/// let mut monitor = PlainPool::set_up(&mut copy, &mut tables).unwrap();
+///
+/// let block = pool.grant(160).unwrap();
+/// assert_eq!(monitor.grant(160), Ok(block));
+/// for arena in [pool.arena_mut(), monitor.arena_mut()] {
+///     arena[block.start() + 160] = 1; // one byte too many
+/// }
+/// assert_eq!(pool.release(block), Err(Refusal::Overrun));
+/// assert_eq!(monitor.release(block), Err(Refusal::Overrun));
+/// assert_eq!(monitor.report(), pool.report());
+/// assert!(monitor.arena() == pool.arena());
+/// ```
+pub struct PlainPool<'a> {
+    arena: &'a mut [u8],
+    room: &'a mut [u8],
+}
+
+impl<'a> PlainPool<'a> {
+    /// The exact size of the table room for an arena, or 0 where the arena's length is outside the rule.
+    pub fn room_len(arena_len: usize) -> usize {
+        unsafe { sys::plain::room_len(arena_len) }
+    }
+
+    /// Makes a pool with no blocks. The room must have [`PlainPool::room_len`] bytes.
+    pub fn set_up(arena: &'a mut [u8], room: &'a mut [u8]) -> Result<PlainPool<'a>, Refusal> {
+        let pool = PlainPool { arena, room };
+        answer(call!(mut pool[] plain::set_up()), pool)
+    }
+
+    /// A pool over buffers that hold one already, or hold anything: every call checks them.
+    pub fn over(arena: &'a mut [u8], room: &'a mut [u8]) -> PlainPool<'a> {
+        PlainPool { arena, room }
+    }
+}
+
+calls!(PlainPool, plain, [], "The totals of the pool, counted, if the tables are sound.");

@@ -5,15 +5,17 @@ mod any;
 mod common;
 mod due;
 mod forged;
+mod places;
 mod random;
 mod sample;
 
-use any::{calls_on, over_any, refused, set_up_over};
+use any::{calls_on, over_any, refused, set_up_over, Judged};
 use common::Answer::{Done, Refused, Value};
 use common::Call::{self, Grant, GrantAligned, Measure, Release, Resize, Store};
-use common::{lent, Both, Buffers};
+use common::{Both, Buffers};
 use due::due;
-use forged::saying;
+use forged::over_each;
+use places::{marked, places, with_slot, Place};
 use random::{all_seen, kind, next_call, Numbers, Seen, UNDAMAGED};
 use sample::{no_store, sample, OLD};
 use slotpool::Refusal::{AlreadyFree, BadAlignment, HeaderDamaged, NoRoom, NoSuchBlock, Overrun, Stale, TooLarge, Unsound};
@@ -25,45 +27,6 @@ const SMALL: [usize; 5] = [1, 2, 4, 8, 16];
 /// Alignments that set the start.
 fn large() -> impl Iterator<Item = usize> {
     ALIGNMENTS.into_iter().filter(|&align| align > ORDINARY)
-}
-
-/// A slot, with the place of its group in the tables, its number there, where it begins, and its class.
-struct Place {
-    group: usize,
-    number: usize,
-    begin: usize,
-    class: usize,
-    slot: Slot,
-}
-
-impl Place {
-    fn start(&self) -> usize {
-        self.begin + 16 * self.slot.last.unwrap_or(0)
-    }
-
-    fn handle(&self) -> usize {
-        self.slot.handle(self.start())
-    }
-
-    fn end(&self) -> usize {
-        self.begin + slot_bytes(self.class) - 4
-    }
-
-    fn is_live(&self) -> bool {
-        self.slot.state == State::Live
-    }
-}
-
-/// Every slot of some groups.
-fn places(groups: &[Group]) -> Vec<Place> {
-    let mut places = Vec::new();
-    for (group, g) in groups.iter().enumerate() {
-        for (number, &slot) in g.slots.iter().enumerate() {
-            let begin = 512 * g.first_row + 16 + number * slot_bytes(g.class);
-            places.push(Place { group, number, begin, class: g.class, slot });
-        }
-    }
-    places
 }
 
 /// The live block of a handle.
@@ -84,12 +47,13 @@ fn up_to_16_a_grant_is_an_ordinary_one() {
         let edges = (0..48).flat_map(|class| [slot_bytes(class) - 4, slot_bytes(class) - 3]);
         let like = both.second.live().into_iter().map(|(_, n)| n);
         for n in like.chain(edges).chain([0, TOO_LARGE, usize::MAX]) {
-            let mut ordinary = Both::over(&both.first, both.second.clone());
+            let mut ordinary = both.clone();
             let answer = ordinary.call(Grant(n)).unwrap();
             for align in SMALL {
-                let mut aligned = both.first.clone();
-                assert_eq!(aligned.call(&mut lent(), GrantAligned(n, align)), answer, "{n} bytes at a multiple of {align}");
-                assert!(aligned == ordinary.first, "{n} bytes at a multiple of {align}: not the state after a grant");
+                let mut aligned = both.clone();
+                due(&mut aligned, [(GrantAligned(n, align), answer)]);
+                let same = aligned.first == ordinary.first && aligned.plain == ordinary.plain;
+                assert!(same, "{n} bytes at a multiple of {align}: not the state after a grant");
             }
             if let Value(handle) = answer {
                 displaced[usize::from(start_of(handle) > live_at(&ordinary.second, handle).unwrap().begin)] += 1;
@@ -104,7 +68,8 @@ fn up_to_16_a_grant_is_an_ordinary_one() {
 fn what_is_no_alignment() {
     let both = &mut Both::new(2048, OLD);
     due(both, [(GrantAligned(28, 32), Value(32)), (Grant(12), Value(1552))]);
-    let unsound = Buffers { room: vec![0; both.first.room.len()], ..both.first.clone() };
+    let zeros = vec![0; both.first.room.len()];
+    let unsound = (Buffers { room: zeros.clone(), ..both.first.clone() }, Buffers { room: zeros, ..both.plain.clone() });
     let near = (0..usize::BITS).map(|k| 1 << k).flat_map(|power: usize| [power - 1, power, power + 1, power | power >> 1]);
     for align in (0..=9000).chain(near).chain([usize::MAX, usize::MAX - 4095]) {
         let is_one = SMALL.contains(&align) || large().any(|large| large == align);
@@ -113,7 +78,8 @@ fn what_is_no_alignment() {
             if !is_one {
                 due(both, [(call, Refused(BadAlignment))]);
             }
-            refused(&unsound, call, Unsound, format_args!("unsound tables"));
+            refused(&unsound.0, call, Unsound, format_args!("unsound tables"));
+            refused(&unsound.1, call, Unsound, format_args!("unsound tables"));
         }
     }
 }
@@ -264,27 +230,9 @@ fn calls_about((handle, n): (usize, usize)) -> Vec<Call> {
     calls_on((handle, n)).into_iter().chain(sizes.map(|n| Resize(handle, n))).chain([GrantAligned(n, 64)]).collect()
 }
 
-/// A pool over tables that no calls have made, with header and guard of every live block that fits its slot.
+/// A pool over tables that no calls have made.
 fn forge(both: &Both, tables: &Tables) -> Both {
-    let mut first = saying(both, tables);
-    for place in places(&tables.groups).iter().filter(|place| place.is_live()) {
-        let (start, end) = (place.start(), place.end());
-        let Some(reserved) = end.checked_sub(start + place.slot.size) else { continue };
-        let [low, high, ..] = ((start - place.begin + place.number * slot_bytes(place.class)) / 16).to_le_bytes();
-        first.arena[place.begin - 4..end].fill(0);
-        first.arena[start - 4..start].copy_from_slice(&[0, (place.number + 32 * reserved.min(5)) as u8, low, high]);
-        if reserved >= 5 {
-            first.arena[end - 4..end].copy_from_slice(&(reserved as u32).to_le_bytes());
-        }
-    }
-    Both::over(&first, Reference::over(first.arena.clone(), tables.clone()))
-}
-
-/// Tables with one slot changed.
-fn with_slot(tables: &Tables, place: &Place, slot: Slot) -> Tables {
-    let mut tables = tables.clone();
-    tables.groups[place.group].slots[place.number] = slot;
-    tables
+    Both::over(&marked(&both.first.arena, tables), tables)
 }
 
 /// Pools with blocks of every alignment, live and released.
@@ -302,7 +250,7 @@ fn pools() -> Vec<Both> {
 }
 
 /// Whether a slot's record may begin with a byte.
-fn may_begin(place: &Place, byte: u8) -> bool {
+fn may_begin(_: &Both, place: &Place, byte: u8) -> bool {
     let Slot { state, last, count, size, .. } = place.slot;
     let align = 8 << byte.min(10);
     match state {
@@ -313,18 +261,31 @@ fn may_begin(place: &Place, byte: u8) -> bool {
     }
 }
 
-#[test]
-fn every_alignment_byte() {
-    let mut sound = [[0; 10]; 2];
+/// Whether a slot may be in the condition that a byte says of it in the plain form.
+fn may_be(both: &Both, place: &Place, byte: u8) -> bool {
+    let Slot { last, count, size, .. } = place.slot;
+    let live = both.second.groups[place.group].slots.iter().filter(|slot| slot.state == State::Live).count();
+    let may_end = size == 0 && live > usize::from(place.is_live());
+    match byte {
+        0 => may_end && count == 0 && last.unwrap_or(0) == 0,
+        1..=2 => may_end,
+        3..=11 => place.start() % (2 << byte) == 0 && serves(place.class, size, 2 << byte),
+        _ => false,
+    }
+}
+
+/// Tries every byte in place of the first of each slot's record. Gives how often each was sound, in slots that are not live and in live ones.
+fn every_first_byte<R: Judged>(of: fn(&Both) -> &Buffers<R>, may: fn(&Both, &Place, u8) -> bool) -> [[usize; 12]; 2] {
+    let mut sound = [[0; 12]; 2];
     for (p, both) in pools().iter().enumerate() {
         for place in places(&both.second.groups) {
-            let mut changed = both.first.clone();
+            let mut changed = of(both).clone();
             let at = 16 + 264 * both.second.groups[place.group].first_row + 16 + 8 * place.number;
             for byte in 0..=255 {
                 let told = format_args!("pool {p}, slot {} of group {}, {:?}, made {byte}", place.number, place.group, place.slot);
                 changed.room[at] = byte;
                 let is_sound = over_any(&changed, &calls_about((place.handle(), place.slot.size)), told);
-                assert_eq!(is_sound, may_begin(&place, byte), "{told}");
+                assert_eq!(is_sound, may(both, &place, byte), "{told}");
                 if is_sound {
                     sound[usize::from(place.is_live())][usize::from(byte)] += 1;
                 }
@@ -332,8 +293,20 @@ fn every_alignment_byte() {
             set_up_over(&changed, format_args!("pool {p}"));
         }
     }
-    println!("bytes 0 to 9, how often they are sound in slots that are not live and in live ones: {sound:?}");
-    assert!(sound[0][..2].iter().chain(&sound[1][1..]).all(|&k| k > 0));
+    println!("bytes 0 to 11, how often they are sound in slots that are not live and in live ones: {sound:?}");
+    sound
+}
+
+#[test]
+fn every_alignment_byte() {
+    let sound = every_first_byte(|both| &both.first, may_begin);
+    assert!(sound[0][..2].iter().chain(&sound[1][1..10]).all(|&k| k > 0));
+}
+
+#[test]
+fn every_condition_byte() {
+    let sound = every_first_byte(|both| &both.plain, may_be);
+    assert!(sound[0][..4].iter().chain(&sound[1][1..]).all(|&k| k > 0));
 }
 
 #[test]
@@ -346,7 +319,7 @@ fn any_multiple_is_sound() {
     for d in 0..146 {
         let start = 16 + 16 * d;
         let mut forged = forge(&both, &with_slot(&both.second.tables(), place, Slot { last: Some(d), ..place.slot }));
-        if over_any(&forged.first, &calls_about((start, 2000)), format_args!("displacement {d}")) {
+        if over_each(&forged, &calls_about((start, 2000)), format_args!("displacement {d}")) {
             // what fits is in place, and a byte more moves to the lowest multiple of another slot
             let most = 2332 - 16 * d;
             due(&mut forged, [(Measure(start), Value(2000)), (Resize(start, most), Value(start)), (Resize(start, most + 1), Value(2624))]);
@@ -371,7 +344,7 @@ fn no_live_size_is_131052_once_enlarged() {
                 let slot = Slot { state: State::Live, last: Some(d), count: 1, size: n, align };
                 let tables = Tables { rows: 264, groups: vec![Group { class: 47, first_row, slots: vec![slot] }] };
                 let told = format_args!("{n} bytes at a multiple of {align} from row {first_row}");
-                let sound = over_any(&saying(&both, &tables), &calls_about((begin + 16 * d, n)), told);
+                let sound = over_each(&Both::over(&both.first.arena, &tables), &calls_about((begin + 16 * d, n)), told);
                 assert_eq!(sound, n < limit, "{told}");
             }
         }
@@ -392,12 +365,11 @@ fn every_class_with_every_alignment() {
             let ends = (class.saturating_sub(2)..=class).flat_map(|c| [slot_bytes(c) - 4, slot_bytes(c) - 3]);
             let sizes = ends.map(|end| end.wrapping_sub(align - 16)).chain([most, most + 1].map(|n| n.wrapping_sub(16 * d)));
             for n in sizes.filter(|&n| n <= most) {
-                let never = Slot { state: State::Ready, last: None, count: 0, size: 0, align: ORDINARY };
-                let mut slots = vec![never; number];
+                let mut slots = vec![Slot::NEVER_GRANTED; number];
                 slots.push(Slot { state: State::Live, last: Some(d), count: 1, size: n, align });
                 let tables = Tables { rows: rows_of(class) + 8, groups: vec![Group { class, first_row, slots }] };
                 let told = format_args!("class {class}, {n} bytes at a multiple of {align}");
-                let is_sound = over_any(&forge(&both, &tables).first, &calls_about((begin + 16 * d, n)), told);
+                let is_sound = over_each(&forge(&both, &tables), &calls_about((begin + 16 * d, n)), told);
                 assert_eq!(is_sound, 16 * d + n <= most && serves(class, n, align), "{told}");
                 sound[usize::from(is_sound)] += 1;
             }

@@ -1,43 +1,23 @@
-//! The library beside the second implementation: answers, whole arenas, tables, records and totals are compared after every call.
+//! The library, by each of its engines, beside the second implementation: answers, whole arenas, tables, records and totals are compared after every
+//! call.
 
 mod any;
+mod changed;
 mod common;
+mod fewer;
 mod forged;
 mod random;
 mod sample;
 
-use any::{calls_on, over_any, refused, set_up_over};
-use common::{Answer, Both, Buffers, Call};
-use forged::saying;
+use any::{calls_on, over_any, refused, set_up_over, Judged};
+use changed::{any_room, every_byte};
+use common::{Answer, Both, Buffers, Call, Record};
+use fewer::fail;
+use forged::over_each;
 use random::{all_seen, block, kind, next_call, Engine, Numbers, Seen, UNDAMAGED};
 use sample::{no_store, sample, OLD};
-use slotpool::{room_len, Refusal};
+use slotpool::{room_len, Refusal, Totals};
 use slotpool_reference::{class_of, enlarged, rows_of, slot_bytes, slots_of, start_of, State, Tables, ALIGNMENTS, ORDINARY, TOO_LARGE};
-
-fn run(arena_len: usize, calls: &[Call]) -> Result<(), String> {
-    let mut both = Both::new(arena_len, OLD);
-    calls.iter().try_for_each(|&c| both.call(c).map(drop))
-}
-
-/// Fails with the seed and the list of calls, cut down as long as it still goes wrong.
-fn fail(seed: u64, arena_len: usize, mut calls: Vec<Call>) -> ! {
-    let mut part = calls.len() / 2;
-    while part > 0 {
-        let mut at = 0;
-        while at + part <= calls.len() {
-            let mut fewer = calls.clone();
-            fewer.drain(at..at + part);
-            if run(arena_len, &fewer).is_err() {
-                calls = fewer;
-            } else {
-                at += part;
-            }
-        }
-        part /= 2;
-    }
-    let why = run(arena_len, &calls).unwrap_err();
-    panic!("seed {seed}, arena of {arena_len} bytes: {why}\ncalls: {calls:?}");
-}
 
 /// A store into a requested byte of a live block: that damages none either.
 fn into_requested(numbers: &mut Numbers, both: &Both) -> Option<Call> {
@@ -232,12 +212,6 @@ fn righted(mut buffers: Buffers) -> Buffers {
     buffers
 }
 
-/// Values for a byte other than the one it has: all, or some.
-fn others(byte: u8, all: bool) -> impl Iterator<Item = u8> {
-    let some = [0, 1, 2, 3, 16, 31, 48, 128, 255, byte ^ 1, byte ^ 4];
-    (0..=255).filter(move |v| *v != byte && (all || some.contains(v)))
-}
-
 #[test]
 fn every_single_byte_change() {
     // a dozen pools and every byte of their rooms, with all other values or, in the largest, with some: each changed room meets every call
@@ -245,20 +219,15 @@ fn every_single_byte_change() {
     for seed in 1..=12 {
         let Both { first, second, .. } = sample(seed, [512, 1024, 1024, 2048, 4096, 8192][seed as usize % 6]);
         let live = second.live();
-        let mut changed = first.clone();
-        for at in 0..first.room.len() {
-            for byte in others(first.room[at], first.arena.len() < 8192) {
-                let told = format_args!("seed {seed}, byte {at} made {byte}");
-                changed.room[at] = byte;
-                let calls = calls_on(live[tried % live.len()]);
-                kept += usize::from(over_any(&changed, &calls, told));
-                let other = righted(changed.clone());
-                due += usize::from(other.totals != changed.totals && over_any(&other, &calls, told));
-                set_up_over(&changed, told);
-                tried += 1;
-            }
-            changed.room[at] = first.room[at];
-        }
+        every_byte(&first, first.arena.len() < 8192, |changed, told| {
+            let told = format_args!("seed {seed}, {told}");
+            let calls = calls_on(live[tried % live.len()]);
+            kept += usize::from(over_any(changed, &calls, told));
+            let other = righted(changed.clone());
+            due += usize::from(other.totals != changed.totals && over_any(&other, &calls, told));
+            set_up_over(changed, told);
+            tried += 1;
+        });
     }
     println!("{tried} rooms with one byte changed, {kept} of them sound with the record kept, {due} with another");
     assert!(kept > 0 && due > 0 && kept + due < tried);
@@ -275,7 +244,9 @@ fn only_a_granted_slot_waits() {
                 let granted = group.slots[i].last.is_some();
                 let mut tables = both.second.tables();
                 tables.groups[g].slots[i].state = State::Waiting;
-                let sound = over_any(&saying(&both, &tables), &calls, format_args!("group {g}, slot {i}"));
+                let (forged, told) = (Both::over(&both.first.arena, &tables), format_args!("group {g}, slot {i}"));
+                // the plain form has no slot that waits and was never granted
+                let sound = if granted { over_each(&forged, &calls, told) } else { over_any(&forged.first, &calls, told) };
                 assert_eq!(sound, granted, "group {g}, slot {i}");
                 moved[usize::from(granted)] += 1;
             }
@@ -293,8 +264,24 @@ fn no_live_size_is_131052() {
     for n in [TOO_LARGE - 2, TOO_LARGE - 1, TOO_LARGE] {
         let mut tables = both.second.tables();
         tables.groups[0].slots[0].size = n;
-        let sound = over_any(&saying(&both, &tables), &calls_on((16, n)), format_args!("size {n}"));
+        let sound = over_each(&Both::over(&both.first.arena, &tables), &calls_on((16, n)), format_args!("size {n}"));
         assert_eq!(sound, n < TOO_LARGE, "size {n}");
+    }
+}
+
+fn other_lengths<R: Judged>(buffers: &Buffers<R>, calls: &[Call]) {
+    let (arena_len, right) = (buffers.arena.len(), buffers.room.len());
+    for len in (0..=513).flat_map(|rows| [512 * rows, 512 * rows + 1, 512 * rows + 511]) {
+        let mut changed = buffers.clone();
+        changed.arena.resize(len, 0);
+        let sound = over_any(&changed, calls, format_args!("arena of {len} bytes"));
+        assert_eq!(sound, len == arena_len, "arena of {len} bytes");
+    }
+    for len in 0..=2 * right {
+        let mut changed = buffers.clone();
+        changed.room.resize(len, 0);
+        let sound = over_any(&changed, calls, format_args!("room of {len} bytes"));
+        assert_eq!(sound, len == right, "room of {len} bytes");
     }
 }
 
@@ -302,19 +289,8 @@ fn no_live_size_is_131052() {
 fn other_lengths_are_unsound() {
     let both = sample(5, 4096);
     let calls = calls_on(both.second.live()[0]);
-    let (arena_len, right) = (both.first.arena.len(), both.first.room.len());
-    for len in (0..=513).flat_map(|rows| [512 * rows, 512 * rows + 1, 512 * rows + 511]) {
-        let mut changed = both.first.clone();
-        changed.arena.resize(len, 0);
-        let sound = over_any(&changed, &calls, format_args!("arena of {len} bytes"));
-        assert_eq!(sound, len == arena_len, "arena of {len} bytes");
-    }
-    for len in 0..=2 * right {
-        let mut changed = both.first.clone();
-        changed.room.resize(len, 0);
-        let sound = over_any(&changed, &calls, format_args!("room of {len} bytes"));
-        assert_eq!(sound, len == right, "room of {len} bytes");
-    }
+    other_lengths(&both.first, &calls);
+    other_lengths(&both.plain, &calls);
 }
 
 #[test]
@@ -325,16 +301,8 @@ fn random_rooms() {
     assert!(!over_any(&zeros, &calls_on((16, 20)), format_args!("a room of zeros")));
     let (tried, mut sound) = (3000, [0, 0]);
     for i in 0..tried {
-        // random bytes, or the room of a pool with up to three bytes changed, often beside the arena or the record of another
         let (arena, of, record) = (numbers.below(50), &pools[numbers.below(50)], numbers.below(50));
-        let mut changed = Buffers { arena: pools[arena].first.arena.clone(), ..of.first.clone() };
-        if numbers.one_in(4) {
-            changed.room.fill_with(|| numbers.next() as u8);
-        }
-        for _ in 0..numbers.below(4) {
-            let at = numbers.below(changed.room.len());
-            changed.room[at] = numbers.next() as u8;
-        }
+        let mut changed = any_room(&mut numbers, &of.first, &pools[arena].first);
         let told = format_args!("room {i}");
         let calls = calls_on(numbers.of(&of.second.live()));
         sound[0] += usize::from(over_any(&righted(changed.clone()), &calls, told));
@@ -348,20 +316,25 @@ fn random_rooms() {
     assert!(0 < sound[1] && sound[1] < sound[0] && sound[0] < tried);
 }
 
-#[test]
-fn set_up_refuses_other_sizes() {
+fn other_sizes<R: Record>() {
     for arena_len in [0, 1, 511, 513, 262_145, 262_656, 1_000_000] {
-        assert_eq!(room_len(arena_len), 0);
-        let buffers = Buffers { room: vec![4; 280], ..Buffers::old(arena_len, 3) };
+        assert_eq!(R::room_len(arena_len), 0);
+        let buffers = Buffers::<R> { room: vec![4; 280], ..Buffers::old(arena_len, 3) };
         refused(&buffers, Call::SetUp, Refusal::BadArena, format_args!("arena of {arena_len} bytes"));
     }
     for rows in 1..=512 {
         let right = 16 + 264 * rows;
-        let mut buffers = Buffers::old(512 * rows, 3);
+        let mut buffers = Buffers::<R>::old(512 * rows, 3);
         assert_eq!(buffers.room.len(), right);
         for other in [0, right - 1, right + 1] {
             buffers.room.resize(other, 4);
             refused(&buffers, Call::SetUp, Refusal::BadArena, format_args!("{rows} rows, room of {other} bytes"));
         }
     }
+}
+
+#[test]
+fn set_up_refuses_other_sizes() {
+    other_sizes::<Totals>();
+    other_sizes::<()>();
 }

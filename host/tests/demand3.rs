@@ -89,7 +89,7 @@ fn step([one, other]: &mut [Run; 2], call: Call) -> Result<Answer, String> {
     if one.both.lent != other.both.lent {
         return Err(format!("{call:?}: the lent lists of the runs differ"));
     }
-    if one.both.first.room != other.both.first.room {
+    if one.both.first.room != other.both.first.room || one.both.plain.room != other.both.plain.room {
         return Err(format!("{call:?}: the tables of the runs differ"));
     }
     if one.both.first.totals != other.both.first.totals {

@@ -6,7 +6,7 @@ mod random;
 use common::{lent, Answer, Both, Call, List};
 use random::lists::list;
 use random::{all_seen, block, kind, next_call, Numbers, Seen, UNDAMAGED};
-use slotpool::{check_list, plan_list, Pool, Refusal, ENTRIES};
+use slotpool::{check_list, plan_list, Refusal, ENTRIES};
 
 /// Caps in their range, at its ends and at those of a class, and caps that are not.
 const CAPS: [usize; 14] = [1, 2, 3, 12, 13, 160, 4095, 65_536, 131_050, 131_051, 0, 131_052, 131_053, usize::MAX];
@@ -118,13 +118,21 @@ fn last_requested(numbers: &mut Numbers, both: &Both) -> Option<Call> {
 
 /// Makes a list call on a pool, and the grants of its sizes one after another on a copy. Gives the answer, and how many grants were done.
 fn beside_its_grants(both: &mut Both, list: List) -> Result<(Answer, usize), String> {
-    let mut copy = both.first.clone();
-    let mut pool = Pool::over(&mut copy.arena, &mut copy.room, &mut copy.totals);
-    let mut handles = Vec::new();
-    let refusal = list.sizes().iter().find_map(|&n| pool.grant(n).map(|handle| handles.push(handle.raw())).err());
+    let (mut copy, mut handles, mut refusal) = (both.clone(), Vec::new(), None);
+    for &n in list.sizes() {
+        match copy.call(Call::Grant(n))? {
+            Answer::Refused(why) => {
+                refusal = Some(why);
+                break;
+            }
+            Answer::Value(handle) => handles.push(handle),
+            other => return Err(format!("grant {n}: {other:?}")),
+        }
+    }
     let answer = both.call(Call::GrantList(list))?;
+    let same = copy.first == both.first && copy.plain == both.plain;
     let right = match answer {
-        Answer::Value(entries) => refusal.is_none() && entries == handles.len() && handles == both.lent[0][..entries] && copy == both.first,
+        Answer::Value(entries) => refusal.is_none() && entries == handles.len() && handles == both.lent[0][..entries] && same,
         Answer::Refused(Refusal::NoRoom) => refusal == Some(Refusal::NoRoom),
         _ => matches!(answer, Answer::Refused(Refusal::TooLong | Refusal::BadProposal)),
     };

@@ -1,10 +1,18 @@
 /* Every refusal of every call, through the C functions, alone and with each later one due behind it: its number, the value 0 (from report,
- * six zeros), and no byte changed, nor a number of the record, nor a place of a lent list. */
+ * six zeros), and no byte changed, nor a number of the record, nor a place of a lent list. With PLAIN, the calls of the second engine. */
 #include <stdio.h>
 #include <stdlib.h>
 #include <string.h>
 
-#include "slotpool.h"
+#include "slotpool_plain.h"
+
+#ifdef PLAIN
+#define ON_POOL(call) slotpool_plain_##call
+#define RECORD
+#else
+#define ON_POOL(call) slotpool_##call
+#define RECORD , &pool.record.totals
+#endif
 
 enum call { SET_UP, GRANT, RELEASE, RESIZE, MEASURE, REPORT, GRANT_ALIGNED, GRANT_LIST, PLAN_LIST };
 
@@ -109,7 +117,7 @@ static struct {
 static size_t arena_len, room_len, handle, n;
 static const struct aligned *block;
 static const struct list *list;
-#define LENT pool.arena, arena_len, pool.room, room_len, &pool.record.totals
+#define LENT pool.arena, arena_len, pool.room, room_len RECORD
 
 /* What a call gives back beside its number: its value, or report's totals. All numbers are PATTERN before the call. */
 static union record given;
@@ -121,9 +129,14 @@ static enum call call;
 /* The answer that is due, and one that would be due without it, or the same. */
 static uint32_t due, behind;
 
-/* Why 2 is due: by the tables, or by a number of the record that is one too large, or one too small. With which low bits 4, 5 or 10 is. */
+/* Why 2 is due: by the tables, or, where there is a record, by a number of it that is one too large, or one too small. With which low bits 4, 5
+ * or 10 is. */
 static unsigned cause;
+#ifdef PLAIN
+enum { BY_TABLES, CAUSES, BITS = 16 };
+#else
 enum { BY_TABLES, CAUSES = 1 + 6 + 6, BITS = 16 };
+#endif
 
 static void check(int holds, int line, const char *what)
 {
@@ -142,13 +155,13 @@ static void check(int holds, int line, const char *what)
 /* A grant that is done, with the handle due. */
 static void grant(size_t due_handle)
 {
-    CHECK(slotpool_grant(LENT, SIZE, VALUE) == SLOTPOOL_DONE);
+    CHECK(ON_POOL(grant)(LENT, SIZE, VALUE) == SLOTPOOL_DONE);
     CHECK(*VALUE == due_handle);
 }
 
 static void release(size_t granted)
 {
-    CHECK(slotpool_release(LENT, granted) == SLOTPOOL_DONE);
+    CHECK(ON_POOL(release)(LENT, granted) == SLOTPOOL_DONE);
 }
 
 /* Sets the pool up: a first block in every slot of the group, all released but the last, which keeps the group for the second ones. */
@@ -156,8 +169,8 @@ static void set_up(void)
 {
     memset(&pool, 0xA5, sizeof pool);
     arena_len = ARENA;
-    room_len = slotpool_room_len(ARENA);
-    CHECK(slotpool_set_up(LENT) == SLOTPOOL_DONE);
+    room_len = ON_POOL(room_len)(ARENA);
+    CHECK(ON_POOL(set_up)(LENT) == SLOTPOOL_DONE);
     for (size_t i = 0; i < SLOTS; i++)
         grant(16 + i * SLOT);
     for (size_t i = 0; i < SLOTS - 1; i++)
@@ -213,31 +226,31 @@ static size_t make(uint32_t *answer)
 {
     switch (call) {
     case SET_UP:
-        *answer = slotpool_set_up(LENT);
+        *answer = ON_POOL(set_up)(LENT);
         return 0;
     case GRANT:
-        *answer = slotpool_grant(LENT, n, VALUE);
+        *answer = ON_POOL(grant)(LENT, n, VALUE);
         return 1;
     case RELEASE:
-        *answer = slotpool_release(LENT, handle);
+        *answer = ON_POOL(release)(LENT, handle);
         return 0;
     case RESIZE:
-        *answer = slotpool_resize(LENT, handle, n, VALUE);
+        *answer = ON_POOL(resize)(LENT, handle, n, VALUE);
         return 1;
     case MEASURE:
-        *answer = slotpool_measure(LENT, handle, VALUE);
+        *answer = ON_POOL(measure)(LENT, handle, VALUE);
         return 1;
     case GRANT_ALIGNED:
-        *answer = slotpool_grant_aligned(LENT, block->n, block->align, VALUE);
+        *answer = ON_POOL(grant_aligned)(LENT, block->n, block->align, VALUE);
         return 1;
     case GRANT_LIST:
-        *answer = slotpool_grant_list(LENT, list->length, list->cap, list->sizes, list->count, pool.handles, list->places, VALUE);
+        *answer = ON_POOL(grant_list)(LENT, list->length, list->cap, list->sizes, list->count, pool.handles, list->places, VALUE);
         return 1;
     case PLAN_LIST:
         *answer = slotpool_plan_list(list->length, list->cap, pool.sizes, VALUE);
         return 1;
     default:
-        *answer = slotpool_report(LENT, &given.totals);
+        *answer = ON_POOL(report)(LENT, &given.totals);
         return 6;
     }
 }

@@ -115,7 +115,7 @@ fn draw(seed: usize, seen: &mut Seen) -> Vec<Op> {
                     Call::GrantAligned(n, _) => Call::Grant(n),
                     call => call,
                 };
-                let answer = both.make(call).0;
+                let answer = both.make(call)[0];
                 count(kind(call, &answer, &both));
                 ops.extend(records(call, answer));
             }

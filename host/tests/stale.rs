@@ -4,7 +4,6 @@
 
 mod common;
 mod due;
-mod forged;
 mod random;
 mod sample;
 
@@ -12,12 +11,11 @@ use common::Answer::{self, Done, Refused, Value};
 use common::Call::{self, Grant, GrantAligned, Measure, Release, Resize, Store};
 use common::{Both, List};
 use due::due;
-use forged::saying;
 use random::{all_seen, kind, next_call, Numbers, Seen, UNDAMAGED};
 use sample::{no_store, sample, OLD};
 use slotpool::Handle;
 use slotpool::Refusal::{self, AlreadyFree, HeaderDamaged, NoRoom, NoSuchBlock, Overrun, Stale, TooLarge};
-use slotpool_reference::{class_of, rows_of, slot_bytes, slots_of, start_of, Reference, ENTRIES, TOO_LARGE};
+use slotpool_reference::{class_of, rows_of, slot_bytes, slots_of, start_of, ENTRIES, TOO_LARGE};
 use std::collections::BTreeSet;
 
 /// A full group of blocks of one size. Its last slot is granted again and again, and the others keep the group.
@@ -124,10 +122,10 @@ fn the_bits_of_every_count() {
     // the tables hold the count after the grant, which comes round to 0: one of the 16 handles with the block's start is taken
     let slot = Regranted::new(2028);
     for count in 0..=255 {
-        let mut tables = slot.both.second.tables();
-        tables.groups[0].slots[1].count = count;
-        let first = saying(&slot.both, &tables);
-        let mut both = Both::over(&first, Reference::over(first.arena.clone(), tables));
+        let mut both = slot.both.clone();
+        both.second.groups[0].slots[1].count = count;
+        let tables = both.second.tables();
+        (both.first.room, both.plain.room) = (tables.write(), tables.write_plain());
         let present = slot.begin + (usize::from(count) + 15) % 16;
         for handle in (slot.begin..slot.begin + 16).filter(|&handle| handle != present) {
             due(&mut both, [Measure(handle), Release(handle), Resize(handle, 2028)].map(|call| (call, Refused(Stale))));

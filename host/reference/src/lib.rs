@@ -72,7 +72,7 @@ pub struct Slot {
 }
 
 impl Slot {
-    const NEVER_GRANTED: Slot = Slot { state: State::Ready, last: None, count: 0, size: 0, align: ORDINARY };
+    pub const NEVER_GRANTED: Slot = Slot { state: State::Ready, last: None, count: 0, size: 0, align: ORDINARY };
 
     /// The handle of a live block that starts somewhere: its own grant is the last that was counted.
     pub fn handle(&self, start: usize) -> usize {
@@ -126,9 +126,30 @@ fn count(rows: usize, groups: &[Group]) -> Totals {
     t
 }
 
+/// A byte form of the tables: how a slot is written to the record of its group's first row, and read from it.
+struct Form {
+    write: fn(&mut [u8], usize, &Slot),
+    read: fn(&[u8], usize) -> Option<Slot>,
+}
+
+/// The first engine's: ready and waiting slots are bits of two masks.
+const MASKS: Form = Form { write: write_by_mask, read: read_by_mask };
+
+/// The plain engine's: a slot's record says its condition, and there are no masks.
+const PLAIN: Form = Form { write: write_by_condition, read: read_by_condition };
+
 impl Tables {
     /// The byte form of docs/TABLES.md.
     pub fn write(&self) -> Vec<u8> {
+        self.write_as(MASKS)
+    }
+
+    /// The byte form of the plain engine.
+    pub fn write_plain(&self) -> Vec<u8> {
+        self.write_as(PLAIN)
+    }
+
+    fn write_as(&self, form: Form) -> Vec<u8> {
         let mut room = vec![0; 16 + 264 * self.rows];
         room[..4].copy_from_slice(&((ROW * self.rows) as u32).to_le_bytes());
         for g in &self.groups {
@@ -140,18 +161,7 @@ impl Tables {
                 room[at + 264 * k + 1] = k as u8;
             }
             for (i, s) in g.slots.iter().enumerate() {
-                match s.state {
-                    State::Ready => room[at + 8 + i / 8] |= 1 << (i % 8),
-                    State::Waiting => room[at + 12 + i / 8] |= 1 << (i % 8),
-                    State::Live => {}
-                }
-                if let Some(d) = s.last {
-                    let r = at + 16 + 8 * i;
-                    room[r] = code(s.align);
-                    room[r + 1] = s.count;
-                    room[r + 2..r + 4].copy_from_slice(&(d as u16).to_le_bytes());
-                    room[r + 4..r + 7].copy_from_slice(&(s.size as u32).to_le_bytes()[..3]);
-                }
+                (form.write)(&mut room[at..], i, s);
             }
         }
         room
@@ -167,9 +177,18 @@ impl Tables {
         count(self.rows, &self.groups)
     }
 
-    /// The tables that a room says, if they are sound but for the record: read the fields, test the rules one by one, and compare with
-    /// the form of what was read.
+    /// The tables that a room says, if they are sound but for the record.
     pub fn read_alone(arena_len: usize, room: &[u8]) -> Option<Tables> {
+        Tables::read_as(MASKS, arena_len, room)
+    }
+
+    /// The tables that a room of the plain engine says, if they are sound under an arena of some length.
+    pub fn read_plain(arena_len: usize, room: &[u8]) -> Option<Tables> {
+        Tables::read_as(PLAIN, arena_len, room)
+    }
+
+    /// Reads the fields, tests the rules one by one, and compares with the form of what was read.
+    fn read_as(form: Form, arena_len: usize, room: &[u8]) -> Option<Tables> {
         if !(ROW..=512 * ROW).contains(&arena_len) || arena_len % ROW != 0 {
             return None;
         }
@@ -189,21 +208,49 @@ impl Tables {
             if class >= 48 || row + rows_of(class) > rows {
                 return None;
             }
-            let group = Group { class, first_row: row, slots: (0..slots_of(class)).map(|i| read_slot(record, i)).collect::<Option<_>>()? };
+            let group = Group { class, first_row: row, slots: (0..slots_of(class)).map(|i| (form.read)(record, i)).collect::<Option<_>>()? };
             if !group.slots.iter().any(|s| s.state == State::Live) || !(0..group.slots.len()).all(|i| slot_rule(&group, i)) {
                 return None;
             }
             row += rows_of(class);
             tables.groups.push(group);
         }
-        if tables.write() != room {
+        if tables.write_as(form) != room {
             return None;
         }
         Some(tables)
     }
 }
 
-fn read_slot(record: &[u8], i: usize) -> Option<Slot> {
+fn write_by_mask(record: &mut [u8], i: usize, s: &Slot) {
+    match s.state {
+        State::Ready => record[8 + i / 8] |= 1 << (i % 8),
+        State::Waiting => record[12 + i / 8] |= 1 << (i % 8),
+        State::Live => {}
+    }
+    write_record(record, i, if s.last.is_some() { code(s.align) } else { 0 }, s);
+}
+
+fn write_by_condition(record: &mut [u8], i: usize, s: &Slot) {
+    let condition = match (s.state, s.last) {
+        (State::Ready, None) => 0,
+        (State::Ready, Some(_)) => 1,
+        (State::Waiting, _) => 2,
+        (State::Live, _) => 2 + code(s.align),
+    };
+    write_record(record, i, condition, s);
+}
+
+/// A slot's record, which begins with one byte or another.
+fn write_record(record: &mut [u8], i: usize, first: u8, s: &Slot) {
+    let [low, high, ..] = s.last.unwrap_or(0).to_le_bytes();
+    let [size @ .., _] = (s.size as u32).to_le_bytes();
+    let r = &mut record[16 + 8 * i..][..8];
+    r[..4].copy_from_slice(&[first, s.count, low, high]);
+    r[4..7].copy_from_slice(&size);
+}
+
+fn read_by_mask(record: &[u8], i: usize) -> Option<Slot> {
     let bit = |at: usize| record[at + i / 8] >> (i % 8) & 1 == 1;
     let state = match (bit(8), bit(12)) {
         (true, true) => return None,
@@ -211,15 +258,29 @@ fn read_slot(record: &[u8], i: usize) -> Option<Slot> {
         (false, true) => State::Waiting,
         (false, false) => State::Live,
     };
-    let r = &record[16 + 8 * i..][..8];
-    let (last, align) = match r[0] {
-        0 => (None, ORDINARY),
-        code => (Some(number(&r[2..4])), coded(code)?),
-    };
-    Some(Slot { state, last, count: r[1], size: if state == State::Live { number(&r[4..7]) } else { 0 }, align })
+    Some(match record[16 + 8 * i] {
+        0 => read_record(record, i, state, false, ORDINARY),
+        first => read_record(record, i, state, true, coded(first)?),
+    })
 }
 
-/// The first byte of a granted slot: the place of its alignment in the list, from 1.
+fn read_by_condition(record: &[u8], i: usize) -> Option<Slot> {
+    Some(match record[16 + 8 * i] {
+        0 => read_record(record, i, State::Ready, false, ORDINARY),
+        1 => read_record(record, i, State::Ready, true, ORDINARY),
+        2 => read_record(record, i, State::Waiting, true, ORDINARY),
+        condition => read_record(record, i, State::Live, true, coded(condition - 2)?),
+    })
+}
+
+/// A slot by what its record says after the first byte. A field that says nothing is not read: it is 0 in the form.
+fn read_record(record: &[u8], i: usize, state: State, granted: bool, align: usize) -> Slot {
+    let r = &record[16 + 8 * i..][..8];
+    let size = if state == State::Live { number(&r[4..7]) } else { 0 };
+    Slot { state, last: granted.then(|| number(&r[2..4])), count: r[1], size, align }
+}
+
+/// The place of an alignment in the list, from 1.
 fn code(align: usize) -> u8 {
     1 + ALIGNMENTS.iter().position(|&a| a == align).expect("an alignment of the list") as u8
 }

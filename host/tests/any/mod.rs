@@ -1,7 +1,7 @@
 //! Any bytes and numbers, lent to the library.
 
-use crate::common::{lent, Answer, Both, Buffers, Call, List};
-use slotpool::Refusal;
+use crate::common::{lent, Answer, Both, Buffers, Call, List, Record};
+use slotpool::{Refusal, Totals};
 use slotpool_reference::{Reference, Tables};
 use std::fmt::Arguments;
 
@@ -26,25 +26,59 @@ pub fn calls_on((handle, n): (usize, usize)) -> [Call; 11] {
     ]
 }
 
+/// An engine's record, with which the second implementation judges its tables.
+pub trait Judged: Record {
+    /// The tables that some buffers say, if they are sound.
+    fn tables(buffers: &Buffers<Self>) -> Option<Tables>;
+}
+
+impl Judged for Totals {
+    fn tables(Buffers { arena, room, totals }: &Buffers) -> Option<Tables> {
+        Tables::read(arena.len(), room, totals)
+    }
+}
+
+impl Judged for () {
+    fn tables(Buffers { arena, room, .. }: &Buffers<()>) -> Option<Tables> {
+        Tables::read_plain(arena.len(), room)
+    }
+}
+
+impl<R: Record> Buffers<R> {
+    /// An arena beside some tables, which need not be sound.
+    pub fn saying(arena: &[u8], tables: &Tables) -> Buffers<R> {
+        let (room, totals) = R::saying(tables);
+        Buffers { arena: arena.to_vec(), room, totals }
+    }
+}
+
+impl Both {
+    /// A pool over an arena and tables that no calls need have made.
+    pub fn over(arena: &[u8], tables: &Tables) -> Both {
+        let second = Reference::over(arena.to_vec(), tables.clone());
+        Both { first: Buffers::saying(arena, tables), plain: Buffers::saying(arena, tables), second, lent: [lent(); 3], old: Vec::new() }
+    }
+}
+
 /// A call that the library must refuse, with nothing changed.
-pub fn refused(buffers: &Buffers, call: Call, due: Refusal, told: Arguments) {
+pub fn refused<R: Record>(buffers: &Buffers<R>, call: Call, due: Refusal, told: Arguments) {
     let (mut after, mut list) = (buffers.clone(), lent());
-    assert_eq!(after.call(&mut list, call), Answer::Refused(due), "{told}: {call:?}");
-    assert!(after == *buffers && list == lent(), "{told}: {call:?} changed something");
+    assert_eq!(after.call(&mut list, call), Answer::Refused(due), "{told}: {call:?} of the {} engine", R::ENGINE);
+    assert!(after == *buffers && list == lent(), "{told}: {call:?} of the {} engine changed something", R::ENGINE);
 }
 
 /// Makes each call over a copy of any buffers. Unsound ones get answer 2 from all of them, with nothing changed; sound ones the second
-/// implementation's answers. Gives whether they are sound.
-pub fn over_any(buffers: &Buffers, calls: &[Call], told: Arguments) -> bool {
-    let Some(tables) = Tables::read(buffers.arena.len(), &buffers.room, &buffers.totals) else {
+/// implementation's answers, from both engines. Gives whether they are sound.
+pub fn over_any<R: Judged>(buffers: &Buffers<R>, calls: &[Call], told: Arguments) -> bool {
+    let Some(tables) = R::tables(buffers) else {
         for &call in calls {
             refused(buffers, call, Refusal::Unsound, told);
         }
         return false;
     };
+    assert!(Buffers::saying(&buffers.arena, &tables) == *buffers, "{told}: sound, and not the form of its tables");
     for &call in calls {
-        let second = Reference::over(buffers.arena.clone(), tables.clone());
-        if let Err(why) = Both::over(buffers, second).call(call) {
+        if let Err(why) = Both::over(&buffers.arena, &tables).call(call) {
             panic!("{told}: {why}");
         }
     }
@@ -52,7 +86,10 @@ pub fn over_any(buffers: &Buffers, calls: &[Call], told: Arguments) -> bool {
 }
 
 /// Set up over any buffers of the right lengths: done, and a fresh pool.
-pub fn set_up_over(buffers: &Buffers, told: Arguments) {
-    let mut both = Both::over(buffers, Reference::set_up(buffers.arena.len()));
-    assert_eq!(both.call(Call::SetUp), Ok(Answer::Done), "{told}");
+pub fn set_up_over<R: Record>(buffers: &Buffers<R>, told: Arguments) {
+    let mut after = buffers.clone();
+    assert_eq!(after.call(&mut lent(), Call::SetUp), Answer::Done, "{told}");
+    let len = after.arena.len();
+    let fresh = Buffers::saying(&vec![0; len], &Tables { rows: len / 512, groups: Vec::new() });
+    assert!(after == fresh, "{told}: set up of the {} engine left something", R::ENGINE);
 }

@@ -1,7 +1,8 @@
-//! One pool in two implementations: answers, whole arenas, tables, records and totals are compared at every call.
+//! One pool in both implementations, the library's by each of its two engines: answers, whole arenas, tables, records and totals are compared at every
+//! call.
 
-use slotpool::{room_len, Handle, Pool, Refusal, Totals};
-use slotpool_reference::Reference;
+use slotpool::{room_len, Handle, PlainPool, Pool, Refusal, Totals};
+use slotpool_reference::{Reference, Tables};
 use std::fmt;
 
 /// A gather list that is asked for: a proposal, and how many places are lent for the handles.
@@ -95,34 +96,43 @@ fn ended(call: Call, answer: Answer) -> Option<usize> {
     }
 }
 
-/// What the library is lent for a pool.
+/// What the library is lent for a pool of the first engine or, with no record, of the plain one.
 #[derive(Clone, PartialEq)]
-pub struct Buffers {
+pub struct Buffers<R = Totals> {
     pub arena: Vec<u8>,
     pub room: Vec<u8>,
-    pub totals: Totals,
+    pub totals: R,
 }
 
-impl Buffers {
-    /// Buffers of a lawful length and a record, with old bytes and numbers in them.
-    pub fn old(arena_len: usize, old: u8) -> Buffers {
-        let n = usize::from(old);
-        let totals = Totals { live_blocks: n, requested_bytes: n + 1, rows_held: n + 2, rows_free: n + 3, ready_slots: n + 4, waiting_slots: n + 5 };
-        Buffers { arena: vec![old; arena_len], room: vec![!old; room_len(arena_len)], totals }
-    }
+/// The record that a pool is lent, or none: each belongs to an engine.
+pub trait Record: Clone + PartialEq + fmt::Debug {
+    const ENGINE: &'static str;
 
-    /// The library's answer to a call.
-    pub fn call(&mut self, lent: &mut Lent, call: Call) -> Answer {
-        let Buffers { arena, room, totals } = self;
-        let mut pool = Pool::over(arena, room, totals);
-        match call {
-            Call::SetUp => unit(Pool::set_up(arena, room, totals).map(drop)),
+    /// What stands there before set up.
+    fn old(old: u8) -> Self;
+
+    /// The size of the engine's room.
+    fn room_len(arena_len: usize) -> usize;
+
+    /// The room and the record of some tables, which need not be sound.
+    fn saying(tables: &Tables) -> (Vec<u8>, Self);
+
+    /// The engine's answer to a call.
+    fn call(buffers: &mut Buffers<Self>, lent: &mut Lent, call: Call) -> Answer;
+}
+
+/// The answer of a pool of either engine to a call, over what it is lent.
+macro_rules! answer {
+    ($pool:ident($arena:ident, $room:ident $(, $totals:ident)?), $lent:ident, $call:ident) => {{
+        let mut pool = $pool::over($arena, $room $(, $totals)?);
+        match $call {
+            Call::SetUp => unit($pool::set_up($arena, $room $(, $totals)?).map(drop)),
             Call::Grant(n) => handle(pool.grant(n)),
             Call::GrantAligned(n, align) => handle(pool.grant_aligned(n, align)),
             Call::GrantList(l) => {
-                let mut handles = lent.map(Handle::from_raw);
+                let mut handles = $lent.map(Handle::from_raw);
                 let entries = pool.grant_list(l.length, l.cap, l.sizes(), &mut handles[..l.places]);
-                *lent = handles.map(Handle::raw);
+                *$lent = handles.map(Handle::raw);
                 value(entries)
             }
             Call::Release(h) => unit(pool.release(Handle::from_raw(h))),
@@ -130,10 +140,89 @@ impl Buffers {
             Call::Measure(h) => value(pool.measure(Handle::from_raw(h))),
             Call::Report => pool.report().map_or_else(Answer::Refused, Answer::Totals),
             Call::Store(at, byte) => {
-                arena[at] = byte;
+                $arena[at] = byte;
                 Answer::Done
             }
         }
+    }};
+}
+
+impl Record for Totals {
+    const ENGINE: &'static str = "first";
+
+    fn old(old: u8) -> Totals {
+        let n = usize::from(old);
+        Totals { live_blocks: n, requested_bytes: n + 1, rows_held: n + 2, rows_free: n + 3, ready_slots: n + 4, waiting_slots: n + 5 }
+    }
+
+    fn room_len(arena_len: usize) -> usize {
+        room_len(arena_len)
+    }
+
+    fn saying(tables: &Tables) -> (Vec<u8>, Totals) {
+        (tables.write(), tables.totals())
+    }
+
+    fn call(Buffers { arena, room, totals }: &mut Buffers, lent: &mut Lent, call: Call) -> Answer {
+        answer!(Pool(arena, room, totals), lent, call)
+    }
+}
+
+impl Record for () {
+    const ENGINE: &'static str = "plain";
+
+    fn old(_: u8) {}
+
+    fn room_len(arena_len: usize) -> usize {
+        PlainPool::room_len(arena_len)
+    }
+
+    fn saying(tables: &Tables) -> (Vec<u8>, ()) {
+        (tables.write_plain(), ())
+    }
+
+    fn call(Buffers { arena, room, .. }: &mut Buffers<()>, lent: &mut Lent, call: Call) -> Answer {
+        answer!(PlainPool(arena, room), lent, call)
+    }
+}
+
+impl<R: Record> Buffers<R> {
+    /// Buffers of a lawful length and a record, with old bytes and numbers in them.
+    pub fn old(arena_len: usize, old: u8) -> Buffers<R> {
+        Buffers { arena: vec![old; arena_len], room: vec![!old; R::room_len(arena_len)], totals: R::old(old) }
+    }
+
+    /// The engine's answer to a call.
+    pub fn call(&mut self, lent: &mut Lent, call: Call) -> Answer {
+        R::call(self, lent, call)
+    }
+
+    /// Says what is wrong after a call: an answer that is not the one due, anything that is not as the second implementation left it, or a change by
+    /// a refusal.
+    fn compare(&mut self, before: Buffers<R>, answer: Answer, due: Answer, second: &Reference) -> Result<(), String> {
+        let engine = R::ENGINE;
+        if answer != due {
+            return Err(format!("the {engine} engine answers {answer:?}, the second implementation {due:?}"));
+        }
+        if self.arena != second.arena {
+            let at = (0..self.arena.len()).find(|&i| self.arena[i] != second.arena[i]).unwrap();
+            return Err(format!("byte {at} of the {engine} engine's arena is {} and should be {}", self.arena[at], second.arena[at]));
+        }
+        let (room, record) = R::saying(&second.tables());
+        if self.room != room {
+            return Err(format!("the tables of the {engine} engine differ"));
+        }
+        if self.totals != record {
+            return Err(format!("{answer:?}: the record is {:?} and should be {record:?}", self.totals));
+        }
+        if matches!(answer, Answer::Refused(_)) && *self != before {
+            return Err(format!("the {engine} engine refuses, and something changed"));
+        }
+        let (told, totals) = (self.call(&mut lent(), Call::Report), second.report());
+        if told != Answer::Totals(totals) {
+            return Err(format!("report of the {engine} engine gives {told:?} and should give {totals:?}"));
+        }
+        Ok(())
     }
 }
 
@@ -158,12 +247,14 @@ fn second(pool: &mut Reference, lent: &mut Lent, call: Call) -> Answer {
     }
 }
 
-/// One pool in two implementations.
+/// One pool in both implementations, the library's by each of its engines.
+#[derive(Clone)]
 pub struct Both {
     pub first: Buffers,
+    pub plain: Buffers<()>,
     pub second: Reference,
     /// The lent list after the last call, in each.
-    pub lent: [Lent; 2],
+    pub lent: [Lent; 3],
     /// Handles of blocks that were released or moved, the latest last; of a long run no more than the latest.
     pub old: Vec<usize>,
 }
@@ -172,58 +263,37 @@ impl Both {
     /// How many old handles are kept.
     const MOST_OLD: usize = 64;
 
-    /// A fresh pool, set up over old bytes and numbers.
+    /// A fresh pool, set up over old bytes and numbers, which differ between the engines.
     pub fn new(arena_len: usize, old: u8) -> Both {
-        let mut both = Both::over(&Buffers::old(arena_len, old), Reference::set_up(arena_len));
+        let second = Reference::set_up(arena_len);
+        let (first, plain) = (Buffers::old(arena_len, old), Buffers::old(arena_len, !old));
+        let mut both = Both { first, plain, second, lent: [lent(); 3], old: Vec::new() };
         both.call(Call::SetUp).expect("a lawful arena");
         both
     }
 
-    /// A copy of some buffers, beside a pool of the second implementation.
-    pub fn over(first: &Buffers, second: Reference) -> Both {
-        Both { first: first.clone(), second, lent: [lent(); 2], old: Vec::new() }
-    }
-
-    /// Makes a call in both and gives the two answers.
-    pub fn make(&mut self, call: Call) -> (Answer, Answer) {
-        self.lent = [lent(); 2];
-        let answers = (self.first.call(&mut self.lent[0], call), second(&mut self.second, &mut self.lent[1], call));
-        self.old.extend(ended(call, answers.1));
+    /// Makes a call in each and gives the answers, the second implementation's last.
+    pub fn make(&mut self, call: Call) -> [Answer; 3] {
+        self.lent = [lent(); 3];
+        let [first, plain, second_lent] = &mut self.lent;
+        let answers = [self.first.call(first, call), self.plain.call(plain, call), second(&mut self.second, second_lent, call)];
+        self.old.extend(ended(call, answers[2]));
         self.old.drain(..self.old.len().saturating_sub(Both::MOST_OLD));
         answers
     }
 
-    /// Makes a call in both and gives its answer, or says where they differ or what should not have changed.
+    /// Makes a call in each and gives its answer, or says where they differ or what should not have changed.
     pub fn call(&mut self, call: Call) -> Result<Answer, String> {
-        let before = self.first.clone();
-        let (first, second) = self.make(call);
-        if first != second {
-            return Err(format!("{call:?}: the library answers {first:?}, the second implementation {second:?}"));
+        let (first, plain) = (self.first.clone(), self.plain.clone());
+        let answers = self.make(call);
+        let due = answers[2];
+        let right = self.first.compare(first, answers[0], due, &self.second);
+        right.and_then(|()| self.plain.compare(plain, answers[1], due, &self.second)).map_err(|why| format!("{call:?}: {why}"))?;
+        let (before, [first, plain, written]): (Lent, _) = (lent(), self.lent);
+        let entries = entries(call, due);
+        if [first, plain] != [written; 2] || written[entries..] != before[entries..] {
+            return Err(format!("{call:?}: {due:?}: the lent lists are {first:?} and {plain:?} and should be {written:?}"));
         }
-        let Buffers { arena, room, totals } = &self.first;
-        if *arena != self.second.arena {
-            let at = (0..arena.len()).find(|&i| arena[i] != self.second.arena[i]).unwrap();
-            return Err(format!("{call:?}: byte {at} is {} and should be {}", arena[at], self.second.arena[at]));
-        }
-        if *room != self.second.tables().write() {
-            return Err(format!("{call:?}: the tables differ"));
-        }
-        let due = self.second.report();
-        if *totals != due {
-            return Err(format!("{call:?}: {first:?}: the record is {totals:?} and should be {due:?}"));
-        }
-        if matches!(first, Answer::Refused(_)) && self.first != before {
-            return Err(format!("{call:?}: refused, and something changed"));
-        }
-        let (before, [after, written]): (Lent, _) = (lent(), self.lent);
-        let entries = entries(call, first);
-        if after != written || after[entries..] != before[entries..] {
-            return Err(format!("{call:?}: {first:?}: the lent list is {after:?} and should be {written:?}"));
-        }
-        let told = self.first.call(&mut lent(), Call::Report);
-        if told != Answer::Totals(due) {
-            return Err(format!("{call:?}: report gives {told:?} and should give {due:?}"));
-        }
-        Ok(first)
+        Ok(due)
     }
 }

@@ -1,9 +1,12 @@
-//! Tables that no calls have made.
+//! Tables that no calls have made, in each engine's form.
 
-use crate::common::{Both, Buffers};
-use slotpool_reference::Tables;
+use crate::any::over_any;
+use crate::common::{Both, Call};
+use std::fmt::Arguments;
 
-/// A pool's buffers with tables in its room, and the record that is due beside those.
-pub fn saying(both: &Both, tables: &Tables) -> Buffers {
-    Buffers { room: tables.write(), totals: tables.totals(), ..both.first.clone() }
+/// Makes each call over the buffers of each engine. Gives whether the tables are sound, on which the forms must agree.
+pub fn over_each(both: &Both, calls: &[Call], told: Arguments) -> bool {
+    let sound = over_any(&both.first, calls, told);
+    assert_eq!(over_any(&both.plain, calls, told), sound, "{told}: whether the tables are sound in the plain form, and in the other");
+    sound
 }
