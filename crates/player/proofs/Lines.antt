@@ -50,7 +50,9 @@ module _ (a : List ℕ) (t : KeptBytes) where
       let q = sound-facts byMasks rowBytes (length a) (t .tables) (true-T (sound rowBytes (length a) (t .tables)) (kept-sound rowBytes (length a) t e)) in
       let n : length a ≤ 262144 = leb→le (length a) 262144 (let l = q .lawful in search (and-left, and-right)) in
       let f = totals-few rowBytes (lit≤ tt) P (q .formed) (omega (arith, q .long)) in
-      subst short (sym (ap (λ (r : Result). r .answer) (call-sound rowBytes (engine rowBytes) a t e reports tt ∙ carried-whole rowBytes (engine rowBytes) a t (report rowBytes P) refl)))
+      subst short
+      (sym (ap (λ (r : Result). r .answer)
+      (call-sound rowBytes (engine rowBytes) a t e reports tt ∙ carried-whole rowBytes (engine rowBytes) a t (report rowBytes P) refl)))
       (few-short (totals rowBytes P) f)
 
   pub report-short : short (call rowBytes a t reports .answer)

@@ -26,7 +26,8 @@ returns z =
     let w = c .before .sound in
     let a = c .before .before .before .before .before .before .before .args in
     refused-parts Unsound (now (a .handles)) (z .refused .ensures)
-    (call-unsound rowBytes (engine rowBytes) (now (a .arena)) (keptIn (now (a .room)) (a .t)) (grantsList (a .total) (a .cap) (length (now (a .handles))) (now (a .sizes))) tt
+    (call-unsound rowBytes (engine rowBytes) (now (a .arena)) (keptIn (now (a .room)) (a .t))
+    (grantsList (a .total) (a .cap) (length (now (a .handles))) (now (a .sizes))) tt
     (sym (w .ensures) ∙ not-true (w .result) (c .if1 .taken)))
 
 -- the tables are sound

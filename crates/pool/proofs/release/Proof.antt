@@ -18,7 +18,8 @@ returns d =
     let c = d .before in
     let a = c .before .before .before .before .before .args in
     let w = c .before .sound in
-    refused-as (d .refused .ensures) (parts (sym (call-unsound rowBytes (engine rowBytes) (now (a .arena)) (keptIn (now (a .room)) (a .t)) (releases (a .handle)) tt
+    refused-as (d .refused .ensures)
+    (parts (sym (call-unsound rowBytes (engine rowBytes) (now (a .arena)) (keptIn (now (a .room)) (a .t)) (releases (a .handle)) tt
     (sym (w .ensures) ∙ not-true (w .result) (c .if1 .taken)))))
 
 -- the tables are sound
