@@ -45,11 +45,11 @@ module _ (row : ℕ) where
       let m = model (p .pool) cs in
       record { answers = p .answer ∷ m .answers; pool = m .pool }
 
-  -- "The model is fed the lengths of arena and table room": the rows of its first state are the arena's length over the row's. The room's
-  -- length is one formula of the arena's, so it tells nothing more.
+  -- "The model is fed the lengths of arena and table room": the rows of its first state are the arena's length over the row's.
   abbrev pub fed : ℕ → Pool
   fed n = freshPool (n / row)
 
+  -- The room's length is one formula of the arena's, so it tells nothing more; the room's bytes are those of what is lent but the record.
   abbrev pub RoomFollows : (F : Form) → (F .Room → List ℕ) → Type 0
   RoomFollows F bytes = (a : List ℕ) (t : F .Room) → T (setUpRightBy row F a t) → length (bytes t) ≡ roomFor row (length a)
 
