@@ -1,6 +1,6 @@
 -- What the walk notes of one span, and that it has noted all at its end.
-use Rattle.mem.proofs.Prelude.{_∙_, _≡_, sym, ap, refl, subst, true, false, not, ⊎-elim, List, [], _∷_, _++_, append-assoc, append-nil, _+_, ℕ, _<_, _≤_, _*_}
-use Rattle.mem.proofs.Prelude.{_-_, _/_, sub-zero, arith, T, eqb, eqb-true, eqb-false, ltb→lt, length, drop, getD, length-append, set, length-set, ones}
+use Rattle.mem.proofs.Prelude.{_∙_, _≡_, sym, ap, refl, subst, not, ⊎-elim, List, [], _∷_, _++_, append-assoc, append-nil, _+_, ℕ, _<_, _≤_, _*_}
+use Rattle.mem.proofs.Prelude.{_-_, _/_, sub-zero, arith, T, eqb, eqb-true, eqb-false, ltb→lt, length, drop, getD, length-append, set, length-set}
 use denote.Enum.Declared.{tagOf}
 use types.Run.{OneOf}
 use lib.Seq.{take-at, set-at, getD-set-same, getD-set-other}
@@ -14,12 +14,12 @@ use Rattle.model.specs.declared.Slot.the-variants.{Fresh, Idle, Live}
 use Rattle.model.specs.declared.Holder.{Holder}
 use Rattle.model.specs.declared.Holder.the-variants.{First}
 use Rattle.model.proofs.Holder.{the-type}
-use Rattle.model.specs.State.{Span, Pool, free, group, isReady, isWaiting, isLive, spanSound, wellFormed, rows, rowsIn}
+use Rattle.model.specs.State.{Span, Pool, free, group, isLive, spanSound, wellFormed, rows, rowsIn}
 use Rattle.model.specs.Tables.{Layout, rowAt, viewBy, viewHolder, rowRecordBytes}
 use Rattle.model.proofs.Tables.{group-few}
 use Rattle.model.proofs.Rooms.{rows-append}
 use Rattle.rows.specs.Rows.{Lent}
-use Rattle.rows.proofs.Rooms.{holderOf, some-rows, row-count, few-rows, row-inside, facts, before-sound, span-sound, span-rows, span-from, span-holder}
+use Rattle.rows.proofs.Rooms.{holderOf, some-rows, row-count, few-rows, row-inside, facts, before-sound, span-sound, span-rows, span-holder}
 use Rattle.serving.specs.Survey.{openIn, openSlots, rowMap, mapOf, Tells}
 use Rattle.serving.specs.Walk.{Next, Noted}
 

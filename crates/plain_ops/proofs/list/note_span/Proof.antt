@@ -1,9 +1,6 @@
 -- `note_span` meets its contract.
-use Rattle.mem.proofs.Prelude.{_∙_, _≡_, ap₂, _-_, _≤_, arith, now, needs, drop}
-use Rattle.classes.specs.Classes.{slotsOf}
+use Rattle.mem.proofs.Prelude.{_≤_, arith, now, needs, drop}
 use Rattle.model.specs.Tables.{rowAt}
-use Rattle.model.specs.Plain.{plainGroup}
-use Rattle.plain_tables.specs.Found.{liveIn}
 use Rattle.serving.proofs.Notes.{Countable, span-inside, span-place, free-next, countable, group-next}
 use Rattle.plain_ops.proofs.Idle.{live-inside, slots-idle}
 use Rattle.plain_ops.proofs.list.note_span.Statement.{statement}
