@@ -13,14 +13,14 @@ use Rattle.model.specs.Plans.{Call, grantsAligned, displaced, grantSlot, grantA
 use Rattle.model.specs.Calls.{Form, FormLaws, Outcome, Stands, applied, callBy, checkedBy}
 use Rattle.model.proofs.Fresh.{whole-units}
 use Rattle.model.proofs.Bounds.{rounded, grant-aligned, begins-on-unit}
-use Rattle.model.proofs.Reserve.{reserve-align}
+use Rattle.model.proofs.Reserve.{served, reserve-align}
 use Rattle.claims.specs.Demand1.{order, FirstDue, NoAlignment, Due}
 use Rattle.claims.specs.Demand2.{GrantedBy, GrantedAligned, AlignedExactly, AlignedAsSaid, AlignedOrdinary}
 use Rattle.claims.proofs.Codes.{power-code, coded-power, align-code, enlarged-code}
 use Rattle.claims.proofs.Cases.{refuses, on-aligned}
 use Rattle.claims.proofs.Demand1.{demand1}
 use Rattle.claims.proofs.Demand2.{none-due, Accepted, accepted, granted-by}
-use Rattle.claims.proofs.Boundaries.{live-aligned}
+use Rattle.claims.proofs.Soundness.{live-aligned}
 
 -- ---- up to 16
 
@@ -135,11 +135,12 @@ aligned-as-said row pos F L a t n b z =
         let g : GrantedBy row F a t asks k n (classOf (n + (b - 16))) q =
         subst (λ x. GrantedBy row F a t asks k n (classOf x) q) i (granted-by row pos F L a t asks k n stands q h e l) in
         let u : row % 16 ≡ 0 = whole-units row (length a) (stands .lawful) in
-        let x : start row q % max 16 b ≡ 0 = subst (λ y. start row q % y ≡ 0) m (start-multiple row q _ k n (g .old) (g .state) u (h .some-code)) in
+        let s = served row P k n q (stands .formed) e .taken in
+        let x : start row q % max 16 b ≡ 0 = subst (λ y. start row q % y ≡ 0) m (start-multiple row q _ k n (s .old) (s .state) u (h .some-code)) in
         record {
           granted = g;
           multiple = subst (λ y. start row q % y ≡ 0) (sym p) (whole-part (start row q) j (subst (λ y. start row q % max 16 y ≡ 0) p x));
           after = omega arith;
-          lowest = λ o. omega (arith, m, start-lowest row q _ k n (g .old) (g .state) u (over-ordinary k (omega (arith, m, o))));
+          lowest = λ o. omega (arith, m, start-lowest row q _ k n (s .old) (s .state) u (over-ordinary k (omega (arith, m, o))));
           kept = ap alignOf (reserve-align row P k n q (stands .formed) e) ∙ m;
         }

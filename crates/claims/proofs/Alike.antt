@@ -1,19 +1,20 @@
 -- Two lawful forms are alike: each run is seen as the steps on the state alone.
 use Rattle.mem.proofs.Prelude.{_∙_, _≡_, sym, ap, refl, subst, List, [], _∷_, ℕ, _<_, _/_, arith, T, length}
 use Rattle.mem.specs.Bytes.{zeros, put}
-use Rattle.mem.proofs.Tests.{and-left, choose-true, T-true}
 use Rattle.mem.proofs.Laws.{put-length, zeros-length}
 use Rattle.model.specs.State.{Pool}
 use Rattle.model.specs.Answers.{done}
-use Rattle.model.specs.Plans.{freshPool}
+use Rattle.model.specs.Plans.{setsUp, freshPool}
 use Rattle.model.specs.Tables.{byMasks}
-use Rattle.model.specs.Calls.{Form, Outcome, Stands, FormLaws, engine, callBy, setUpBy, setUpRightBy}
+use Rattle.model.specs.Calls.{Form, Outcome, Stands, FormLaws, engine, callBy, setUpRightBy}
 use Rattle.model.specs.Plain.{plainForm}
+use Rattle.model.proofs.Fresh.{set-up-lawful, set-up-done}
 use Rattle.model.proofs.Tables.{masks-laws}
 use Rattle.model.proofs.Plain.{plain-lawful}
 use Rattle.model.proofs.Kept.{layout-lawful, engine-lawful}
 use Rattle.model.proofs.Forms.{step, inRoom, call-step, Standing, step-stands, fresh-stands}
-use Rattle.claims.specs.Alike.{Store, stored, Round, Seen, seen, FormsAlike, FirstLawful, MaskedLawful, SecondLawful, TwoEngines, StoresAnywhere}
+use Rattle.claims.specs.Alike.{Store, stored, Round, Seen, seen, seenFresh, FormsAlike, FirstLawful, MaskedLawful, SecondLawful, TwoEngines, StoresAnywhere}
+use Rattle.claims.proofs.Demand2.{set-up-accepted}
 
 stored-length : (a : List ℕ) (ss : List Store) → length (stored a ss) ≡ length a
 stored-length a [] = refl
@@ -47,18 +48,22 @@ module _ (row : ℕ) (pos : 0 < row) where
       ∙ ap (λ (vs : List Seen). record { answer = step row b P (u .asks) .answer; arena = step row b P (u .asks) .arena } ∷ vs)
       (run-watched F L n (step row b P (u .asks) .arena) (step row b P (u .asks) .room) us (k .long) (k .stands))
 
-  set-up-watched : (F : Form) → FormLaws row F → (a : List ℕ) (t : F .Room) (us : List Round) → T (setUpRightBy row F a t)
-      → seen row F (setUpBy row F a t .arena) (setUpBy row F a t .room) us ≡ watched (zeros (length a)) (freshPool (length a / row)) us
-  unfolding setUpBy setUpRightBy
-  set-up-watched F L a t us h =
-      let d : setUpBy row F a t ≡ record { answer = done (0 ∷ []); arena = zeros (length a); room = F .encode (freshPool (length a / row)) } =
-      choose-true (setUpRightBy row F a t) _ _ (T-true (setUpRightBy row F a t) h) in
-      ap (λ (r : Outcome (F .Room)). seen row F (r .arena) (r .room) us) d
-      ∙ run-watched F L (length a) (zeros (length a)) (freshPool (length a / row)) us (zeros-length (length a)) (fresh-stands row (length a) (search and-left))
+  -- from a set up of an arena of n bytes on
+  abbrev watchedFresh : ℕ → List Round → List Seen
+  watchedFresh n us = record { answer = done (0 ∷ []); arena = zeros n } ∷ watched (zeros n) (freshPool (n / row)) us
+
+  set-up-watched : (F : Form) → FormLaws row F → (a : List ℕ) (t : F .Room) (us : List Round) → callBy row F a t setsUp .answer .number ≡ 0
+      → seenFresh row F a t us ≡ watchedFresh (length a) us
+  unfolding callBy
+  set-up-watched F L a t us z =
+      let h : T (setUpRightBy row F a t) = set-up-accepted row pos F L a t z in
+      let s : Stands row (length a) (freshPool (length a / row)) = fresh-stands row (length a) (set-up-lawful row F a t h) in
+      ap (λ (r : Outcome (F .Room)). record { answer = r .answer; arena = r .arena } ∷ seen row F (r .arena) (r .room) us) (set-up-done row F a t h)
+      ∙ ap (λ (vs : List Seen). record { answer = done (0 ∷ []); arena = zeros (length a) } ∷ vs)
+      (run-watched F L (length a) (zeros (length a)) (freshPool (length a / row)) us (zeros-length (length a)) s)
 
   pub forms-alike : FormsAlike row
-  forms-alike F G L M a b t v us h k e =
-      set-up-watched F L a t us h ∙ ap (λ n. watched (zeros n) (freshPool (n / row)) us) e ∙ sym (set-up-watched G M b v us k)
+  forms-alike F G L M a b t v us h k e = set-up-watched F L a t us h ∙ ap (λ n. watchedFresh n us) e ∙ sym (set-up-watched G M b v us k)
 
   pub first-lawful : FirstLawful row
   first-lawful = engine-lawful row pos

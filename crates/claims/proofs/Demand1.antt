@@ -27,7 +27,8 @@ use Rattle.model.specs.Calls.{Form, FormLaws, Stands, Outcome, keeps, applied, 
 use Rattle.model.proofs.Lookup.{fits, lookup-start, lookup-found}
 use Rattle.model.proofs.Formed.{code-kept}
 use Rattle.model.proofs.Lowest.{reserve-none, reserve-some}
-use Rattle.claims.specs.Demand1.{order, handleIn, FirstDue, refusedValues, StartsAt, LiveAt, headerDue, guardDue, TooLargeFor, Due, Demand1}
+use Rattle.claims.specs.Demand1.{Serves, order, handleIn, FirstDue, refusedValues, StartsAt, LiveAt, headerDue, guardDue, TooLargeFor, Due, Demand1}
+use Rattle.claims.proofs.Serves.{in-place-serves}
 use Rattle.claims.proofs.Codes.{no-code, some-code, enlarged-align, enlarged-code}
 use Rattle.model.proofs.Handles.{by-bits}
 use Rattle.claims.proofs.Cases.{release-parts}
@@ -71,10 +72,16 @@ module _ (row : ℕ) (pos : 0 < row) (P : Pool) (o : ℕ) where
   starts-alike M p q w s r m = subst (λ x. T (M x)) (starts-same p q w s r) m
 
   -- the enlarged size of a live block
+  live-code : (p : Place) → T (wellFormed P) → LiveAt row P o p → 1 ≤ align (p .state)
+  live-code p w l =
+      let f = fits p (subst (λ Q. T (wellFormed Q)) (sym (l .here .slotted .pool)) w) in code-kept (p .cls) (p .state) (l .live) (f .state) .0
+
   pub live-enlarged : (p : Place) (n : ℕ) → T (wellFormed P) → LiveAt row P o p → enlarged (align (p .state)) n ≡ n + (alignOf (align (p .state)) - 16)
-  live-enlarged p n w l =
-      let f = fits p (subst (λ Q. T (wellFormed Q)) (sym (l .here .slotted .pool)) w) in
-      enlarged-align (align (p .state)) n (code-kept (p .cls) (p .state) (l .live) (f .state) .0)
+  live-enlarged p n w l = enlarged-align (align (p .state)) n (live-code p w l)
+
+  -- and what serves it in place
+  pub live-serves : (p : Place) (n : ℕ) → T (wellFormed P) → LiveAt row P o p → T (inPlace p n) ↔ Serves p n
+  live-serves p n w l = in-place-serves p n (live-code p w l)
 
 -- answer 3 of a resize, by what is found at the start of its handle
 module _ (row : ℕ) (pos : 0 < row) (P : Pool) (h : ℕ) where
@@ -259,7 +266,7 @@ module _ (row : ℕ) (pos : 0 < row) (F : Form) (L : FormLaws row F) (a : List �
         small-right s c refl (blockFirst (NoRoom ∷ [])) _ (newSize (lookup row P o) n) (resize-large row pos P h n (s .0 .formed))
         (block-right s c refl (NoRoom ∷ []) (resizeAt row P n)
         (λ p. choose-case (M p) (inPlace p n) (resizeInPlace row p n) (resizeMove row P p n)
-        (λ e. (refl, λ l. later-right c NoRoom [] _ (λ (q, m, d, _). T-not (inPlace q n) d (fitting p q e l m)) (done-right c _ refl)))
+        (λ e. (refl, λ l. later-right c NoRoom [] _ (λ (q, m, d, _). d (fitting p q e l m)) (done-right c _ refl)))
         (λ e. room p e (reserve row P (align (p .state)) n) refl)))
       where
         c : Call
@@ -272,8 +279,10 @@ module _ (row : ℕ) (pos : 0 < row) (F : Form) (L : FormLaws row F) (a : List �
         M p z = (z .checks ≡ some p) × (LiveAt row P o p → Right c (NoRoom ∷ []) (applied F a z))
 
         -- the block at the start is but one
-        fitting : (p q : Place) → inPlace p n ≡ true → LiveAt row P o p → LiveAt row P o q → T (inPlace q n)
-        fitting p q e l m = starts-alike row pos P o (λ z. inPlace z n) p q (s .0 .formed) (l .here) (m .here) (true-T (inPlace p n) e)
+        fitting : (p q : Place) → inPlace p n ≡ true → LiveAt row P o p → LiveAt row P o q → Serves q n
+        fitting p q e l m =
+            live-serves row pos P o q n (s .0 .formed) m .0
+            (starts-alike row pos P o (λ z. inPlace z n) p q (s .0 .formed) (l .here) (m .here) (true-T (inPlace p n) e))
 
         -- there is no place for a size
         Full : ℕ → Type 0
@@ -283,7 +292,7 @@ module _ (row : ℕ) (pos : 0 < row) (F : Form) (L : FormLaws row F) (a : List �
         room p e none f = (
           refl,
           λ l. due-right c NoRoom [] refl (sym (s .1))
-              (p, l, rw e tt, subst Full (live-enlarged row pos P o p n (s .0 .formed) l) (reserve-none row pos P (align (p .state)) n f)),
+              (p, l, λ v. subst T e (live-serves row pos P o p n (s .0 .formed) l .1 v), subst Full (live-enlarged row pos P o p n (s .0 .formed) l) (reserve-none row pos P (align (p .state)) n f)),
         )
         room p e (some q) f = (
           refl,

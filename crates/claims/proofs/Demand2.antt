@@ -1,23 +1,26 @@
 -- Demand 2: release, measure and grant accept exactly what document 01 says, a granted block is where and what it says, and live blocks
 -- never share a byte.
 use Rattle.mem.proofs.Prelude.{_∙_, _≡_, sym, ap, refl, ap₂, subst, true, Bool, false, not, ⊎-elim, inl, inr, _⊎_, some, none, Option, List, [], _∷_, _++_, ℕ}
-use Rattle.mem.proofs.Prelude.{_<_, _≤_, _+_, _*_, _%_, arith, T, T-not, eqb, eq-eqb, eqb→eq, lit≤, length}
+use Rattle.mem.proofs.Prelude.{_<_, _≤_, _+_, _*_, _%_, arith, le-leb, leb, T, T-not, eqb, eq-eqb, eqb→eq, lit≤, length, length-map, map, getD}
 use mathlib.Core.Logic.{_↔_}
-use Rattle.mem.specs.Lists.{choose, first}
+use lib.ListN.{List·getD-map}
+use Rattle.mem.specs.Lists.{choose, any, first}
 use Rattle.mem.specs.Bytes.{put}
-use Rattle.mem.proofs.Tests.{T-true, eq→eqb}
+use Rattle.mem.proofs.Tests.{T-true, eq→eqb, none-any, choose-true, choose-false}
 use Rattle.mem.proofs.Laws.{zeros-length}
 use Rattle.classes.specs.Classes.{classOf, rowsOf, tooLarge}
 use Rattle.classes.specs.Alignments.{ordinary, enlarged, Askable}
+use Rattle.model.specs.declared.Slot.{Slot}
+use Rattle.model.specs.declared.Slot.the-variants.{Fresh, Idle, Live}
 use Rattle.model.specs.declared.Refusal.{Refusal}
 use Rattle.model.specs.declared.Refusal.the-variants.{Unsound, AlreadyFree, Stale, HeaderDamaged, Overrun}
 use Rattle.model.specs.declared.Damage.{Damage}
 use Rattle.model.specs.declared.Damage.the-variants.{Intact, Damaged}
-use Rattle.model.specs.State.{Pool, Place, group, isLive, isReady, count, disp, size, wellFormed, useBits, startOf, poolOf, slotNumber, rows, owned, start}
-use Rattle.model.specs.State.{handle}
+use Rattle.model.specs.State.{Pool, Place, group, isLive, isReady, count, disp, size, wellFormed, useBits, startOf, poolOf, slotNumber, rows}
+use Rattle.model.specs.State.{beginning, owned, start, handle}
 use Rattle.model.specs.Blocks.{frame, damageIn}
 use Rattle.model.specs.Answers.{refusal}
-use Rattle.model.specs.Plans.{Plan, Site, freshPool, AllLive, NoPlace, plan, reserve, grantSlot, enframe}
+use Rattle.model.specs.Plans.{Plan, Site, freshPool, AllLive, NoPlace, plan, reserve, turnReady, refill, displaced, grantSlot, enframe}
 use Rattle.model.specs.Plans.{Call, setsUp, grants, grantsAligned, releases, resizes, measures, reports, grantsList}
 use Rattle.model.specs.Plans.{grantAt, grantIn, lookup}
 use Rattle.model.specs.Calls.{Form, FormLaws, Outcome, Stands, applied, keeps, damaged, setUpRightBy, callBy, carriedBy, checkedBy, unless}
@@ -25,14 +28,17 @@ use Rattle.model.proofs.Fresh.{whole-units, set-up-done, set-up-sound}
 use Rattle.model.proofs.Forms.{step, call-step, Standing, step-stands}
 use Rattle.model.proofs.Calls.{Asks, call-sound}
 use Rattle.model.proofs.Lookup.{All, Fits, fits, disp-inside, owned-inside, Owns, owned-unique}
-use Rattle.model.proofs.Reserve.{Served, served, reserve-formed, reserve-size}
+use Rattle.model.proofs.Reserve.{Served, served, Granted, reserve-formed}
+use Rattle.model.proofs.Moves.{live-granted}
 use Rattle.model.proofs.Lowest.{site-lowest, first-lowest}
 use Rattle.claims.specs.Demand1.{order, handleIn, FirstDue, StartsAt, LiveAt, headerDue, guardDue, Due}
 use Rattle.claims.specs.Demand2 as demand2
-use Rattle.claims.specs.Demand2.{ReleasesExactly, MeasuresExactly, GrantsExactly, GrantedBy, GrantsAsSaid, InBlock, NeverShared, LeavesSound}
+use Rattle.claims.specs.Demand2.{ReleasesExactly, MeasuresExactly, GrantsExactly, TurnsReady, Refilled, LaidOut, GrantedBy, GrantsAsSaid, InBlock}
+use Rattle.claims.specs.Demand2.{NeverShared, LeavesSound}
 use Rattle.model.proofs.Handles.{stepped-bits, start-cleared, by-bits}
-use Rattle.claims.proofs.Cases.{refuses, by-call, on-grant}
+use Rattle.claims.proofs.Cases.{refuses, by-call, on-grant, reserve-live}
 use Rattle.claims.proofs.Demand1.{blockFirst, starts-found, none-starts, starts-same, starts-alike, found-starts, demand1}
+use Rattle.claims.proofs.Frames.{laid-out, laid-header, laid-guard}
 
 -- what is not refuted passes the test
 unrefuted : (b : Bool) → (T (not b) → ⊥) → T b
@@ -213,6 +219,27 @@ grants-exactly row pos F L a t n = (
     why (inr (_, inr (_, inl (_, x)))) z = inr (inr x)
     why (inr (_, inr (_, inr (_, e)))) z = absurd (z e)
 
+-- ---- a refill is document 01's
+
+turns-ready : (x : Slot) → TurnsReady x (turnReady x)
+turns-ready Fresh = record { waits = λ w. absurd w; stays = λ _. refl }
+turns-ready (Idle true k d) = record { waits = λ w. absurd w; stays = λ _. refl }
+turns-ready (Idle false k d) = record { waits = λ _. refl; stays = λ s. absurd s }
+turns-ready (Live a) = record { waits = λ w. absurd w; stays = λ _. refl }
+
+refilled : (ss : List Slot) → Refilled ss (refill ss)
+unfolding refill
+refilled ss = record {
+  some-ready = λ t. choose-true (any isReady ss) ss (map turnReady ss) (T-true (any isReady ss) t);
+  none-ready = λ t.
+      let e : refill ss ≡ map turnReady ss = choose-false (any isReady ss) ss (map turnReady ss) (none-any isReady ss t) in (
+        ap length e ∙ length-map ss turnReady,
+        λ i. subst (TurnsReady (getD ss i Fresh)) (sym (ap (λ l. getD l i Fresh) e ∙ List·getD-map turnReady ss i Fresh)) (turns-ready (getD ss i Fresh)),
+      );
+}
+
+-- ---- what a grant leaves
+
 -- a block that a call grants with the code k is where and what document 01 says
 module _ (row : ℕ) (pos : 0 < row) (F : Form) (L : FormLaws row F) (a : List ℕ) (t : F .Room) (asks : Call) (k n : ℕ) where
   abbrev S : Pool
@@ -230,7 +257,11 @@ module _ (row : ℕ) (pos : 0 < row) (F : Form) (L : FormLaws row F) (a : List �
       let s : Site = v .at in
       let b : q .before ≡ s .before = ap (λ p. p .before) (v .place) in
       let f : q .after ≡ s .after = ap (λ p. p .after) (v .place) in
-      let m : size (q .state) ≡ n = reserve-size row S k n q w e in
+      let x : disp (q .state) ≡ displaced c k n (beginning row q) (count (v .taken .old)) = ap disp (v .taken .state) in
+      let live : T (isLive (q .state)) = reserve-live row S k n q v in
+      let made : Granted row S k n q = reserve-formed row S k n q w h e in
+      let long : length a ≡ row * rows row (poolOf q) = y .long ∙ ap (λ j. row * j) (sym (made .long)) in
+      let z : callBy row F a t asks .arena ≡ put (owned row q) (frame (q .cls) (slotNumber q) (disp (q .state)) (size (q .state))) a = ap (λ r. r .arena) l in
       record {
         slots = s .slots;
         served =
@@ -247,17 +278,30 @@ module _ (row : ℕ) (pos : 0 < row) (F : Form) (L : FormLaws row F) (a : List �
             }))
             (site-lowest row S c s (v .found));
         old = v .taken .old;
-        refilled = v .taken .slots;
+        refilled = subst (Refilled (s .slots)) (v .taken .slots) (refilled (s .slots));
         ready = v .taken .ready;
         lowest = first-lowest (q .lower) (v .taken .old) (q .upper) (v .taken .number ∙ ap (first isReady) (v .taken .slots));
-        state = v .taken .state;
         cls = ap (λ p. p .cls) (v .place);
-        bytes = m;
+        state = v .taken .state ∙ ap (λ d. Live (record { count = (count (v .taken .old) + 1) % 256; disp = d; size = n; align = k })) (sym x);
+        displaced = λ z. x ∙ choose-true (leb k ordinary) _ _ (le-leb k ordinary (omega (arith, z)));
         value = ap (λ r. r .answer .values) l;
         bits = ap (λ i. start row q + useBits i) (ap count (v .taken .state)) ∙ ap (λ i. start row q + i) (stepped-bits (count (v .taken .old)));
-        cleared = start-cleared row (whole-units row (length a) (y .lawful)) q;
-        pool = ap (λ r. F .view (r .room)) l ∙ L .says (poolOf q) (reserve-formed row S k n q w h e .formed);
-        arena = ap (λ r. r .arena) l ∙ ap (λ i. put (owned row q) (frame (q .cls) (slotNumber q) (disp (q .state)) i) a) m;
+        due = record {
+          live = record {
+            here = record {
+              slotted = record {
+                pool = sym (ap (λ r. F .view (r .room)) l ∙ L .says (poolOf q) (made .formed));
+                granted-once = live-granted (q .state) live;
+              };
+              starts = sym (start-cleared row (whole-units row (length a) (y .lawful)) q);
+            };
+            live = live;
+          };
+          present = refl;
+          header = subst (λ b. T (headerDue row b q)) (sym z) (laid-header row pos a q (made .formed) long);
+          guard = subst (λ b. T (guardDue row b q)) (sym z) (laid-guard row pos a q (made .formed) long);
+        };
+        bytes = subst (λ b. LaidOut row a b q) (sym z) (laid-out row pos a q (made .formed) long);
       }
 
 pub grants-as-said : (row : ℕ) → 0 < row → (F : Form) → FormLaws row F → GrantsAsSaid row F

@@ -1,25 +1,26 @@
 -- Packet contents steer nothing: demand 3, for rows of every size.
-use Rattle.mem.proofs.Prelude.{_∙_, _≡_, sym, ap, refl, ap₂, subst, not, List, [], _∷_, ℕ, _<_, _*_, _/_, mul-div-cancel-left, T, eqb, eqb→eq, T-not, length}
+use Rattle.mem.proofs.Prelude.{_∙_, _≡_, sym, ap, refl, ap₂, subst, true, false, Bool, not, List, [], _∷_, ℕ, _<_, _*_, _/_, mul-div-cancel-left, T, T-not, length}
 use Rattle.mem.proofs.Prelude.{length-set}
 use lib.Seq.{getD-set-other}
 use Rattle.mem.specs.Bytes.{zeros, put}
-use Rattle.mem.proofs.Tests.{T-true, and-right, choose-true}
+use Rattle.mem.proofs.Tests.{T-true, true-T}
 use Rattle.mem.proofs.Laws.{zeros-length}
-use Rattle.model.specs.State.{Pool, wellFormed, aligned, rows}
+use Rattle.model.specs.State.{Pool, Place, wellFormed, aligned, rows}
 use Rattle.model.specs.Answers.{done, listed}
-use Rattle.model.specs.Plans.{Plan, Call, setsUp, reports, plan, report, totals}
-use Rattle.model.specs.Tables.{arenaRight, roomBytes, roomFor}
-use Rattle.model.specs.Calls.{Form, FormLaws, Outcome, Stands, applied, written, carriedBy, setUpBy, setUpRightBy, callBy}
-use Rattle.model.proofs.Fresh.{fresh-formed, all-fresh, whole-rows, whole-units, set-up-lawful, set-up-done}
+use Rattle.model.specs.Plans.{Plan, Call, setsUp, reports, plan, report, totals, freshPool}
+use Rattle.model.specs.Tables.{arenaRight}
+use Rattle.model.specs.Calls.{Form, FormLaws, Outcome, Stands, applied, written, carriedBy, setUpRightBy, callBy}
+use Rattle.model.proofs.Fresh.{fresh-rows, fresh-formed, all-fresh, whole-rows, whole-units, set-up-lawful, set-up-done}
 use Rattle.model.proofs.Formed.{Formed, plan-formed}
 use Rattle.model.proofs.Calls.{call-sound, carried-whole}
-use Rattle.model.proofs.Forms.{call-step}
-use Rattle.claims.specs.Demand3.{Turn, calls, model, fed, RoomFollows, requested, ran, ranFresh, reported, EngineOnly, AllCleared, AsModelled}
-use Rattle.claims.specs.Demand3.{SteersNothing, StoresAdmitted}
+use Rattle.model.proofs.Forms.{call-step, fresh-stands, plan-stands}
+use Rattle.claims.specs.Demand3.{Turn, calls, model, fed, modelFresh, requested, RequestedByte, StoresAdmitted, StoresOnly, ModelStands}
+use Rattle.claims.specs.Demand3.{ran, ranFresh, reported, EngineOnly, AllCleared, AsModelled, Run, SteersNothing}
 use Rattle.claims.proofs.Cases.{by-call}
 use Rattle.claims.proofs.Cells.{cells, Agrees}
 use Rattle.claims.proofs.Steps.{Kept, fresh-agrees, arena-length, set-up-zero, plan-kept}
-use Rattle.claims.proofs.Requested.{engine-keeps, outside}
+use Rattle.claims.proofs.Demand2.{set-up-accepted}
+use Rattle.claims.proofs.Requested.{requested-exactly, engine-keeps, outside}
 
 -- ---- one call
 
@@ -51,7 +52,10 @@ module _ (row : ℕ) (pos : 0 < row) (F : Form) (L : FormLaws row F) where
 
   -- it shows what the model shows, and leaves an arena that agrees with the model's tables
   record Follows (P : Pool) (a : List ℕ) (t : F .Room) (us : List Turn) : Type 0 where
-    modelled : AsModelled row F P a t us
+    answers : ran row F a t us .answers ≡ model row P (calls us) .answers
+    tables : ran row F a t us .room ≡ F .encode (model row P (calls us) .pool)
+    counted : reported row F (ran row F a t us) ≡ done (listed (totals row (model row P (calls us) .pool)))
+    cleared : AllCleared row F P a t us
     formed : T (wellFormed (model row P (calls us) .pool))
     agrees : Agrees (cells row (model row P (calls us) .pool)) (ran row F a t us .arena)
 
@@ -59,12 +63,10 @@ module _ (row : ℕ) (pos : 0 < row) (F : Form) (L : FormLaws row F) where
       → EngineOnly row F P a (F .encode P) us → Follows P a (F .encode P) us
   unfolding EngineOnly AllCleared ran model plan report
   follows P a [] w k h g t = record {
-    modelled = record {
-      answers = refl;
-      tables = refl;
-      counted = ap (λ (r : Outcome (F .Room)). r .answer) (call-follows P w k a h g reports);
-      cleared = tt;
-    };
+    answers = refl;
+    tables = refl;
+    counted = ap (λ (r : Outcome (F .Room)). r .answer) (call-follows P w k a h g reports);
+    cleared = tt;
     formed = w;
     agrees = g;
   }
@@ -85,38 +87,67 @@ module _ (row : ℕ) (pos : 0 < row) (F : Form) (L : FormLaws row F) where
       follows (p .pool) x us (m .formed) (m .bounds (whole-units row (length a) h) k) (subst (λ n. T (arenaRight row n)) l h₁) g₂
       (subst (λ r. EngineOnly row F (p .pool) (r .arena) (r .room) us) e (t .1)) in
       record {
-        modelled = record {
-          answers = rw e (ap (λ l. p .answer ∷ l) (r .modelled .answers));
-          tables = ap (λ (z : Outcome (F .Room)). ran row F (z .arena) (z .room) us .room) e ∙ r .modelled .tables;
-          counted = ap (λ (z : Outcome (F .Room)). reported row F (ran row F (z .arena) (z .room) us)) e ∙ r .modelled .counted;
-          cleared = rw e (d .cleared, r .modelled .cleared);
-        };
+        answers = rw e (ap (λ l. p .answer ∷ l) (r .answers));
+        tables = ap (λ (z : Outcome (F .Room)). ran row F (z .arena) (z .room) us .room) e ∙ r .tables;
+        counted = ap (λ (z : Outcome (F .Room)). reported row F (ran row F (z .arena) (z .room) us)) e ∙ r .counted;
+        cleared = rw e (d .cleared, r .cleared);
         formed = r .formed;
         agrees =
             subst (λ (z : Outcome (F .Room)). Agrees (cells row (model row (p .pool) (calls us) .pool)) (ran row F (z .arena) (z .room) us .arena)) (sym e)
             (r .agrees);
       }
 
-  -- from a fresh pool
-  run-follows : (a : List ℕ) (t : F .Room) (us : List Turn) → T (setUpRightBy row F a t)
-      → EngineOnly row F (fed row (length a)) (setUpBy row F a t .arena) (setUpBy row F a t .room) us
-      → Follows (fed row (length a)) (setUpBy row F a t .arena) (setUpBy row F a t .room) us
-  run-follows a t us h s =
+  -- ---- from a fresh pool
+
+  -- the model's set up makes the state that it is fed
+  model-fresh : (n : ℕ) (cs : List Call)
+      → modelFresh row n cs ≡ record { answers = done (0 ∷ []) ∷ model row (fed row n) cs .answers; pool = model row (fed row n) cs .pool }
+  unfolding model plan
+  model-fresh n cs =
+      ap (λ k. let m = model row (freshPool k) cs in record { answers = done (0 ∷ []) ∷ m .answers; pool = m .pool }) (fresh-rows row (n / row))
+
+  -- what a run shows, and that it leaves an arena that agrees with the model's tables
+  record Shows (a : List ℕ) (t : F .Room) (us : List Turn) : Type 0 where
+    modelled : AsModelled row F a t us
+    formed : T (wellFormed (modelFresh row (length a) (calls us) .pool))
+    agrees : Agrees (cells row (modelFresh row (length a) (calls us) .pool)) (ranFresh row F a t us .arena)
+
+  run-shows : (a : List ℕ) (t : F .Room) (us : List Turn) → Run row F a t us → Shows a t us
+  unfolding callBy
+  run-shows a t us r =
       let P : Pool = fed row (length a) in
+      let h : T (setUpRightBy row F a t) = set-up-accepted row pos F L a t (r .set-up) in
       let k : row * (length a / row) ≡ length a = whole-rows row (length a) (set-up-lawful row F a t h) in
-      rw (set-up-done row F a t h)
-      (follows P (zeros (length a)) us (fresh-formed (length a / row)) (all-fresh row (length a / row))
+      let d : callBy row F a t setsUp ≡ record { answer = done (0 ∷ []); arena = zeros (length a); room = F .encode P } = set-up-done row F a t h in
+      let f : Follows P (zeros (length a)) (F .encode P) us =
+      follows P (zeros (length a)) us (fresh-formed (length a / row)) (all-fresh row (length a / row))
       (rw (zeros-length (length a)) (set-up-lawful row F a t h))
-      (subst (λ n. Agrees (cells row P) (zeros n)) k (fresh-agrees row pos (length a / row))) (rw (set-up-done row F a t h) at s))
+      (subst (λ n. Agrees (cells row P) (zeros n)) k (fresh-agrees row pos (length a / row)))
+      (subst (λ (z : Outcome (F .Room)). EngineOnly row F P (z .arena) (z .room) us) d (r .engine-only)) in
+      let m : record { answers = done (0 ∷ []) ∷ model row P (calls us) .answers; pool = model row P (calls us) .pool } ≡ modelFresh row (length a) (calls us) =
+      sym (model-fresh (length a) (calls us)) in
+      record {
+        modelled = record {
+          answers = ap (λ (z : Outcome (F .Room)). z .answer ∷ ran row F (z .arena) (z .room) us .answers) d
+              ∙ ap (λ l. done (0 ∷ []) ∷ l) (f .answers) ∙ ap (λ m. m .answers) m;
+          tables = ap (λ (z : Outcome (F .Room)). ran row F (z .arena) (z .room) us .room) d ∙ f .tables ∙ ap (λ m. F .encode (m .pool)) m;
+          counted = ap (λ (z : Outcome (F .Room)). reported row F (ran row F (z .arena) (z .room) us)) d ∙ f .counted
+              ∙ ap (λ m. done (listed (totals row (m .pool)))) m;
+          cleared = subst (λ (z : Outcome (F .Room)). AllCleared row F P (z .arena) (z .room) us) (sym d) (f .cleared);
+        };
+        formed = subst (λ m. T (wellFormed (m .pool))) m (f .formed);
+        agrees = subst (λ m. Agrees (cells row (m .pool)) (ranFresh row F a t us .arena)) m
+            (subst (λ (z : Outcome (F .Room)). Agrees (cells row (model row P (calls us) .pool)) (ran row F (z .arena) (z .room) us .arena)) (sym d) (f .agrees));
+      }
 
   -- ---- two runs
 
   pub steers-nothing : SteersNothing row F
-  steers-nothing a₁ t₁ a₂ t₂ us₁ us₂ h₁ h₂ l same s₁ s₂ =
-      let r₁ : Follows (fed row (length a₁)) (setUpBy row F a₁ t₁ .arena) (setUpBy row F a₁ t₁ .room) us₁ = run-follows a₁ t₁ us₁ h₁ s₁ in
-      let r₂ : Follows (fed row (length a₂)) (setUpBy row F a₂ t₂ .arena) (setUpBy row F a₂ t₂ .room) us₂ = run-follows a₂ t₂ us₂ h₂ s₂ in
-      let e : model row (fed row (length a₁)) (calls us₁) ≡ model row (fed row (length a₂)) (calls us₂) = ap₂ (λ n cs. model row (fed row n) cs) l same in
-      let P : Pool = model row (fed row (length a₁)) (calls us₁) .pool in (
+  steers-nothing a₁ t₁ a₂ t₂ us₁ us₂ l same s₁ s₂ =
+      let r₁ : Shows a₁ t₁ us₁ = run-shows a₁ t₁ us₁ s₁ in
+      let r₂ : Shows a₂ t₂ us₂ = run-shows a₂ t₂ us₂ s₂ in
+      let e : modelFresh row (length a₁) (calls us₁) ≡ modelFresh row (length a₂) (calls us₂) = ap₂ (λ n cs. modelFresh row n cs) l same in
+      let P : Pool = modelFresh row (length a₁) (calls us₁) .pool in (
         record {
           answers = r₁ .modelled .answers ∙ ap (λ m. m .answers) e ∙ sym (r₂ .modelled .answers);
           tables = r₁ .modelled .tables ∙ ap (λ m. F .encode (m .pool)) e ∙ sym (r₂ .modelled .tables);
@@ -131,17 +162,24 @@ module _ (row : ℕ) (pos : 0 < row) (F : Form) (L : FormLaws row F) where
 -- ---- the premise
 
 pub stores-admitted : (row : ℕ) → StoresAdmitted row
-stores-admitted row P a i v t = record {
+stores-admitted row P a p i v q = record {
   long = length-set a i v;
-  bytes = λ j n. getD-set-other a i j v 0 (λ e. T-not (requested row P i) (subst (λ k. T (not (requested row P k))) e n) t);
+  bytes = λ j n. getD-set-other a i j v 0 (λ z. T-not (requested row P i) (subst (λ k. T (not (requested row P k))) z n) (requested-exactly row P i .1 (p, q)));
 }
 
--- ---- how the model is fed
+pub stores-only : (row : ℕ) → StoresOnly row
+stores-only row P a b i s d = go (requested row P i) refl
+  where
+    go : (x : Bool) → requested row P i ≡ x → (p : Place) × RequestedByte row P p i
+    go true e = requested-exactly row P i .0 (true-T (requested row P i) e)
+    go false e = absurd (d (s .bytes i (rw e tt)))
 
--- set up takes a room by its length
-pub room-follows : (row : ℕ) (F : Form) (bytes : F .Room → List ℕ) → ((n : ℕ) (t : F .Room) → F .fits n t ≡ eqb (length (bytes t)) (roomBytes (n / row)))
-    → RoomFollows row F bytes
-unfolding setUpRightBy roomFor
-room-follows row F bytes fits a t h =
-    eqb→eq (length (bytes t)) (roomBytes (length a / row)) (subst T (fits (length a) t) (and-right (arenaRight row (length a)) _ h))
-    ∙ sym (choose-true (arenaRight row (length a)) _ _ (T-true (arenaRight row (length a)) (set-up-lawful row F a t h)))
+-- ---- the model's state
+
+pub model-stands : (row : ℕ) → 0 < row → ModelStands row
+unfolding model
+model-stands row pos n cs h = go (fed row n) (fresh-stands row n h) cs
+  where
+    go : (P : Pool) → Stands row n P → (cs : List Call) → Stands row n (model row P cs .pool)
+    go P s [] = s
+    go P s (c ∷ cs) = go (plan row P c .pool) (plan-stands row pos n P s c) cs

@@ -2,8 +2,9 @@
 use Rattle.mem.proofs.Prelude.{ℕ, _<_, refl}
 use Rattle.classes.specs.Classes.{rowBytes}
 use Rattle.classes.proofs.Laws.{all-classes, card-some}
+use Rattle.model.specs.Tables.{byMasks}
 use Rattle.model.specs.Calls.{Form, FormLaws, engine}
-use Rattle.model.specs.Plain.{plainForm}
+use Rattle.model.specs.Plain.{bySlots, plainForm}
 use Rattle.model.proofs.Kept.{engine-lawful}
 use Rattle.model.proofs.Plain.{plain-lawful}
 use Rattle.model.proofs.Bench.{bench}
@@ -16,13 +17,14 @@ use Rattle.claims.proofs.Bench.{too-large-anywhere}
 use Rattle.claims.proofs.Demand1.{demand1}
 use Rattle.claims.proofs.Demand2.{releases-exactly, measures-exactly, grants-exactly, grants-as-said, never-shared, leaves-sound}
 use Rattle.claims.proofs.AsSaid.{never-at-zero, sets-up-as-said, reads-only, reports-as-said, releases-as-said}
-use Rattle.claims.proofs.Boundaries.{on-boundaries, serves-ordinary}
+use Rattle.claims.proofs.Serves.{serves-ordinary}
 use Rattle.claims.proofs.Stays.{others-stay}
 use Rattle.claims.proofs.Kept.{resizes-keep-alignment}
 use Rattle.claims.proofs.Aligned.{aligned-ordinary, aligned-exactly, aligned-as-said}
-use Rattle.claims.proofs.Guards.{guards-as-said}
+use Rattle.claims.proofs.Guards.{headers-as-said, guards-as-said}
+use Rattle.claims.proofs.Soundness.{arenas-as-said, sets-up-exactly, sound-by-rules}
 use Rattle.claims.proofs.Resizes.{resizes-as-said}
-use Rattle.claims.proofs.Demand3.{steers-nothing, stores-admitted, room-follows}
+use Rattle.claims.proofs.Demand3.{steers-nothing, stores-admitted, stores-only, model-stands}
 use Rattle.claims.proofs.History.{history}
 use Rattle.claims.proofs.Stale.{starts-cleared, counts-step, stale-refused}
 use Rattle.claims.proofs.Flips.{flips-refused}
@@ -47,13 +49,13 @@ meets-demands row pos F L = record {
   resizes-as-said = resizes-as-said row pos F L;
   reports-as-said = reports-as-said row F;
   reads-only = reads-only row pos F L;
+  headers-as-said = headers-as-said row pos F L;
   guards-as-said = guards-as-said row pos F L;
   never-shared = never-shared row pos F L;
   leaves-sound = leaves-sound row pos F L;
   too-large-anywhere = too-large-anywhere row pos F L;
   lists-as-grants = lists-as-grants row F pos L;
   lists-exactly = lists-exactly row F pos L;
-  on-boundaries = on-boundaries row F L;
   resizes-keep-alignment = resizes-keep-alignment row pos F L;
   others-stay = others-stay row pos F L;
   starts-cleared = starts-cleared row F L;
@@ -69,11 +71,16 @@ demands = record {
   second-engine = meets-demands rowBytes card-some (plainForm rowBytes) (plain-lawful rowBytes card-some);
   two-engines = two-engines rowBytes card-some;
   stores-anywhere = stores-anywhere;
-  room-follows = room-follows rowBytes (engine rowBytes) (λ t. t .tables) (λ n t. refl);
-  plain-room-follows = room-follows rowBytes (plainForm rowBytes) (λ t. t) (λ n t. refl);
   stores-admitted = stores-admitted rowBytes;
+  stores-only = stores-only rowBytes;
+  model-stands = model-stands rowBytes card-some;
   tables = tables;
   plain-tables = plain-tables;
+  arenas-as-said = arenas-as-said;
+  sets-up-exactly = sets-up-exactly rowBytes card-some (engine rowBytes) (engine-lawful rowBytes card-some) (λ t. t .tables) (λ n t. refl);
+  plain-sets-up-exactly = sets-up-exactly rowBytes card-some (plainForm rowBytes) (plain-lawful rowBytes card-some) (λ t. t) (λ n t. refl);
+  sound-by-rules = sound-by-rules rowBytes byMasks;
+  plain-sound-by-rules = sound-by-rules rowBytes bySlots;
   sound-exactly = sound-exactly rowBytes;
   records-fresh = records-fresh rowBytes card-some;
   reports-record = reports-record rowBytes;

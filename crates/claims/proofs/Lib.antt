@@ -5,14 +5,16 @@ pub mod Cases
 pub mod Meets
 pub mod Demand1
 pub mod Demand2
-pub mod Boundaries
+pub mod Serves
 pub mod Stays
 pub mod Slots
 pub mod Kept
 pub mod Aligned
 pub mod AsSaid
 pub mod Guards
+pub mod Frames
 pub mod Resizes
+pub mod Soundness
 pub mod Cells
 pub mod Gathers
 pub mod Steps

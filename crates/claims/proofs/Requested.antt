@@ -1,22 +1,25 @@
 -- A byte is a requested byte of a live block exactly where the cells say so; what agrees with them is fixed everywhere else.
 use Rattle.mem.proofs.Prelude.{_∙_, _≡_, sym, ap, refl, ap₂, subst, true, Bool, false, _&&_, _||_, true≢false, and-false, List, [], _∷_, _++_, _+_, ℕ}
-use Rattle.mem.proofs.Prelude.{_<_, _*_, _-_, suc, zero, add-zero, zero-add, mul-add, arith, eq-eqb, ne-eqb, leb-false, leb-true, le-ltb, lt-ltb, T}
-use Rattle.mem.proofs.Prelude.{eqb, leb, ltb, ltb→lt, T-not, length, getD, length-append}
+use Rattle.mem.proofs.Prelude.{_<_, _≤_, _*_, _-_, suc, zero, add-zero, zero-add, mul-add, arith, eq-eqb, ne-eqb, leb-false, leb-true, le-ltb, lt-ltb, T}
+use Rattle.mem.proofs.Prelude.{eqb, leb, ltb, leb→le, ltb→lt, le→leb, lt→ltb, T-not, length, getD, length-append}
 use mathlib.Core.Bool.{or-false, or-assoc}
+use mathlib.Core.Logic.{_↔_}
 use native.Mathlib.Nat.{mul-zero}
 use Rattle.mem.specs.Lists.{choose, every, any}
 use Rattle.mem.specs.Bytes.{zeros}
-use Rattle.mem.proofs.Tests.{and-left, and-right}
+use Rattle.mem.proofs.Tests.{true-T, and-left, and-right, and-both}
 use Rattle.mem.proofs.Laws.{zeros-length}
 use Rattle.classes.specs.Classes.{slotBytes, rowsOf}
 use Rattle.model.specs.declared.Slot.{Slot}
 use Rattle.model.specs.declared.Slot.the-variants.{Fresh, Idle, Live}
-use Rattle.model.specs.State.{Pool, Place, free, group, granted, slotSound, spanSound, wellFormed, slotPlaces, placesFrom, places, rows}
+use Rattle.model.specs.State.{Pool, Place, free, group, isLive, granted, size, slotSound, spanSound, wellFormed, poolOf, slotPlaces, placesFrom, places, rows}
+use Rattle.model.specs.State.{start}
 use Rattle.model.proofs.Tables.{group-slots}
 use Rattle.model.proofs.Rooms.{rows-append}
 use Rattle.model.proofs.Blocks.{header-length}
-use Rattle.model.proofs.Lookup.{placed}
-use Rattle.claims.specs.Demand3.{covers, requested, SameOutside}
+use Rattle.model.proofs.Lookup.{All, Of, places-of, places-in, placed}
+use Rattle.model.proofs.Moves.{live-granted}
+use Rattle.claims.specs.Demand3.{covers, requested, SameOutside, RequestedByte}
 use Rattle.claims.proofs.Cells.{Cell, due, settled, packet, packets, blockCells, slotCells, slotsCells, spanCells, cells}
 use Rattle.claims.proofs.Cells.{due-length, zeros-due, slot-length, group-length, Agrees, over, more, agrees-length}
 use Rattle.claims.proofs.Tables.{refuted}
@@ -129,6 +132,53 @@ module _ (row : ℕ) where
     unfolding requested places
     requested-is P i w =
         pool-link [] P i 0 (sym (mul-zero row)) w ∙ ap (λ j. packetAt 0 j (cells row P)) (sym (zero-add i)) ∙ packet-here 0 (cells row P) i
+
+-- ---- the requested bytes of a live block
+
+-- what follows where an element passes a test follows from each that does
+any-each : {A : Type 0} (f : A → Bool) (l : List A) {M : Type 0} → (T (any f l) → M) → All (λ x. T (f x) → M) l
+any-each f [] g = tt
+any-each f (x ∷ l) g = (λ t. g (or-left (f x) (any f l) t), any-each f l (λ t. g (or-right (f x) (any f l) t)))
+  where
+    or-left : (a b : Bool) → T a → T (a || b)
+    or-left true b t = tt
+    or-left false b t = absurd t
+
+    or-right : (a b : Bool) → T b → T (a || b)
+    or-right true b t = tt
+    or-right false b t = t
+
+-- an element that passes it, and what is so of all
+any-found : {A : Type 0} (f : A → Bool) (Q : A → Type 0) (l : List A) → All Q l → T (any f l) → (x : A) × Q x × T (f x)
+any-found f Q [] q t = absurd t
+any-found f Q (x ∷ l) q t = go (f x) refl t (any-found f Q l (q .1))
+  where
+    go : (b : Bool) → f x ≡ b → T (b || any f l) → (T (any f l) → (x : _) × Q x × T (f x)) → (x : _) × Q x × T (f x)
+    go true e t r = (x, q .0, true-T (f x) e)
+    go false e t r = r t
+
+pub requested-exactly : (row : ℕ) (P : Pool) (i : ℕ) → T (requested row P i) ↔ ((p : Place) × RequestedByte row P p i)
+unfolding requested
+requested-exactly row P i = (there, λ (p, q). subst (λ Q. T (requested row Q i)) (q .pool) (here p q))
+  where
+    there : T (requested row P i) → (p : Place) × RequestedByte row P p i
+    there t =
+        let (p, (e, _), c) = any-found (covers row i) (Of P) (places P) (places-of P) t in (
+          p,
+          record {
+            pool = e;
+            live = search (and-left, and-right);
+            from = leb→le (start row p) i (search (and-left, and-right));
+            to = ltb→lt i (start row p + size (p .state)) (search (and-left, and-right));
+          },
+        )
+
+    here : (p : Place) → RequestedByte row P p i → T (requested row (poolOf p) i)
+    here p q =
+        places-in (λ q. T (covers row i q) → T (any (covers row i) (places (poolOf p)))) p (live-granted (p .state) (q .live))
+        (any-each (covers row i) (places (poolOf p)) (λ t. t))
+        (and-both (isLive (p .state) && leb (start row p) i) _ (and-both (isLive (p .state)) _ (q .live) (le→leb (start row p) i (q .from)))
+        (lt→ltb i (start row p + size (p .state)) (q .to)))
 
 -- ---- arenas that agree with the same cells
 

@@ -4,9 +4,9 @@ use Rattle.mem.proofs.Prelude.{append-assoc, append-nil, _+_, ℕ, _<_, _≤_, 
 use Rattle.mem.proofs.Prelude.{length, length-append, eqb, eqb→eq, eq-eqb, eqb-true}
 use mathlib.Core.Logic.{_↔_}
 use Rattle.mem.specs.Lists.{choose}
-use Rattle.mem.specs.Bytes.{zeros, same, put, part}
+use Rattle.mem.specs.Bytes.{zeros, low, same, put, part}
 use Rattle.mem.proofs.Tests.{T-true, true-T, and-left, and-right, and-both, eq→eqb, choose-case, choose-true, choose-false}
-use Rattle.mem.proofs.Laws.{put-length, put-append, put-before, put-past, part-put, part-written, part-length, part-part, getD-part, zeros-length, zeros-add}
+use Rattle.mem.proofs.Laws.{put-length, put-before, put-past, part-put, part-written, part-length, part-among, part-part, getD-part, zeros-length, zeros-add}
 use Rattle.mem.proofs.Laws.{zeros-put, eq→same}
 use Rattle.classes.specs.Classes.{slotBytes, classOf, tooLarge, ownClass}
 use Rattle.classes.specs.Alignments.{alignOf, codeOf, enlarged, Askable}
@@ -19,7 +19,7 @@ use Rattle.model.specs.Plans.{resizeInPlace, resizeMove, moveTo, resizeAt, resi
 use Rattle.model.specs.Tables.{view, arenaRight}
 use Rattle.model.specs.Calls.{Form, FormLaws, Stands, Outcome, applied, written, damaged, carriedBy, callBy}
 use Rattle.model.proofs.Fresh.{whole-units}
-use Rattle.model.proofs.Blocks.{header-length, guard-fits, spare-length, spare-first, frame-length}
+use Rattle.model.proofs.Blocks.{header-length, guard-fits, spare-length, spare-guarded, spare-bare, spare-first, frame-length}
 use Rattle.model.proofs.Lookup.{Fits, fits, disp-inside, owned-inside, Owns, outside-group}
 use Rattle.model.proofs.Reserve.{Granted, reserve-formed, reserve-size, served}
 use Rattle.model.proofs.Formed.{resize-in-place-formed, resizable}
@@ -27,49 +27,17 @@ use Rattle.model.proofs.Calls.{call-sound, carried-whole}
 use Rattle.model.proofs.Moves.{Old, old, old-released, old-apart, slot-owned, stays-start}
 use Rattle.claims.specs.Demand1.{order, headerDue, guardDue, Due}
 use Rattle.claims.specs.Demand2 as demand2
-use Rattle.claims.specs.AsSaid.{Waits, Goes, Near, Serves, sized, stay, InPlace, Moved, MovedBy, ResizesAsSaid}
+use Rattle.claims.specs.Demand1.{Serves}
+use Rattle.claims.specs.AsSaid.{Waits, Goes, sized, stay, InPlace, Moved, MovedBy, ResizesAsSaid}
 use Rattle.model.proofs.Handles.{start-cleared, stays-handle, on-present}
 use Rattle.claims.proofs.Cases.{release-parts, reserve-live}
-use Rattle.claims.proofs.Codes.{code-align, enlarged-align}
+use Rattle.claims.proofs.Codes.{code-align}
+use Rattle.claims.proofs.Serves.{in-place-serves}
 use Rattle.claims.proofs.Demand1.{demand1, starts-found, resize-large}
 use Rattle.claims.proofs.Demand2.{Accepted, accepted, none-due, found-intact}
 use Rattle.claims.proofs.AsSaid.{released-as-said, on-intact, place-formed}
+use Rattle.claims.proofs.Frames.{guard-or-none}
 use Rattle.claims.proofs.Stays.{live-at}
-
--- ---- what serves in place
-
--- a class is that of a size or the next one up
-own-near : (c m : ℕ) → T (ownClass c m) ↔ Near c m
-own-near c m = (
-  there (eqb c (classOf m)) refl,
-  ⊎-elim (λ e. rw (eq-eqb c (classOf m) e) tt) (λ e. back (eqb c (classOf m)) (eq→eqb c (suc (classOf m)) e)),
-)
-  where
-    there : (b : Bool) → eqb c (classOf m) ≡ b → T (b || eqb c (suc (classOf m))) → Near c m
-    there true e t = inl (eqb-true c (classOf m) e)
-    there false e t = inr (eqb→eq c (suc (classOf m)) t)
-
-    back : (b : Bool) → T (eqb c (suc (classOf m))) → T (b || eqb c (suc (classOf m)))
-    back true t = tt
-    back false t = t
-
--- the test is what is said, of a live block
-in-place-serves : (p : Place) (n : ℕ) → 1 ≤ align (p .state) → T (inPlace p n) ↔ Serves p n
-unfolding inPlace
-in-place-serves p n h = (
-  λ t. record {
-    fits = leb→le n s (and-left (leb n s) (ownClass (p .cls) (enlarged (align (p .state)) n)) t);
-    near = subst (Near (p .cls)) e (own-near (p .cls) (enlarged (align (p .state)) n) .0 (and-right (leb n s) _ t));
-  },
-  λ v. and-both (leb n s) _ (le→leb n s (v .fits))
-      (own-near (p .cls) (enlarged (align (p .state)) n) .1 (subst (Near (p .cls)) (sym e) (v .near))),
-)
-  where
-    s : ℕ
-    s = slotBytes (p .cls) - 4 - 16 * disp (p .state)
-
-    e : enlarged (align (p .state)) n ≡ n + (alignOf (align (p .state)) - 16)
-    e = enlarged-align (align (p .state)) n h
 
 -- ---- resize in place
 
@@ -125,6 +93,12 @@ module _ (row : ℕ) (pos : 0 < row) (a : List ℕ) (n : ℕ) (p : Place) (w : T
   tail-parts =
       sym (append-assoc (zeros (n - k)) (zeros (r - length g)) g) ∙ ap (λ z. z ++ g) (sym (zeros-add (n - k) (r - length g)))
 
+  -- a byte that is zero
+  tail-zero : (i j : ℕ) (ys : List ℕ) → spare r ≡ zeros j ++ ys → o + k ≤ i → i < o + n + j → getD reframed i 0 ≡ 0
+  tail-zero i j ys e f h =
+      let q : tail ≡ zeros (n - k + j) ++ ys = ap (λ s. zeros (n - k) ++ s) e ∙ rw (zeros-add (n - k) j) (simp append-assoc) in
+      ap (λ vs. getD (put (o + k) vs headed) i 0) q ∙ zeros-put (o + k) [] (n - k + j) ys headed i (omega arith) (omega arith)
+
   header-there : T (headerRight c (slotNumber p) d n (part (owned row p) (slotBytes c) reframed))
   unfolding headerRight
   header-there =
@@ -138,24 +112,20 @@ module _ (row : ℕ) (pos : 0 < row) (a : List ℕ) (n : ℕ) (p : Place) (w : T
   in-slot : (at : ℕ) (A vs B : List ℕ) → owned row p + at ≡ o + k + length A → tail ≡ A ++ (vs ++ B)
       → T (same (part at (length vs) (part (owned row p) (slotBytes c) reframed)) vs)
   in-slot at A vs B q e =
-      let x : ℕ = o + k + length A in
       let m : length tail ≡ length A + (length vs + length B) = ap length e ∙ length-append A (vs ++ B) ∙ ap (λ j. length A + j) (length-append vs B) in
-      let X : List ℕ = put (o + k) A headed in
-      let y : reframed ≡ put (x + length vs) B (put x vs X) =
-      ap (λ us. put (o + k) us headed) e ∙ put-append (o + k) A (vs ++ B) headed ∙ put-append x vs B X in
-      let f : length X ≡ row * rows row (poolOf p) = put-length (o + k) A headed ∙ put-length (o - 4) head a ∙ l in
       let u : at + length vs ≤ slotBytes c =
       bare (owned row p) at o k n r (length A) (length vs) (length B) (slotBytes c) (length tail) q m tail-length whole in
       eq→same _ _
-      (part-part (owned row p) (slotBytes c) at (length vs) reframed u ∙ ap (λ j. part j (length vs) reframed) q ∙ ap (part x (length vs)) y
-      ∙ part-put x (length vs) (x + length vs) B (put x vs X) (inl (omega arith))
-      ∙ part-written x (length vs) vs X refl (fits-in (owned row p) at x (length vs) (slotBytes c) _ _ q u (owned-inside row pos p w) f))
+      (part-part (owned row p) (slotBytes c) at (length vs) reframed u ∙ ap (λ j. part j (length vs) reframed) q
+      ∙ ap (λ us. part (o + k + length A) (length vs) (put (o + k) us headed)) e
+      ∙ part-among (o + k) A vs B headed
+      (fits-in (owned row p) at (o + k) (length A) (length vs) (slotBytes c) _ _ q u (owned-inside row pos p w) (put-length (o - 4) head a ∙ l)))
     where
       bare : (x at o k n r i j h s t : ℕ) → x + at ≡ o + k + i → t ≡ i + (j + h) → t + k ≡ n + r → o + n + r ≡ x + s → at + j ≤ s
       bare x at o k n r i j h s t q m e f = omega arith
 
-      fits-in : (x at y j s v z : ℕ) → x + at ≡ y → at + j ≤ s → x + s ≤ z → v ≡ z → y + j ≤ v
-      fits-in x at y j s v z q u f e = omega arith
+      fits-in : (x at y i j s v z : ℕ) → x + at ≡ y + i → at + j ≤ s → x + s ≤ z → v ≡ z → y + (i + j) ≤ v
+      fits-in x at y i j s v z q u f e = omega arith
 
   -- the first spare byte follows the zeros, and the guard ends where the slot does
   guard-there : T (guardRight c d n (part (owned row p) (slotBytes c) reframed))
@@ -190,9 +160,10 @@ module _ (row : ℕ) (pos : 0 < row) (a : List ℕ) (n : ℕ) (p : Place) (w : T
         kept = λ i b.
             ap (λ b. getD b (o + i) 0) x ∙ put-before (o + k) tail headed (o + i) 0 (omega arith)
             ∙ put-past (o - 4) head a (o + i) 0 (omega (arith, header-length c (slotNumber p) d n));
-        zero = λ i b u.
-            ap (λ b. getD b i 0) x ∙ ap (λ vs. getD (put (o + k) vs headed) i 0) tail-parts
-            ∙ zeros-put (o + k) [] (n - k + (r - length g)) g headed i (omega arith) (omega (arith, u, whole, guard-fits r));
+        zero = λ i b u s.
+            ap (λ b. getD b i 0) x
+            ∙ ⊎-elim (λ h. tail-zero i r [] (spare-bare r h ∙ sym (append-nil (zeros r))) b (omega (arith, u, whole)))
+            (λ h. tail-zero i (r - 4) (low 4 r) (spare-guarded r h) b (⊎-elim (λ s. omega (arith, s, h)) (λ s. omega (arith, s, whole)) s)) (guard-or-none r);
         due = record {
           live = record { here = record { slotted = record { pool = sym y; granted-once = tt }; starts = b .live .here .starts }; live = tt };
           present = b .present;

@@ -1,4 +1,4 @@
--- A slot over a call: it keeps its count, and is live only if it was; or it was not live, and a grant takes it.
+-- A slot over a call: it keeps its count and displacement, and is live only if it was; or it was not live, and a grant takes it.
 use Rattle.mem.proofs.Prelude.{_∙_, _≡_, sym, ap, refl, subst, not, ⊎-elim, inl, inr, some, List, [], _∷_, _++_, ℕ, _<_, arith}
 use Rattle.mem.proofs.Prelude.{T, add-zero, lit≤}
 use Rattle.mem.specs.Lists.{any}
@@ -98,14 +98,14 @@ module _ (row : ℕ) (pos : 0 < row) where
         (true-T _ (any-middle isLive (o .lower) (vacant o) (o .upper) ∙ e)) (λ _. tt) .formed in
         record {
           own = λ s. ap (λ p. p .state) (slot-unique row pos b q v f (slot-become row o (vacant o) q s));
-          others = λ p i s. became o (vacant o) NotGranted w v (refl, λ z. absurd z) (λ y. (refl, λ z. z)) p q i f s;
+          others = λ p i s. became o (vacant o) NotGranted w v (refl, refl, λ z. absurd z) (λ y. (refl, refl, λ z. z)) p q i f s;
         })
         (λ e f. record {
           own = λ s. absurd (gone q f (s .first));
           others = λ p i s.
               let (p′, g, u) = freed q f in
               let z : p′ ≡ p = slot-unique row pos p p′ (subst (λ P. T (wellFormed P)) (sym i) w) (g ∙ sym i) (slot-after row p q p′ s (u .slot)) in
-              subst (NotGranted (p .state)) (ap (λ p. p .state) (sym z) ∙ u .state) (refl, λ z. z);
+              subst (NotGranted (p .state)) (ap (λ p. p .state) (sym z) ∙ u .state) (refl, refl, λ z. z);
         })
 
   -- ---- calls
@@ -120,19 +120,19 @@ module _ (row : ℕ) (pos : 0 < row) where
 
     -- the pool as it is
     pub as-it-was : (c : Call) (q : Place) → poolOf q ≡ P → SameSlot row p q → Steps c (p .state) (q .state)
-    as-it-was c q f s = subst (Steps c (p .state)) (ap (λ p. p .state) (sym (slot-unique row pos p q formed (f ∙ sym e) s))) (inl (refl, λ z. z))
+    as-it-was c q f s = subst (Steps c (p .state)) (ap (λ p. p .state) (sym (slot-unique row pos p q formed (f ∙ sym e) s))) (inl (refl, refl, λ z. z))
 
     -- a grant, and then perhaps what gives another block back
     steps-after : (c : Call) → Grants c → (x y : Slot) → Goes (p .state) x → NotGranted x y → Steps c (p .state) y
-    steps-after c k x y (inl a) (b, d) = inl (b ∙ a .counts, λ z. subst T (a .lives) (d z))
-    steps-after c k x y (inr a) (b, d) = inr (k, subst (λ v. T (not v)) (sym (a .idle)) tt, b ∙ a .counts)
+    steps-after c k x y (inl a) (b, m, d) = inl (b ∙ a .counts, m ∙ a .disps, λ z. subst T (a .lives) (d z))
+    steps-after c k x y (inr a) (b, m, d) = inr (k, subst (λ v. T (not v)) (sym (a .idle)) tt, b ∙ a .counts)
 
     goes-steps : (c : Call) → Grants c → (Q : Pool) → T (wellFormed Q) → GoesIn row Q p → (q : Place) → poolOf q ≡ Q → SameSlot row p q
         → Steps c (p .state) (q .state)
     goes-steps c k Q v (p′, a, s, g) q f u =
         let z : q ≡ p′ =
         slot-unique row pos p′ q (subst (λ P. T (wellFormed P)) (sym a) v) (f ∙ sym a) (slot-after row p′ p q (slot-back row p p′ s) u) in
-        steps-after c k (p′ .state) (q .state) g (subst (NotGranted (p′ .state)) (ap (λ p. p .state) (sym z)) (refl, λ z. z))
+        steps-after c k (p′ .state) (q .state) g (subst (NotGranted (p′ .state)) (ap (λ p. p .state) (sym z)) (refl, refl, λ z. z))
 
     -- a move: a grant, and the old block is given back
     move-steps : (h n : ℕ) (o g : Place) → Named row P h o → Askable (align (o .state)) n → reserve row P (align (o .state)) n ≡ some g
@@ -149,8 +149,8 @@ module _ (row : ℕ) (pos : 0 < row) where
     in-place-steps : (h n : ℕ) (o : Place) → Named row P h o → Fate (resizes h n) (resizeInPlace row o n)
     unfolding resizeInPlace
     in-place-steps h n o b v q i u =
-        became o _ (Steps (resizes h n)) (subst (λ Q. T (wellFormed Q)) (sym (b .pool)) w) v (inl (refl, λ _. b .live)) (λ y. inl (refl, λ z. z)) p q
-        (e ∙ sym (b .pool)) i u
+        became o _ (Steps (resizes h n)) (subst (λ Q. T (wellFormed Q)) (sym (b .pool)) w) v (inl (refl, refl, λ _. b .live))
+        (λ y. inl (refl, refl, λ z. z)) p q (e ∙ sym (b .pool)) i u
 
     release-steps : (h : ℕ) (o : Place) → Named row P h o → Fate (releases h) (releaseAt row o)
     release-steps h o b _ q i u =

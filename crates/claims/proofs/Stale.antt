@@ -1,17 +1,16 @@
 -- Stale handles: a slot's count tells how often it was granted since a block in it ended; while that is fewer than sixteen times, the bits of the
 -- block's handle are not those of a live block there.
 use Rattle.mem.proofs.Prelude.{_∙_, _≡_, sym, ap, refl, subst, true, Bool, false, inl, inr, List, [], _∷_, _++_, ℕ, _+_, _-_, _/_, _%_, _<_, _≤_, _*_}
-use Rattle.mem.proofs.Prelude.{arith, T, eqb, ltb→lt, eqb-true, eqb-false, length}
-use Rattle.mem.proofs.Tests.{and-left, and-right}
+use Rattle.mem.proofs.Prelude.{arith, T, eqb, eqb-true, eqb-false, length}
 use Rattle.classes.specs.Classes.{slotBytes}
 use Rattle.classes.proofs.Laws.{bytes-units}
 use Rattle.model.specs.declared.Slot.{Slot}
-use Rattle.model.specs.declared.Slot.the-variants.{Fresh, Idle, Live}
-use Rattle.model.specs.State.{Pool, Place, isLive, count, disp, size, align, slotSound, wellFormed, useBits, startOf, poolOf, start, SameSlot, handle}
+use Rattle.model.specs.State.{Pool, Place, isLive, count, disp, size, align, wellFormed, useBits, startOf, poolOf, start, SameSlot, handle}
 use Rattle.model.specs.Plans.{Plan, releaseAt, release, resizeInPlace, freshPool, plan, vacant}
 use Rattle.model.specs.Plans.{Call, setsUp, grants, grantsAligned, releases, resizes, measures, reports, grantsList}
 use Rattle.model.specs.Calls.{Form, FormLaws, Outcome, callBy}
 use Rattle.model.proofs.Fresh.{whole-units, fresh-formed}
+use Rattle.model.proofs.Tables.{count-small}
 use Rattle.model.proofs.Lookup.{fits, disp-inside, place-unique, owned-unique}
 use Rattle.model.proofs.Stays.{slot-after, slot-back, no-group}
 use Rattle.model.proofs.Moves.{slot-owned, Old, old, old-released}
@@ -158,7 +157,7 @@ record Since (k : ℕ) (x : Slot) : Type 0 where
   again : T (isLive x) → 1 ≤ times
 
 since-steps : (c : Call) (k : ℕ) (x y : Slot) → k < 256 → Since k x → Steps c x y → (count y + 256 - k) % 256 < 16 → Since k y
-since-steps c k x y l s (inl (e, d)) f = record { times = s .times; counts = e ∙ s .counts; few = s .few; again = λ z. s .again (d z) }
+since-steps c k x y l s (inl (e, _, d)) f = record { times = s .times; counts = e ∙ s .counts; few = s .few; again = λ z. s .again (d z) }
 since-steps c k x y l s (inr (g, d, e)) f = record {
   times = s .times + 1;
   counts = e ∙ ap (λ j. (j + 1) % 256) (s .counts) ∙ omega arith;
@@ -196,13 +195,6 @@ module _ (row : ℕ) (pos : 0 < row) where
       (one-handle (start row r) (start row p) (useBits (count (r .state))) (useBits (count (p .state))) (s′ ∙ sym s) (i′ ∙ sym i)) in
       bits-differ (count (p .state)) (n .times) (count (q .state)) (n .counts) (n .again (subst (λ p. T (isLive (p .state))) z l)) (n .few) j
 
--- a live slot's count is a byte
-count-byte : (c : ℕ) (x : Slot) → T (isLive x) → T (slotSound c x) → count x < 256
-unfolding slotSound
-count-byte c Fresh l t = absurd l
-count-byte c (Idle r k d) l t = absurd l
-count-byte c (Live a) l t = ltb→lt (a .count) 256 (search (and-left, and-right))
-
 -- what holds after every call holds at first
 remains-first : (row : ℕ) (F : Form) (p : Place) (t : F .Room) (cs : List Asked) → RemainsAll row F p t cs → Remains row F p t
 unfolding RemainsAll
@@ -228,7 +220,7 @@ stale-refused row pos F L a t h p ends i z n cs all b c u y =
     formed = subst (λ Q. T (wellFormed Q)) (sym (i .live .here .slotted .pool)) first
 
     byte : count (p .state) < 256
-    byte = count-byte (p .cls) (p .state) (i .live .live) (fits p formed .state)
+    byte = count-small (p .cls) (p .state) (fits p formed .state)
 
     go : (cs : List Asked) (t : F .Room) → T (wellFormed (F .view t)) → (q : Place) → poolOf q ≡ F .view t → SameSlot row p q
         → Since (count (p .state)) (q .state) → RemainsAll row F p t cs → callBy row F b (after row F t cs) c .answer .number ≡ 0 → ⊥

@@ -23,10 +23,11 @@ use Rattle.model.specs.Plans.{measureAt, measure, report, freshPool, Call, sets
 use Rattle.model.specs.Plans.{plan, lookup, grantAt, reserveAll, poolAfter}
 use Rattle.model.proofs.Lists.{small, by-grants, on-list}
 use Rattle.model.specs.Calls.{write, written, damaged}
-use Rattle.model.proofs.Lookup.{Fits, fits, disp-inside}
+use Rattle.model.proofs.Lookup.{Fits, fits, disp-inside, place-unique}
 use Rattle.model.proofs.Reserve.{plain, Served, served, reserve-formed, refill-sound, reserve-size}
 use Rattle.model.proofs.Formed.{on-block, become-fits, vacant-sound}
-use Rattle.claims.specs.Demand3.{sizeAt, Gains, Cleared}
+use Rattle.claims.specs.Demand1.{LiveAt}
+use Rattle.claims.specs.Demand3.{Gains, Cleared}
 use Rattle.model.proofs.Handles.{start-cleared}
 use Rattle.claims.proofs.Cases.{release-parts, Named, on-named, on-grant, on-aligned, on-resize, reserve-live, taken-same, refuses}
 use Rattle.claims.proofs.Gathers.{framed, list-clears}
@@ -167,12 +168,19 @@ module _ (row : ℕ) (pos : 0 < row) where
           cleared = λ z i g. absurd g;
         })
 
+    -- the bytes that a resize gains, by the block that it names
+    gained : (p : Place) (h n v i : ℕ) → Named row P h p
+        → (q : Place) × LiveAt row P (startOf h) q × (v + min (size (q .state)) n ≤ i) × (i < v + n) → (v + min (size (p .state)) n ≤ i) × (i < v + n)
+    gained p h n v i b (q, l, from, to) =
+        subst (λ (q : Place). (v + min (size (q .state)) n ≤ i) × (i < v + n))
+        (place-unique row pos p q (subst (λ Q. T (wellFormed Q)) (sym (b .pool)) w) (l .here .slotted .pool ∙ sym (b .pool))
+        (l .here .starts ∙ sym (b .starts))) (from, to)
+
     in-place-kept : (p : Place) (h n : ℕ) → Named row P h p → T (inPlace p n) → Kept P (resizes h n) a (resizeInPlace row p n)
     unfolding resizeInPlace inPlace Cleared
     in-place-kept p h n b t =
         let f : Fits p = block-fits p h b in
         let l : n ≤ slotBytes (p .cls) - 4 - 16 * disp (p .state) = leb→le _ _ (and-left (leb n (slotBytes (p .cls) - 4 - 16 * disp (p .state))) _ t) in
-        let e : sizeAt row (lookup row P (startOf h)) ≡ size (p .state) = ap (sizeAt row) (b .found) in
         let s : startOf (handle row p) ≡ start row p = ap startOf (b .present) ∙ sym (b .starts) in
         let k : ℕ = min (size (p .state)) n in
         let x : List ℕ = put (start row p - 4) (header (p .cls) (slotNumber p) (disp (p .state)) n) a in
@@ -180,7 +188,7 @@ module _ (row : ℕ) (pos : 0 < row) where
           agrees = resized row pos p f (b .live) a n (omega (arith, disp-inside (p .cls) (p .state) (f .class) (f .state))) (block-agrees p h b);
           whole = block-whole p h b;
           cleared = λ z i g.
-              let (from, to) = subst (λ j. (j + min (sizeAt row (lookup row P (startOf h))) n ≤ i) × (i < j + n)) s g in
+              let (from, to) = subst (λ j. (j + k ≤ i) × (i < j + n)) s (gained p h n (startOf (handle row p)) i b g) in
               zeros-put (start row p + k) [] (n - k) (spare (reserved (p .cls) (disp (p .state)) n)) x i (omega (arith, from)) (omega (arith, to));
         }
 
@@ -202,7 +210,6 @@ module _ (row : ℕ) (pos : 0 < row) where
         let x : List ℕ = write a (enframe row q) in
         let bs : List ℕ = part (start row p) k x in
         let z : size (q .state) ≡ n = reserve-size row P m n q w r in
-        let e : sizeAt row (lookup row P (startOf h)) ≡ size (p .state) = ap (sizeAt row) (b .found) in
         let j : length bs ≤ k = omega (arith, length-take k (drop (start row p) x)) in
         let w′ : T (wellFormed (poolOf q)) = reserve-formed row P m n q w s r .formed in
         let y : Agrees (cells row (poolOf q)) (put (start row q) bs x) =
@@ -210,8 +217,8 @@ module _ (row : ℕ) (pos : 0 < row) where
         record {
           agrees = discarded (poolOf q) p (put (start row q) bs x) w′ y;
           whole = block-whole P w a g p h b;
-          cleared = λ _ i g.
-              let (from, to) = subst (λ v. (v + min (sizeAt row (lookup row P (startOf h))) n ≤ i) × (i < v + n)) (start-cleared row u q) g in
+          cleared = λ _ i y′.
+              let (from, to) = subst (λ v. (v + k ≤ i) × (i < v + n)) (start-cleared row u q) (gained P w a g p h n (startOf (handle row q)) i b y′) in
               discard-zero (poolOf q) p (put (start row q) bs x) i
               (put-past (start row q) bs x i 0 (omega (arith, from)) ∙ framed row q a i (omega (arith, from)) (omega (arith, to)));
         }

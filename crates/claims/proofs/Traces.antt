@@ -1,12 +1,14 @@
 -- The lines of a trace whose stores lie in requested bytes of live blocks are the model's, whatever bytes it stores.
-use Rattle.mem.proofs.Prelude.{_∙_, _≡_, sym, ap, refl, ap₂, subst, true, Bool, false, not, List, [], _∷_, map, ℕ, _<_, _≤_, _+_, _*_, suc, _/_}
+use Rattle.mem.proofs.Prelude.{_∙_, _≡_, sym, ap, refl, ap₂, subst, true, Bool, false, not, ⊎-elim, inl, inr, _⊎_, none, Option, List, [], _∷_, map, ℕ, _<_, _≤_, _+_, _*_, suc, _/_}
 use Rattle.mem.proofs.Prelude.{leb-false, leb-true, T, leb, ltb, T-not, length, getD}
 use borrow.Author.Tests.{ltb-true, ltb-false}
 use Rattle.mem.specs.Lists.{choose}
 use Rattle.mem.specs.Bytes.{zeros, put}
+use Rattle.mem.proofs.Tests.{choose-false}
 use Rattle.mem.proofs.Laws.{zeros-length, put-length, put-before, put-past}
 use Rattle.classes.specs.Classes.{rowBytes}
 use Rattle.model.specs.State.{Pool, wellFormed, aligned}
+use Rattle.model.specs.Answers.{Answer}
 use Rattle.model.specs.Plans.{Plan, Call, grants, releases, resizes, measures, reports, plan}
 use Rattle.model.specs.Tables.{arenaRight, roomBytes}
 use Rattle.model.specs.Calls.{KeptBytes, keptIn, Result, engine, applied, call, callBy, written, setUpRight, setUpRightBy}
@@ -16,7 +18,7 @@ use Rattle.model.proofs.Formed.{Formed, plan-formed}
 use Rattle.trace.specs.Trace.{Operation, grant, release, resize, measure, store, report, Item, does, items, traceRight}
 use Rattle.trace.specs.Replay.{noTotals, arenaBytes, Line, Effect, effect, lineThen, performed, linesFrom, replayedOver, replayed}
 use Rattle.claims.specs.Demand3.{fed, requested, SameOutside}
-use Rattle.claims.specs.Traces.{blank, Stepped, stepped, steps, modelLines, Lies, StoresInside, LinesModelled, StoresSteerNothing}
+use Rattle.claims.specs.Traces.{blank, Stepped, stepped, steps, modelLines, GoesOn, Lies, StoresInside, LinesModelled, StoresSteerNothing}
 use Rattle.claims.specs.Traces.{ReplaySteersNothing}
 use Rattle.claims.proofs.Cells.{cells, Agrees}
 use Rattle.claims.proofs.Steps.{fresh-agrees, arena-length, plan-kept}
@@ -52,6 +54,10 @@ stored-outside row P a o bs s = record { long = put-length o bs a; bytes = λ i 
     go i t false c e f = put-before o bs a i 0 (leb-false o i e)
     go i t true false e f = put-past o bs a i 0 (ltb-false i (o + length bs) f)
     go i t true true e f = absurd (T-not (requested row P i) t (s i (leb-true o i e) (ltb-true i (o + length bs) f)))
+
+-- a bad record's line is the last
+ended : (i : ℕ) (x y : Option Answer) (ls ms : List Line) → x ≡ none → y ≡ none → lineThen i x ls ≡ lineThen i y ms
+ended i x y ls ms e f = ap (λ z. lineThen i z ls) e ∙ sym (ap (λ z. lineThen i z ms) f)
 
 module _ (row : ℕ) (pos : 0 < row) (n : ℕ) (h : T (arenaRight row n)) where
   module _ (P : Pool) (a : List ℕ) (t : KeptBytes) (r : Holds row n P a t) where
@@ -95,6 +101,26 @@ module _ (row : ℕ) (pos : 0 < row) (n : ℕ) (h : T (arenaRight row n)) where
 
   -- ---- all records
 
+  -- a record that ends the trace, whatever is behind it
+  abbrev Ends : Operation → Type 0
+  Ends x = (P : Pool) (a : List ℕ) (t : KeptBytes) → length a ≡ n → (performed row a t x .tells ≡ none) × (steps row n P x .tells ≡ none)
+
+  on-or-ends : (x : Operation) → GoesOn n x ⊎ Ends x
+  unfolding performed steps
+  on-or-ends (grant k) = inl tt
+  on-or-ends (release h) = inl tt
+  on-or-ends (resize h k) = inl tt
+  on-or-ends (measure h) = inl tt
+  on-or-ends (store o bs) = go (leb (o + length bs) n) refl
+    where
+      go : (b : Bool) → leb (o + length bs) n ≡ b → (o + length bs ≤ n) ⊎ Ends (store o bs)
+      go true e = inl (leb-true (o + length bs) n e)
+      go false e = inr (λ P a t l. (
+        ap (λ (d : Effect). d .tells) (choose-false (leb (o + length bs) (length a)) _ _ (ap (leb (o + length bs)) l ∙ e)),
+        ap (λ (d : Stepped). d .tells) (choose-false (leb (o + length bs) n) _ _ e),
+      ))
+  on-or-ends report = inl tt
+
   -- the lines of records over an arena and a room that hold a state
   lines : (P : Pool) (a : List ℕ) (t : KeptBytes) (i : ℕ) (xs : List Item) → Holds row n P a t → StoresInside row n P xs
       → linesFrom row a t i xs ≡ modelLines row n P i xs
@@ -102,8 +128,10 @@ module _ (row : ℕ) (pos : 0 < row) (n : ℕ) (h : T (arenaRight row n)) where
   lines P a t i [] r s = refl
   lines P a t i (Item.bad ∷ xs) r s = refl
   lines P a t i (does x ∷ xs) r s =
-      let f : Follows row n (performed row a t x) (steps row n P x) = acted P a t r x (s .0) in
-      ap₂ (lineThen i) (f .tells) (lines _ _ _ (suc i) xs (f .holds) (s .1))
+      ⊎-elim (λ g.
+      let f : Follows row n (performed row a t x) (steps row n P x) = acted P a t r x (s g .0) in
+      ap₂ (lineThen i) (f .tells) (lines _ _ _ (suc i) xs (f .holds) (s g .1)))
+      (λ e. let (p, q) = e P a t (r .long) in ended i _ _ _ _ p q) (on-or-ends x)
 
 -- ---- records without the bytes that they store
 
@@ -112,15 +140,17 @@ module _ (row n : ℕ) where
   record Like (x y : Operation) : Type 1 where
     steps-same : (P : Pool) → steps row n P x ≡ steps row n P y
     lies-same : (P : Pool) → Lies row P x ≡ Lies row P y
+    goes-same : GoesOn n x ≡ GoesOn n y
 
   itself : (x : Operation) → Like x x
-  itself x = record { steps-same = λ P. refl; lies-same = λ P. refl }
+  itself x = record { steps-same = λ P. refl; lies-same = λ P. refl; goes-same = refl }
 
   store-like : (o : ℕ) (bs cs : List ℕ) → length bs ≡ length cs → Like (store o bs) (store o cs)
   unfolding steps
   store-like o bs cs e = record {
     steps-same = λ P. rw e;
     lies-same = λ P. ap (λ k. (i : ℕ) → o ≤ i → i < o + k → T (requested row P i)) e;
+    goes-same = ap (λ k. o + k ≤ n) e;
   }
 
   -- what is so of records that are the same to the model is so of a record without its bytes beside the record
@@ -146,7 +176,7 @@ module _ (row n : ℕ) where
   blank-inside P [] = refl
   blank-inside P (x ∷ xs) =
       on-blank (λ y z. StoresInside row n P (y ∷ map blank xs) ≡ StoresInside row n P (z ∷ xs))
-      (λ y z l. rw (l .lies-same P, l .steps-same P, blank-inside (steps row n P z .pool) xs)) (blank-inside P xs) x
+      (λ y z l. rw (l .goes-same, l .lies-same P, l .steps-same P, blank-inside (steps row n P z .pool) xs)) refl x
 
 module _ (row : ℕ) (pos : 0 < row) where
   pub lines-modelled : LinesModelled row

@@ -1,10 +1,8 @@
--- Aligned blocks (02 §6): in sound tables every live block starts on a multiple of its alignment; a grant gives the alignment asked for
--- (`GrantedAligned`), every accepted resize keeps it, and no other call changes the block.
-use Prim.Native.Nat.{ℕ, _%_}
+-- Aligned blocks (02 §6): in sound tables every live block starts on a multiple of its alignment (`LiveRules` `.boundary`); a grant gives the
+-- alignment asked for (`GrantedAligned`), every accepted resize keeps it, and no other call changes the block.
+use Prim.Native.Nat.{ℕ}
 use mathlib.Core.Path.{_≡_}
 use mathlib.Core.List.{List, [], _∷_}
-use lib.Dec.{T}
-use Rattle.classes.specs.Alignments.{alignOf}
 use Rattle.model.specs.State.{Place, align, startOf, handle}
 use Rattle.model.specs.Plans.{Call, setsUp, grants, grantsAligned, releases, resizes, measures, reports, grantsList}
 use Rattle.model.specs.Calls.{Form, callBy}
@@ -22,10 +20,6 @@ Names reports o = ⊥
 Names (grantsList total cap places ns) o = ⊥
 
 module _ (row : ℕ) (F : Form) where
-  -- "soundness .. demands the boundary": "counted from the arena's first byte"
-  abbrev pub OnBoundaries : Type 0
-  OnBoundaries = (n : ℕ) (t : F .Room) (o : ℕ) (p : Place) → T (F .sound n t) → LiveAt row (F .view t) o p → o % alignOf (align (p .state)) ≡ 0
-
   -- "Resize of an aligned block keeps the boundary": the block of the handle before it, and the one of its value after it
   pub record KeepsBoundary (a : List ℕ) (t : F .Room) (h n : ℕ) : Type 0 where
     pub old : Place

@@ -3,12 +3,11 @@
 use Prim.Native.Nat.{ℕ}
 use mathlib.Core.Path.{_≡_}
 use mathlib.Core.List.{List, [], _∷_}
-use lib.Dec.{T}
 use lib.ListN.{length}
 use Rattle.mem.specs.Bytes.{put}
 use Rattle.model.specs.Answers.{Answer}
-use Rattle.model.specs.Plans.{Call}
-use Rattle.model.specs.Calls.{Form, FormLaws, masked, engine, callBy, setUpBy, setUpRightBy}
+use Rattle.model.specs.Plans.{Call, setsUp}
+use Rattle.model.specs.Calls.{Form, FormLaws, masked, engine, callBy}
 use Rattle.model.specs.Plain.{plainForm}
 
 -- bytes stored anywhere in the arena; what would fall past its end is left out
@@ -38,11 +37,16 @@ module _ (row : ℕ) where
       let r = callBy row F (stored a (u .stores)) t (u .asks) in
       record { answer = r .answer; arena = r .arena } ∷ seen F (r .arena) (r .room) us
 
+  -- from a set up on, which is seen too
+  abbrev pub seenFresh : (F : Form) → List ℕ → F .Room → List Round → List Seen
+  seenFresh F a t us =
+      let s = callBy row F a t setsUp in record { answer = s .answer; arena = s .arena } ∷ seen F (s .arena) (s .room) us
+
   -- two forms: each is set up over an arena and a room of its own, whatever bytes are in them
   abbrev pub Alike : Form → Form → Type 0
   Alike F G = (a b : List ℕ) (t : F .Room) (v : G .Room) (us : List Round)
-      → T (setUpRightBy row F a t) → T (setUpRightBy row G b v) → length a ≡ length b
-      → seen F (setUpBy row F a t .arena) (setUpBy row F a t .room) us ≡ seen G (setUpBy row G b v .arena) (setUpBy row G b v .room) us
+      → callBy row F a t setsUp .answer .number ≡ 0 → callBy row G b v setsUp .answer .number ≡ 0 → length a ≡ length b
+      → seenFresh F a t us ≡ seenFresh G b v us
 
   -- THE CLAIM: any two lawful forms are alike
   abbrev pub FormsAlike : Type 1

@@ -1,5 +1,5 @@
 -- Demand 2, the calls but grant: "Every call does what document 01 says". What an accepted set up, release and resize leave, byte by byte
--- and slot by slot, and that measure and report leave everything, without a word of the plans; which bytes of the arena answer 7 goes by.
+-- and slot by slot, and that measure and report leave everything, without a word of the plans; which bytes of the arena answers 6 and 7 go by.
 use Prim.Native.Nat.{ℕ, suc, _+_, _*_, _-_, _/_, _≤_, _<_, min}
 use mathlib.Core.Path.{_≡_}
 use mathlib.Core.Bool.{false, not}
@@ -9,16 +9,15 @@ use lib.Dec.{T}
 use lib.ListN.{length, getD}
 use Rattle.mem.specs.Lists.{any, every}
 use Rattle.mem.specs.Bytes.{low, part}
-use Rattle.classes.specs.Classes.{slotBytes, classOf, rowsOf}
+use Rattle.classes.specs.Classes.{unitsOf, slotBytes, classOf, rowsOf}
 use Rattle.classes.specs.Alignments.{alignOf}
 use Rattle.model.specs.declared.Slot.the-variants.{Idle, Live}
-use Rattle.model.specs.State.{Pool, Place, isLive, count, disp, size, align, startOf, poolOf, become, base, beginning, owned, start}
-use Rattle.model.specs.Blocks.{reserved, guard}
+use Rattle.model.specs.State.{Pool, Place, isLive, count, disp, size, align, startOf, poolOf, become, slotNumber, base, beginning, owned, start}
 use Rattle.model.specs.Answers.{done, listed}
 use Rattle.model.specs.Plans.{copies, Call, setsUp, grantsAligned, releases, resizes, measures, reports, freshPool, totals}
 use Rattle.model.specs.Calls.{Form, Outcome, write, callBy}
-use Rattle.claims.specs.Demand1.{StartsAt, guardDue}
-use Rattle.claims.specs.Demand2.{Intact}
+use Rattle.claims.specs.Demand1.{Near, Serves, StartsAt, headerDue, guardDue}
+use Rattle.claims.specs.Demand2.{Intact, reservedOf}
 
 -- an arena and what is left of it: the k bytes from a place on are zero, and no other byte changed
 pub record ZeroedOnly (a b : List ℕ) (from k : ℕ) : Type 0 where
@@ -26,16 +25,7 @@ pub record ZeroedOnly (a b : List ℕ) (from k : ℕ) : Type 0 where
   pub zero : (i : ℕ) → from ≤ i → i < from + k → getD b i 0 ≡ 0
   pub others : (i : ℕ) → (i < from) ⊎ (from + k ≤ i) → getD b i 0 ≡ getD a i 0
 
--- a block's class is that of a size or the next one up
-abbrev pub Near : (c n : ℕ) → Type 0
-Near c n = (c ≡ classOf n) ⊎ (c ≡ suc (classOf n))
-
--- 02 §6: "it is in place if n itself fits as in 01 and the block's class is that of the enlarged size or the next one up"
-pub record Serves (p : Place) (n : ℕ) : Type 0 where
-  pub fits : n ≤ slotBytes (p .cls) - 4 - 16 * disp (p .state)
-  pub near : Near (p .cls) (n + (alignOf (align (p .state)) - 16))
-
--- of an ordinary block that is document 01's: "In place if n is at most s − 4 − 16d and the block's class is at most one above n's class"
+-- of an ordinary block `Serves` is document 01's: "In place if n is at most s − 4 − 16d and the block's class is at most one above n's class"
 abbrev pub ServesOrdinary : Type 0
 ServesOrdinary = (c d n : ℕ) → c < 48 → n ≤ slotBytes c - 4 - 16 * d → Near c n ↔ (c ≤ suc (classOf n))
 
@@ -52,15 +42,18 @@ module _ (row : ℕ) where
   abbrev pub NeverAtZero : Type 0
   NeverAtZero = (P : Pool) (p : Place) → StartsAt row P 0 p → ⊥
 
+  -- THE HEADER
+
+  -- "Header, 4 bytes before the start: 0; slot number plus 32 times the lesser of 5 and the reserved count; then i·u + d as two bytes, low byte first."
+  abbrev pub HeaderBytes : List ℕ → Place → Type 0
+  HeaderBytes a p =
+      part (start row p - 4) 4 a ≡ 0 ∷ (slotNumber p + 32 * min 5 (reservedOf p)) ∷ low 2 (slotNumber p * unitsOf (p .cls) + disp (p .state))
+
   -- THE GUARD
 
   -- "The block's end is the slot's beginning plus s − 4."
   abbrev pub end : Place → ℕ
   end p = beginning row p + slotBytes (p .cls) - 4
-
-  -- "Reserved is s − 4 − 16d − n."
-  abbrev pub reservedOf : Place → ℕ
-  reservedOf p = reserved (p .cls) (disp (p .state)) (size (p .state))
 
   -- 02 §1: "whenever reserved is 1 or more .. the byte right after the requested bytes is 0 and is compared, besides what 01 has": "If reserved is
   -- 5 or more, the byte 5 before the end is 0 and the last four hold reserved, low byte first."
@@ -69,6 +62,10 @@ module _ (row : ℕ) where
     pub last : 5 ≤ reservedOf p → part (end p - 5) 5 a ≡ 0 ∷ low 4 (reservedOf p)
 
   module _ (F : Form) where
+    -- of any bytes: the header of a slot's block is that due exactly if these bytes of the arena are
+    abbrev pub HeadersAsSaid : Type 0
+    HeadersAsSaid = (a : List ℕ) (t : F .Room) (p : Place) → T (F .sound (length a) t) → poolOf p ≡ F .view t → T (headerDue row a p) ↔ HeaderBytes a p
+
     -- of any bytes: the guard of a slot's block is that due exactly if these bytes of the arena are
     abbrev pub GuardsAsSaid : Type 0
     GuardsAsSaid = (a : List ℕ) (t : F .Room) (p : Place) → T (F .sound (length a) t) → poolOf p ≡ F .view t → T (guardDue row a p) ↔ GuardBytes a p
@@ -133,9 +130,9 @@ module _ (row : ℕ) where
       pub long : length (r .arena) ≡ length a
       -- "the first bytes, as many as the lesser of old and new n, stay"
       pub kept : (i : ℕ) → i < stay p n → getD (r .arena) (start row p + i) 0 ≡ getD a (start row p + i) 0
-      -- "all from there to the end become zero", but the guard
-      pub zero : (i : ℕ) → start row p + stay p n ≤ i → i + length (guard (reserved (p .cls) (disp (p .state)) n)) < owned row p + slotBytes (p .cls)
-          → getD (r .arena) i 0 ≡ 0
+      -- "all from there to the end become zero", but the last four, which are the guard's, if reserved is 5 or more
+      pub zero : (i : ℕ) → start row p + stay p n ≤ i → i < owned row p + slotBytes (p .cls)
+          → (reservedOf (sized p n) < 5) ⊎ (i + 4 < owned row p + slotBytes (p .cls)) → getD (r .arena) i 0 ≡ 0
       -- "header and guard are written anew"
       pub due : Intact row (r .arena) (F .view (r .room)) h (sized p n)
       -- no byte before the header or behind the block changes

@@ -1,6 +1,6 @@
 -- Demand 1: "Any arena bytes, table bytes, offset and size may be given. Every call ends with an answer of document 01's table. A
 -- refusal names its reason, in the fixed order, and changes no byte of arena or tables."
-use Prim.Native.Nat.{ℕ, _+_, _*_, _-_, _^_, _≤_, _<_}
+use Prim.Native.Nat.{ℕ, suc, _+_, _*_, _-_, _^_, _≤_, _<_}
 use mathlib.Core.Path.{_≡_}
 use mathlib.Core.Bool.{Bool, not}
 use mathlib.Core.Logic.{_⊎_}
@@ -8,7 +8,7 @@ use mathlib.Core.Option.{some}
 use mathlib.Core.List.{List, [], _∷_, _++_}
 use lib.Dec.{T}
 use lib.ListN.{length}
-use Rattle.classes.specs.Classes.{classOf, tooLarge}
+use Rattle.classes.specs.Classes.{slotBytes, classOf, tooLarge}
 use Rattle.classes.specs.Alignments.{alignOf}
 use Rattle.model.specs.declared.Refusal.{Refusal}
 use Rattle.model.specs.declared.Refusal.the-variants.{BadArena, Unsound, TooLarge, NoSuchBlock, AlreadyFree, Stale, HeaderDamaged, Overrun, NoRoom}
@@ -17,7 +17,7 @@ use Rattle.model.specs.State.{Pool, Place, isLive, granted, disp, size, align, 
 use Rattle.model.specs.Blocks.{headerRight, guardRight, ownedBytes}
 use Rattle.model.specs.Answers.{numberOf}
 use Rattle.model.specs.Proposals.{entries, accepts}
-use Rattle.model.specs.Plans.{Call, setsUp, grants, grantsAligned, releases, resizes, measures, reports, grantsList, inPlace, reserveAll, poolAfter, NoPlace}
+use Rattle.model.specs.Plans.{Call, setsUp, grants, grantsAligned, releases, resizes, measures, reports, grantsList, reserveAll, poolAfter, NoPlace}
 use Rattle.model.specs.Calls.{Form, callBy, setUpRightBy}
 
 -- "They are tested in this order, each where it applies: grant 2, 3, 8; release and measure 2, 4, 5, 6, 7; resize all of 2 to 8;
@@ -93,6 +93,15 @@ OfAlignment M (measures h) = ⊥
 OfAlignment M reports = ⊥
 OfAlignment M (grantsList total cap places ns) = ⊥
 
+-- a block's class is that of a size or the next one up
+abbrev pub Near : (c n : ℕ) → Type 0
+Near c n = (c ≡ classOf n) ⊎ (c ≡ suc (classOf n))
+
+-- 02 §6: "it is in place if n itself fits as in 01 and the block's class is that of the enlarged size or the next one up"
+pub record Serves (p : Place) (n : ℕ) : Type 0 where
+  pub fits : n ≤ slotBytes (p .cls) - 4 - 16 * disp (p .state)
+  pub near : Near (p .cls) (n + (alignOf (align (p .state)) - 16))
+
 module _ (row : ℕ) where
   -- a granted slot of a pool, and the one whose last start an offset is
   pub record Slotted (P : Pool) (p : Place) : Type 0 where
@@ -144,7 +153,7 @@ module _ (row : ℕ) where
   NoRoomFor P (grantsAligned n b) = NoPlace row P (classOf (n + (b - 16)))
   NoRoomFor P (releases h) = ⊥
   NoRoomFor P (resizes h n) =
-      (p : Place) × LiveAt P (startOf h) p × T (not (inPlace p n)) × NoPlace row P (classOf (n + (alignOf (align (p .state)) - 16)))
+      (p : Place) × LiveAt P (startOf h) p × (Serves p n → ⊥) × NoPlace row P (classOf (n + (alignOf (align (p .state)) - 16)))
   NoRoomFor P (measures h) = ⊥
   NoRoomFor P reports = ⊥
   NoRoomFor P (grantsList total cap places ns) = Meets P ns

@@ -2,25 +2,37 @@
 -- accepts an offset exactly if it starts a live block whose header and guard are intact." (02 §7: "Demand 2's release takes the live block's
 -- present handle.") "A grant is refused exactly if the size is 131,052 or more, the tables are unsound, or neither a free slot of its class nor a
 -- long enough run of free rows exists. Live blocks never share a byte."
-use Prim.Native.Nat.{ℕ, _+_, _*_, _-_, _%_, _^_, _≤_, _<_, max}
+use Prim.Native.Nat.{ℕ, suc, _+_, _*_, _-_, _/_, _%_, _^_, _≤_, _<_, max}
 use mathlib.Core.Path.{_≡_}
-use mathlib.Core.Bool.{not}
+use mathlib.Core.Bool.{true, not}
 use mathlib.Core.Logic.{_⊎_, _↔_}
 use mathlib.Core.List.{List, [], _∷_, _++_}
 use lib.Dec.{T}
-use lib.ListN.{length, replicate}
+use lib.ListN.{length, getD, replicate}
 use Rattle.mem.specs.Lists.{any, every}
-use Rattle.mem.specs.Bytes.{put}
 use Rattle.classes.specs.Classes.{slotBytes, classOf, slotsOf, rowsOf, tooLarge}
 use Rattle.classes.specs.Alignments.{ordinary, alignOf, codeOf}
 use Rattle.model.specs.declared.Slot.{Slot}
-use Rattle.model.specs.declared.Slot.the-variants.{Fresh}
-use Rattle.model.specs.State.{Pool, Place, group, isLive, isReady, count, disp, size, align, startOf, poolOf, slotNumber, rows, beginning, owned, start}
+use Rattle.model.specs.declared.Slot.the-variants.{Fresh, Idle, Live}
+use Rattle.model.specs.State.{Pool, Place, group, isLive, isReady, isWaiting, count, disp, size, align, startOf, poolOf, rows, beginning, owned, start}
 use Rattle.model.specs.State.{handle}
-use Rattle.model.specs.Blocks.{frame}
-use Rattle.model.specs.Plans.{Call, grants, grantsAligned, releases, measures, refill, grantSlot, freshPool, AllLive, NoPlace}
+use Rattle.model.specs.Plans.{Call, grants, grantsAligned, releases, measures, freshPool, AllLive, NoPlace}
 use Rattle.model.specs.Calls.{Form, callBy}
 use Rattle.claims.specs.Demand1.{NoAlignment, LiveAt, headerDue, guardDue}
+
+-- "Reserved is s − 4 − 16d − n."
+abbrev pub reservedOf : Place → ℕ
+reservedOf p = slotBytes (p .cls) - 4 - 16 * disp (p .state) - size (p .state)
+
+-- a slot where all waiting slots become ready: one that waits keeps its count and its last start, any other stays as it is
+pub record TurnsReady (x y : Slot) : Type 0 where
+  pub waits : T (isWaiting x) → y ≡ Idle true (count x) (disp x)
+  pub stays : T (not (isWaiting x)) → y ≡ x
+
+-- "If its ready set is empty, all waiting slots become ready first.": the slots of a group, and as a slot is taken of them
+pub record Refilled (ss rs : List Slot) : Type 0 where
+  pub some-ready : T (any isReady ss) → rs ≡ ss
+  pub none-ready : T (every (λ x. not (isReady x)) ss) → (length rs ≡ length ss) × ((i : ℕ) → TurnsReady (getD ss i Fresh) (getD rs i Fresh))
 
 module _ (row : ℕ) where
   -- a live block of a pool by its present handle, whose 4 header bytes and guard bytes are those due
@@ -69,6 +81,15 @@ module _ (row : ℕ) where
     pub fresh : ss ≡ replicate (slotsOf c) Fresh
     pub lowest : (X′ Y′ : Pool) → P ≡ X′ ++ (freshPool (rowsOf row c) ++ Y′) → rows row X ≤ rows row X′
 
+  -- a slot laid out for its block, byte by byte, in the arena a, which becomes b: "The slot's s owned bytes become zero, then header and guard are
+  -- written; no other arena byte changes."
+  pub record LaidOut (a b : List ℕ) (p : Place) : Type 0 where
+    pub long : length b ≡ length a
+    -- all but the header, and the last four, which are the guard's, if reserved is 5 or more
+    pub zero : (i : ℕ) → owned row p ≤ i → i < owned row p + slotBytes (p .cls) → (i + 4 < start row p) ⊎ (start row p ≤ i)
+        → (reservedOf p < 5) ⊎ (i + 4 < owned row p + slotBytes (p .cls)) → getD b i 0 ≡ 0
+    pub others : (i : ℕ) → (i < owned row p) ⊎ (owned row p + slotBytes (p .cls) ≤ i) → getD b i 0 ≡ getD a i 0
+
   module _ (F : Form) where
     -- a block that a call grants, of n bytes with an alignment, is where and what document 01 says, c being its class
     pub record GrantedBy (a : List ℕ) (t : F .Room) (asks : Call) (code n c : ℕ) (p : Place) : Type 0 where
@@ -76,20 +97,20 @@ module _ (row : ℕ) where
       pub served : Opened (F .view t) c (p .before) slots (p .after) ⊎ Made (F .view t) c (p .before) slots (p .after)
       pub old : Slot
       -- "If its ready set is empty, all waiting slots become ready first. Take its lowest ready slot."
-      pub refilled : refill slots ≡ p .lower ++ (old ∷ p .upper)
+      pub refilled : Refilled slots (p .lower ++ (old ∷ p .upper))
       pub ready : T (isReady old)
       pub lowest : T (every (λ x. not (isReady x)) (p .lower))
-      -- displacement and count, class, requested size, handle
-      pub state : p .state ≡ grantSlot c code n (beginning row p) old
       pub cls : p .cls ≡ c
-      pub bytes : size (p .state) ≡ n
+      -- "then the count goes up by one, 255 becoming 0"
+      pub state : p .state ≡ Live (record { count = (count old + 1) % 256; disp = disp (p .state); size = n; align = code })
+      -- "Let t be the whole part of (s − 4 − n) / 16; d is the slot's count modulo (t + 1)"; of an aligned grant see `GrantedAligned`
+      pub displaced : code ≡ ordinary → disp (p .state) ≡ count old % suc ((slotBytes c - 4 - n) / 16)
       pub value : callBy row F a t asks .answer .values ≡ handle row p ∷ []
       -- 02 §7: "the value from a grant now carries in its low four bits the slot's use count before that grant, modulo 16"
       pub bits : handle row p ≡ start row p + count old % 16
-      pub cleared : startOf (handle row p) ≡ start row p
-      -- the tables, and the slot's bytes with header and guard; "no other arena byte changes"
-      pub pool : F .view (callBy row F a t asks .room) ≡ poolOf p
-      pub arena : callBy row F a t asks .arena ≡ put (owned row p) (frame (p .cls) (slotNumber p) (disp (p .state)) n) a
+      -- the tables have the block by its handle, whose start has the low four bits cleared, and its header and guard are those due
+      pub due : Intact (callBy row F a t asks .arena) (F .view (callBy row F a t asks .room)) (handle row p) p
+      pub bytes : LaidOut a (callBy row F a t asks .arena) p
 
     abbrev pub GrantsAsSaid : Type 0
     GrantsAsSaid = (a : List ℕ) (t : F .Room) (n : ℕ) → callBy row F a t (grants n) .answer .number ≡ 0

@@ -5,17 +5,17 @@ use Prim.Native.Nat.{ℕ, _+_, _/_, _≤_, _<_, min}
 use mathlib.Core.Path.{_≡_}
 use mathlib.Core.Bool.{Bool, _&&_, not}
 use mathlib.Core.Logic.{_⊎_}
-use mathlib.Core.Option.{Option, none, some}
 use mathlib.Core.List.{List, [], _∷_, map}
 use lib.Dec.{T, leb, ltb}
 use lib.ListN.{length, getD, set}
 use Rattle.mem.specs.Lists.{any}
-use Rattle.model.specs.State.{Pool, Place, isLive, size, startOf, places, start}
+use Rattle.model.specs.State.{Pool, Place, isLive, size, startOf, poolOf, places, start}
 use Rattle.model.specs.Answers.{Answer, done, listed}
 use Rattle.model.specs.Plans.{Call, setsUp, grants, grantsAligned, releases, resizes, measures, reports, grantsList}
-use Rattle.model.specs.Plans.{plan, lookup, totals, freshPool}
-use Rattle.model.specs.Tables.{roomFor}
-use Rattle.model.specs.Calls.{Form, callBy, setUpBy, setUpRightBy}
+use Rattle.model.specs.Plans.{plan, totals, freshPool}
+use Rattle.model.specs.Tables.{arenaRight}
+use Rattle.model.specs.Calls.{Form, Stands, callBy}
+use Rattle.claims.specs.Demand1.{LiveAt}
 
 -- THE MODEL: "Every call steps on that state and its arguments alone". What it answers to calls, and its state after them.
 pub record Modelled : Type 0 where
@@ -45,19 +45,19 @@ module _ (row : ℕ) where
       let m = model (p .pool) cs in
       record { answers = p .answer ∷ m .answers; pool = m .pool }
 
-  -- "The model is fed the lengths of arena and table room": the rows of its first state are the arena's length over the row's.
+  -- "The model is fed the lengths of arena and table room": the rows of its first state are the arena's length over the row's. The room's length
+  -- is a formula of it (`SetsUpExactly`), so it tells nothing more.
   abbrev pub fed : ℕ → Pool
   fed n = freshPool (n / row)
 
-  -- The room's length is one formula of the arena's, so it tells nothing more; the room's bytes are those of what is lent but the record.
-  abbrev pub RoomFollows : (F : Form) → (F .Room → List ℕ) → Type 0
-  RoomFollows F bytes = (a : List ℕ) (t : F .Room) → T (setUpRightBy row F a t) → length (bytes t) ≡ roomFor row (length a)
+  -- "the set up that made the pool and then the calls"
+  abbrev pub modelFresh : ℕ → List Call → Modelled
+  modelFresh n cs = model (fed n) (setsUp ∷ cs)
 
-  -- "Its requested bytes lie from its start on, as many as the n last accepted for it."
+  -- whether byte i is a requested byte of a live block: of a place's, and of a pool's
   abbrev pub covers : ℕ → Place → Bool
   covers i p = isLive (p .state) && leb (start row p) i && ltb i (start row p + size (p .state))
 
-  -- byte i is a requested byte of a live block
   unfoldable pub requested : Pool → ℕ → Bool
   requested P i = any (covers i) (places P)
 
@@ -66,16 +66,27 @@ module _ (row : ℕ) where
     pub long : length b ≡ length a
     pub bytes : (i : ℕ) → T (not (requested P i)) → getD b i 0 ≡ getD a i 0
 
+  -- "Its requested bytes lie from its start on, as many as the n last accepted for it": byte i is one of the live block of a place
+  pub record RequestedByte (P : Pool) (p : Place) (i : ℕ) : Type 0 where
+    pub pool : poolOf p ≡ P
+    pub live : T (isLive (p .state))
+    pub from : start row p ≤ i
+    pub to : i < start row p + size (p .state)
+
   -- the premise admits every store into a requested byte of a live block
   abbrev pub StoresAdmitted : Type 0
-  StoresAdmitted = (P : Pool) (a : List ℕ) (i v : ℕ) → T (requested P i) → SameOutside P a (set a i v)
+  StoresAdmitted = (P : Pool) (a : List ℕ) (p : Place) (i v : ℕ) → RequestedByte P p i → SameOutside P a (set a i v)
+
+  -- and no other: where two such arenas differ, there is a requested byte of a live block
+  abbrev pub StoresOnly : Type 0
+  StoresOnly = (P : Pool) (a b : List ℕ) (i : ℕ) → SameOutside P a b → (getD b i 0 ≡ getD a i 0 → ⊥) → (p : Place) × RequestedByte P p i
+
+  -- the model keeps to the arena that it is fed: after every list of calls its state is one that the arena's tables can have
+  abbrev pub ModelStands : Type 0
+  ModelStands = (n : ℕ) (cs : List Call) → T (arenaRight row n) → Stands row n (model (fed n) cs .pool)
 
   -- the bytes that a block gains in an accepted call that answers r, from the start of the handle that it gives: a moved block gains those past
   -- its old size, and of a list each entry is a grant
-  abbrev pub sizeAt : Option Place → ℕ
-  sizeAt none = 0
-  sizeAt (some p) = size (p .state)
-
   abbrev pub given : Answer → ℕ
   given r = startOf (getD (r .values) 0 0)
 
@@ -89,7 +100,7 @@ module _ (row : ℕ) where
   Gains P (grants n) r i = (given r ≤ i) × (i < given r + n)
   Gains P (grantsAligned n b) r i = (given r ≤ i) × (i < given r + n)
   Gains P (releases h) r i = ⊥
-  Gains P (resizes h n) r i = (given r + min (sizeAt (lookup row P (startOf h))) n ≤ i) × (i < given r + n)
+  Gains P (resizes h n) r i = (p : Place) × LiveAt row P (startOf h) p × (given r + min (size (p .state)) n ≤ i) × (i < given r + n)
   Gains P (measures h) r i = ⊥
   Gains P reports r i = ⊥
   Gains P (grantsList total cap places ns) r i = GainsEach (r .lent) ns i
@@ -107,9 +118,12 @@ module _ (row : ℕ) where
         let e = ran (r .arena) (r .room) us in
         record { answers = r .answer ∷ e .answers; arena = e .arena; room = e .room }
 
-    -- a run from a fresh pool: "A fresh pool is what an accepted set up leaves."
+    -- a run from a fresh pool: "A fresh pool is what an accepted set up leaves." The set up's answer is the first.
     abbrev pub ranFresh : List ℕ → F .Room → List Turn → Ended (F .Room)
-    ranFresh a t us = ran (setUpBy row F a t .arena) (setUpBy row F a t .room) us
+    ranFresh a t us =
+        let s = callBy row F a t setsUp in
+        let e = ran (s .arena) (s .room) us in
+        record { answers = s .answer ∷ e .answers; arena = e .arena; room = e .room }
 
     -- the totals after a run: what report gives over what it leaves
     abbrev pub reported : Ended (F .Room) → Answer
@@ -130,13 +144,13 @@ module _ (row : ℕ) where
         Cleared P (u .asks) (callBy row F (u .arena) t (u .asks) .answer) (callBy row F (u .arena) t (u .asks) .arena)
         × AllCleared (plan row P (u .asks) .pool) (callBy row F (u .arena) t (u .asks) .arena) (callBy row F (u .arena) t (u .asks) .room) us
 
-    -- what one run of the calls from a pool P shows: the model's answers, the one form of its state, which of the first engine is tables and record
+    -- what one run from a fresh pool shows: the model's answers, the one form of its state, which of the first engine is tables and record
     -- (02 §4: "demand 3 counts it with the tables"), its totals from report, and zeros where a block gains bytes
-    pub record AsModelled (P : Pool) (a : List ℕ) (t : F .Room) (us : List Turn) : Type 0 where
-      pub answers : ran a t us .answers ≡ model P (calls us) .answers
-      pub tables : ran a t us .room ≡ F .encode (model P (calls us) .pool)
-      pub counted : reported (ran a t us) ≡ done (listed (totals row (model P (calls us) .pool)))
-      pub cleared : AllCleared P a t us
+    pub record AsModelled (a : List ℕ) (t : F .Room) (us : List Turn) : Type 0 where
+      pub answers : ranFresh a t us .answers ≡ modelFresh (length a) (calls us) .answers
+      pub tables : ranFresh a t us .room ≡ F .encode (modelFresh (length a) (calls us) .pool)
+      pub counted : reported (ranFresh a t us) ≡ done (listed (totals row (modelFresh (length a) (calls us) .pool)))
+      pub cleared : AllCleared (fed (length a)) (callBy row F a t setsUp .arena) (callBy row F a t setsUp .room) us
 
     -- what two runs show beside one another: equal answers, equal tables and record, equal totals from report, and equal bytes but for the requested
     -- ones of the blocks of P
@@ -146,14 +160,14 @@ module _ (row : ℕ) where
       pub totals : reported d ≡ reported e
       pub outside : SameOutside P (d .arena) (e .arena)
 
+    -- a set up that is done, and then calls between which only the engine writes
+    pub record Run (a : List ℕ) (t : F .Room) (us : List Turn) : Type 0 where
+      pub set-up : callBy row F a t setsUp .answer .number ≡ 0
+      pub engine-only : EngineOnly (fed (length a)) (callBy row F a t setsUp .arena) (callBy row F a t setsUp .room) us
+
     -- DEMAND 3. Over any arena and room bytes of the right lengths and any record, different in each run; the same list of calls, and any stores
     -- of the engine, different in each.
     abbrev pub SteersNothing : Type 0
     SteersNothing = (a₁ : List ℕ) (t₁ : F .Room) (a₂ : List ℕ) (t₂ : F .Room) (us₁ us₂ : List Turn)
-        → T (setUpRightBy row F a₁ t₁) → T (setUpRightBy row F a₂ t₂) → length a₁ ≡ length a₂
-        → calls us₁ ≡ calls us₂
-        → EngineOnly (fed (length a₁)) (setUpBy row F a₁ t₁ .arena) (setUpBy row F a₁ t₁ .room) us₁
-        → EngineOnly (fed (length a₂)) (setUpBy row F a₂ t₂ .arena) (setUpBy row F a₂ t₂ .room) us₂
-        → SameRuns (model (fed (length a₁)) (calls us₁) .pool) (ranFresh a₁ t₁ us₁) (ranFresh a₂ t₂ us₂)
-        × AsModelled (fed (length a₁)) (setUpBy row F a₁ t₁ .arena) (setUpBy row F a₁ t₁ .room) us₁
-        × AsModelled (fed (length a₂)) (setUpBy row F a₂ t₂ .arena) (setUpBy row F a₂ t₂ .room) us₂
+        → length a₁ ≡ length a₂ → calls us₁ ≡ calls us₂ → Run a₁ t₁ us₁ → Run a₂ t₂ us₂
+        → SameRuns (modelFresh (length a₁) (calls us₁) .pool) (ranFresh a₁ t₁ us₁) (ranFresh a₂ t₂ us₂) × AsModelled a₁ t₁ us₁ × AsModelled a₂ t₂ us₂

@@ -17,10 +17,12 @@ use Rattle.claims.specs.Bench.{TooLargeAnywhere}
 use Rattle.claims.specs.Demand1.{Demand1}
 use Rattle.claims.specs.Demand2.{ReleasesExactly, MeasuresExactly, GrantsExactly, AlignedExactly, GrantsAsSaid, AlignedAsSaid, AlignedOrdinary}
 use Rattle.claims.specs.Demand2.{NeverShared, LeavesSound}
-use Rattle.claims.specs.AsSaid.{ServesOrdinary, NeverAtZero, GuardsAsSaid, SetsUpAsSaid, ReadsOnly, ReportsAsSaid, ReleasesAsSaid, ResizesAsSaid}
-use Rattle.claims.specs.Alignment.{OnBoundaries, ResizesKeepAlignment, OthersStay}
+use Rattle.claims.specs.AsSaid.{ServesOrdinary, NeverAtZero, HeadersAsSaid, GuardsAsSaid, SetsUpAsSaid, ReadsOnly, ReportsAsSaid, ReleasesAsSaid}
+use Rattle.claims.specs.AsSaid.{ResizesAsSaid}
+use Rattle.claims.specs.Soundness.{ArenasAsSaid, SetsUpExactly, SoundByRules}
+use Rattle.claims.specs.Alignment.{ResizesKeepAlignment, OthersStay}
 use Rattle.claims.specs.Stale.{StartsCleared, CountsStep, StaleRefused}
-use Rattle.claims.specs.Demand3.{RoomFollows, SteersNothing, StoresAdmitted}
+use Rattle.claims.specs.Demand3.{SteersNothing, StoresAdmitted, StoresOnly, ModelStands}
 use Rattle.claims.specs.Lists.{PlansAsSaid, ListsAsGrants, ListsExactly}
 use Rattle.claims.specs.History.{History}
 use Rattle.claims.specs.Record.{SoundExactly, RecordsFresh, ReportsRecord, HistoryRecorded, KeepsRecord, FlipsRefused}
@@ -44,6 +46,7 @@ pub record MeetsDemands (row : ℕ) (F : Form) : Type 0 where
   pub resizes-as-said : ResizesAsSaid row F
   pub reports-as-said : ReportsAsSaid row F
   pub reads-only : ReadsOnly row F
+  pub headers-as-said : HeadersAsSaid row F
   pub guards-as-said : GuardsAsSaid row F
   pub never-shared : NeverShared row F
   pub leaves-sound : LeavesSound row F
@@ -51,8 +54,7 @@ pub record MeetsDemands (row : ℕ) (F : Form) : Type 0 where
   -- gather lists: a list is its grants, all of them or none
   pub lists-as-grants : ListsAsGrants row F
   pub lists-exactly : ListsExactly row F
-  -- aligned blocks are on their boundaries, calls keep alignments, and leave the blocks that they do not name
-  pub on-boundaries : OnBoundaries row F
+  -- calls keep alignments, and leave the blocks that they do not name
   pub resizes-keep-alignment : ResizesKeepAlignment row F
   pub others-stay : OthersStay row F
   -- old handles are refused, while their group stays and their slot was granted again fewer than sixteen times
@@ -71,13 +73,19 @@ pub record Demands (row : ℕ) : Type 0 where
   -- 02 §8: the same answers and the same arena bytes from both, whatever is called, and whatever is stored in the arena between
   pub two-engines : TwoEngines row
   pub stores-anywhere : StoresAnywhere
-  -- what demand 3 feeds the model with, and the stores that it admits
-  pub room-follows : RoomFollows row (engine row) (λ t. t .tables)
-  pub plain-room-follows : RoomFollows row (plainForm row) (λ t. t)
+  -- the stores that demand 3 admits, and that its model keeps to its arena
   pub stores-admitted : StoresAdmitted row
+  pub stores-only : StoresOnly row
+  pub model-stands : ModelStands row
   -- the tables of each engine: one byte form, of one size
   pub tables : TableForm row byMasks
   pub plain-tables : TableForm row bySlots
+  -- which arenas and rooms set up takes, and when tables are sound, rule by rule
+  pub arenas-as-said : ArenasAsSaid
+  pub sets-up-exactly : SetsUpExactly row (engine row) (λ t. t .tables)
+  pub plain-sets-up-exactly : SetsUpExactly row (plainForm row) (λ t. t)
+  pub sound-by-rules : SoundByRules row byMasks
+  pub plain-sound-by-rules : SoundByRules row bySlots
   -- the record beside the first engine's: it is kept up to date and cross-checked, so a flipped bit of what is counted is found
   pub sound-exactly : SoundExactly row
   pub records-fresh : RecordsFresh row

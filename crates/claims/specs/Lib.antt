@@ -3,6 +3,7 @@ pub mod Bench
 pub mod Demand1
 pub mod Demand2
 pub mod AsSaid
+pub mod Soundness
 pub mod Alignment
 pub mod Demand3
 pub mod Lists

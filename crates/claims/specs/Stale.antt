@@ -9,7 +9,7 @@ use mathlib.Core.List.{List, [], _∷_}
 use lib.Dec.{T}
 use lib.ListN.{length}
 use Rattle.model.specs.declared.Slot.{Slot}
-use Rattle.model.specs.State.{Place, isLive, count, startOf, poolOf, start, handle, SameSlot}
+use Rattle.model.specs.State.{Place, isLive, count, disp, startOf, poolOf, start, handle, SameSlot}
 use Rattle.model.specs.Answers.{Answer}
 use Rattle.model.specs.Plans.{Call, setsUp, grants, grantsAligned, releases, resizes, measures, reports, grantsList}
 use Rattle.model.specs.Calls.{Form, callBy}
@@ -49,9 +49,10 @@ Ends (measures k) h r = ⊥
 Ends reports h r = ⊥
 Ends (grantsList total cap places ns) h r = ⊥
 
--- a slot before and after a call that does not grant it: its count is the same, and it is live only if it was
+-- a slot before and after a call that does not grant it: its count and its displacement, "of its last start", are the same, and it is live only if
+-- it was
 abbrev pub NotGranted : Slot → Slot → Type 0
-NotGranted x y = (count y ≡ count x) × (T (isLive y) → T (isLive x))
+NotGranted x y = (count y ≡ count x) × (disp y ≡ disp x) × (T (isLive y) → T (isLive x))
 
 -- over any call: so, or it was not live, and is granted
 abbrev pub Steps : Call → Slot → Slot → Type 0

@@ -40,6 +40,15 @@ pub record Stepped : Type 0 where
 abbrev pub stepped : Plan → Stepped
 stepped p = record { tells = some (p .answer); pool = p .pool }
 
+-- a record that does not end the trace: a store that ends in an arena of n bytes, or any other
+abbrev pub GoesOn : ℕ → Operation → Type 0
+GoesOn n (grant k) = Unit {0}
+GoesOn n (release h) = Unit {0}
+GoesOn n (resize h k) = Unit {0}
+GoesOn n (measure h) = Unit {0}
+GoesOn n (store o bs) = o + length bs ≤ n
+GoesOn n report = Unit {0}
+
 module _ (row : ℕ) where
   -- in an arena of n bytes; of the bytes that are stored it is told how many they are
   unfoldable pub steps : ℕ → Pool → Operation → Stepped
@@ -66,11 +75,12 @@ module _ (row : ℕ) where
   Lies P (store o bs) = (i : ℕ) → o ≤ i → i < o + length bs → T (requested row P i)
   Lies P report = Unit {0}
 
-  -- and so are those of every store of a trace
+  -- and so are those of every store of a trace. A store that ends past the arena stores nothing and ends the trace, so nothing is asked of it, nor
+  -- of what stands behind it
   unfoldable pub StoresInside : ℕ → Pool → List Item → Type 0
   StoresInside n P [] = Unit {0}
-  StoresInside n P (Item.bad ∷ xs) = StoresInside n P xs
-  StoresInside n P (does x ∷ xs) = Lies P x × StoresInside n (steps n P x .pool) xs
+  StoresInside n P (Item.bad ∷ xs) = Unit {0}
+  StoresInside n P (does x ∷ xs) = GoesOn n x → Lies P x × StoresInside n (steps n P x .pool) xs
 
   -- over any arena and room bytes of the right lengths, and any record, the lines are the model's
   abbrev pub LinesModelled : Type 0

@@ -124,6 +124,15 @@ module _ {ℓ} {A : Type ℓ} where
       ap (part p k) (put-split p vs xs (omega arith)) ∙ ap (λ (j : ℕ). part j k (take p xs ++ (vs ++ drop (p + length vs) xs))) q
       ∙ part-back 0 k (take p xs) (vs ++ drop (p + length vs) xs) ∙ take-at vs (drop (p + length vs) xs) k e
 
+  -- what is written among others
+  pub part-among : (p : ℕ) (us vs ws xs : List A) → p + (length us + length vs) ≤ length xs
+      → part (p + length us) (length vs) (put p (us ++ (vs ++ ws)) xs) ≡ vs
+  part-among p us vs ws xs h =
+      let q : ℕ = p + length us in
+      ap (part q (length vs)) (put-append p us (vs ++ ws) xs ∙ put-append q vs ws (put p us xs))
+      ∙ part-put q (length vs) (q + length vs) ws (put q vs (put p us xs)) (inl (omega arith))
+      ∙ part-written q (length vs) vs (put p us xs) refl (omega (arith, h, put-length p us xs))
+
   -- ---- what is read after a write: before it, and past it
 
   pub put-before : (p : ℕ) (vs xs : List A) (i : ℕ) (d : A) → i < p → getD (put p vs xs) i d ≡ getD xs i d

@@ -76,6 +76,15 @@ every-not f (x ∷ l) e = go (f x) refl e (every-not f l)
     go true h e r = absurd (true≢false e)
     go false h e r = rw h (r e)
 
+-- and where each fails it, none passes
+pub none-any : {A : Type 0} (f : A → Bool) (l : List A) → T (every (λ x. not (f x)) l) → any f l ≡ false
+none-any f [] t = refl
+none-any f (x ∷ l) t = go (f x) t (none-any f l)
+  where
+    go : (b : Bool) → T (not b && every (λ x. not (f x)) l) → (T (every (λ x. not (f x)) l) → any f l ≡ false) → (b || any f l) ≡ false
+    go true t r = absurd t
+    go false t r = r t
+
 pub every-map : {A B : Type 0} (f : B → Bool) (g : A → B) (xs : List A) → every f (map g xs) ≡ every (λ x. f (g x)) xs
 every-map f g [] = refl
 every-map f g (x ∷ xs) = ap (λ (b : Bool). f (g x) && b) (every-map f g xs)

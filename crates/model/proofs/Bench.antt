@@ -10,16 +10,16 @@ use Rattle.model.specs.Blocks.{header, guard, firstSpare, spare, frame, 
 use Rattle.model.specs.Proposals.{entries, capRight, sizeRight, accepts, plannable, fullCaps, planned}
 use Rattle.model.specs.Plans.{plan, opens, refill, displaced, grantSlot, inPlace}
 use Rattle.model.specs.Tables.{slotRecord, rowRecord, laterRecords, roomBytes, viewSlot, viewSlots, viewGroup, viewHolder, spanRecordsBy, encodeBy}
-use Rattle.model.specs.Tables.{viewRowsBy, viewBy, arenaRight, soundBy}
+use Rattle.model.specs.Tables.{viewRowsBy, viewBy, arenaRight, soundBy, roomFor}
 use Rattle.model.specs.Calls.{sameTotals, callBy, carriedBy, checkedBy, setUpBy, setUpRightBy, unless}
-use Rattle.model.specs.Bench.{Entry, sheet01, sheetAligned, sheetHandles, sheet, passes, right}
+use Rattle.model.specs.Bench.{Entry, sheet01, sheetAligned, sheetHandles, sheetSound, sheet, passes, right}
 
 -- the lines of a list, with all that they are computed from
 unfoldable due : List Entry → Bool
 unfolding right passes choose zeros rowBytes tooLarge unitsOf slotBytes slotsOf rowsOf classOf slotSound spanSound places header guard firstSpare spare
     frame headerRight guardRight damageIn
     opens refill displaced grantSlot inPlace alignOf powers codeOf roundUp aligned plan slotRecord rowRecord laterRecords spanRecordsBy roomBytes viewSlot
-    viewSlots viewGroup viewHolder viewRowsBy
+    viewSlots viewGroup viewHolder viewRowsBy roomFor
     encodeBy viewBy arenaRight soundBy entries capRight sizeRight accepts plannable fullCaps planned callBy setUpBy setUpRightBy checkedBy carriedBy unless
     sameTotals
 due es = every right es
@@ -37,7 +37,12 @@ handle-lines : T (due sheetHandles)
 unfolding due sheetHandles
 handle-lines = tt
 
+sound-lines : T (due sheetSound)
+unfolding due sheetSound
+sound-lines = tt
+
 pub bench : T (every right sheet)
 unfolding sheet due
 bench =
-    every-append right sheet01 (sheetAligned ++ sheetHandles) first-lines (every-append right sheetAligned sheetHandles aligned-lines handle-lines)
+    every-append right sheet01 (sheetAligned ++ (sheetHandles ++ sheetSound)) first-lines
+    (every-append right sheetAligned (sheetHandles ++ sheetSound) aligned-lines (every-append right sheetHandles sheetSound handle-lines sound-lines))

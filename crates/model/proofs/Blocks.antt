@@ -1,8 +1,8 @@
 -- The lengths of headers, guards and frames, and the first spare byte.
-use Rattle.mem.proofs.Prelude.{_≡_, ap, refl, List, [], _∷_, _++_, _+_, ℕ, _<_, _≤_, _*_, _-_, suc, zero, sub-zero, arith}
+use Rattle.mem.proofs.Prelude.{_≡_, ap, refl, List, [], _∷_, _++_, append-assoc, append-nil, _+_, ℕ, _<_, _≤_, _*_, _-_, suc, zero, sub-zero, arith}
 use Rattle.mem.proofs.Prelude.{le-leb, leb-true, lt-leb, leb, length, drop, length-append}
 use Rattle.mem.specs.Bytes.{zeros, low}
-use Rattle.mem.proofs.Laws.{zeros-length, zeros-cons}
+use Rattle.mem.proofs.Laws.{zeros-length, zeros-cons, zeros-none, zeros-add}
 use Rattle.mem.proofs.Tests.{choose-case, choose-true, choose-false}
 use Rattle.classes.specs.Classes.{slotBytes}
 use Rattle.model.specs.Blocks.{header, guard, firstSpare, spare, frame}
@@ -30,6 +30,20 @@ guard-fits r = choose-case (λ g. length g ≤ r) (leb 5 r) (0 ∷ low 4 r) [] (
 pub spare-length : (r : ℕ) → length (spare r) ≡ r
 unfolding spare
 spare-length r = simp (length-append, zeros-length) (omega (arith, guard-fits r))
+
+-- the reserved bytes, where there is a guard, and where there is none: all zero but the last four
+pub spare-last : (r : ℕ) → 5 ≤ r → spare r ≡ zeros (r - 5) ++ (0 ∷ low 4 r)
+unfolding spare
+spare-last r h = rw (guard-bytes r h)
+
+pub spare-guarded : (r : ℕ) → 5 ≤ r → spare r ≡ zeros (r - 4) ++ low 4 r
+spare-guarded r h =
+    let e : r - 4 ≡ r - 5 + 1 = omega arith in
+    rw (spare-last r h, e, zeros-add (r - 5) 1, append-assoc (zeros (r - 5)) (zeros 1) (low 4 r), zeros-cons 0, zeros-none)
+
+pub spare-bare : (r : ℕ) → r < 5 → spare r ≡ zeros r
+unfolding spare
+spare-bare r h = rw (guard-none r h, sub-zero, append-nil (zeros r))
 
 -- the first spare byte, if there is one
 pub first-spare : (r : ℕ) → 1 ≤ r → firstSpare r ≡ 0 ∷ []

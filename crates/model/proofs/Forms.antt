@@ -88,6 +88,16 @@ module _ (row : ℕ) where
     bounds = all-fresh row (n / row);
   }
 
+  pub plan-stands : 0 < row → (n : ℕ) (P : Pool) → Stands row n P → (c : Call) → Stands row n (plan row P c .pool)
+  plan-stands pos n P s c =
+      let f : Formed row P (plan row P c .pool) = plan-formed row pos P c (s .formed) in
+      record {
+        lawful = s .lawful;
+        long = s .long ∙ ap (λ k. row * k) (sym (f .long));
+        formed = f .formed;
+        bounds = f .bounds (whole-units row n (s .lawful)) (s .bounds);
+      }
+
   module _ (pos : 0 < row) (n : ℕ) (a : List ℕ) (e : length a ≡ n) (P : Pool) (s : Stands row n P) where
     -- an outcome over an arena of n bytes
     pub record Standing (o : Outcome Pool) : Type 0 where
@@ -97,19 +107,7 @@ module _ (row : ℕ) where
     stepped-stands : (c : Call) → Standing (stepped a P (plan row P c))
     stepped-stands c =
         unless-case Standing (damaged row a (plan row P c .checks)) _ _
-        (record {
-          long = written-length a (plan row P c .changes) ∙ e;
-          stands = record {
-            lawful = s .lawful;
-            long = s .long ∙ ap (λ k. row * k) (sym (f .long));
-            formed = f .formed;
-            bounds = f .bounds (whole-units row n (s .lawful)) (s .bounds);
-          };
-        })
-        (λ r. record { long = e; stands = s })
-      where
-        f : Formed row P (plan row P c .pool)
-        f = plan-formed row pos P c (s .formed)
+        (record { long = written-length a (plan row P c .changes) ∙ e; stands = plan-stands pos n P s c }) (λ r. record { long = e; stands = s })
 
     pub step-stands : (c : Call) → Standing (step a P c)
     step-stands setsUp = record {

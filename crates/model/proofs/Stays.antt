@@ -1,5 +1,5 @@
--- What a grant makes of the slots of a pool: the one that it takes is not live before it and steps its count, any other keeps its count, and a live
--- one its state. So it leaves every live block where it is.
+-- What a grant makes of the slots of a pool: the one that it takes is not live before it and steps its count, any other keeps its count and
+-- displacement, and a live one its state. So it leaves every live block where it is.
 use Rattle.mem.proofs.Prelude.{_∙_, _≡_, sym, ap, refl, subst, true, false, true≢false, ⊎-elim, inl, inr, _⊎_, some, List, [], _∷_}
 use Rattle.mem.proofs.Prelude.{_++_, append-assoc, map, append-nil, _+_, ℕ, _<_, _%_, suc, zero, add-zero, arith, T}
 use Rattle.mem.proofs.Prelude.{length, length-append, length-map}
@@ -12,7 +12,7 @@ use Rattle.classes.specs.Alignments.{enlarged}
 use Rattle.classes.proofs.Laws.{rows-pos}
 use Rattle.model.specs.declared.Slot.{Slot}
 use Rattle.model.specs.declared.Slot.the-variants.{Fresh, Idle, Live}
-use Rattle.model.specs.State.{Span, Pool, Place, free, group, isLive, isReady, count, wellFormed, poolOf, become, rows, SameSlot}
+use Rattle.model.specs.State.{Span, Pool, Place, free, group, isLive, isReady, count, disp, wellFormed, poolOf, become, rows, SameSlot}
 use Rattle.model.specs.Plans.{Site, turnReady, refill, grantSlot, grantIn, reserve, freshPool}
 use Rattle.model.proofs.Rooms.{rows-append}
 use Rattle.model.proofs.Fresh.{fresh-rows}
@@ -42,6 +42,7 @@ pub record Stays (row : ℕ) (p q : Place) : Type 0 where
 -- one that the grant does not take: at most it becomes ready
 pub record Kept (x y : Slot) : Type 0 where
   pub counts : count y ≡ count x
+  pub disps : disp y ≡ disp x
   pub lives : isLive y ≡ isLive x
   pub same : T (isLive x) → y ≡ x
 
@@ -55,11 +56,11 @@ abbrev pub Goes : Slot → Slot → Type 0
 Goes x y = Kept x y ⊎ Granted x y
 
 pub as-was : (x : Slot) → Kept x x
-as-was x = record { counts = refl; lives = refl; same = λ _. refl }
+as-was x = record { counts = refl; disps = refl; lives = refl; same = λ _. refl }
 
 turned : (x : Slot) → Kept x (turnReady x)
 turned Fresh = as-was Fresh
-turned (Idle r k d) = record { counts = refl; lives = refl; same = λ l. absurd l }
+turned (Idle r k d) = record { counts = refl; disps = refl; lives = refl; same = λ l. absurd l }
 turned (Live a) = as-was (Live a)
 
 ready-idle : (x : Slot) → T (isReady x) → isLive x ≡ false
@@ -71,6 +72,7 @@ ready-idle (Live a) r = absurd r
 pub goes-twice : (x y z : Slot) → Goes x y → Goes y z → Goes x z
 goes-twice x y z (inl a) (inl b) = inl (record {
   counts = b .counts ∙ a .counts;
+  disps = b .disps ∙ a .disps;
   lives = b .lives ∙ a .lives;
   same = λ l. b .same (subst T (sym (a .lives)) l) ∙ a .same l;
 })

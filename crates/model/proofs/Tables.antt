@@ -17,7 +17,7 @@ use Rattle.model.specs.declared.Slot.{Slot}
 use Rattle.model.specs.declared.Slot.the-variants.{Fresh, Idle, Live}
 use Rattle.model.specs.declared.Holder.{Holder}
 use Rattle.model.specs.declared.Holder.the-variants.{Free, First, Later}
-use Rattle.model.specs.State.{Span, Pool, free, group, isReady, isWaiting, size, slotSound, spanSound, wellFormed, aligned, rows, rowsIn}
+use Rattle.model.specs.State.{Span, Pool, free, group, isReady, isWaiting, count, size, slotSound, spanSound, wellFormed, aligned, rows, rowsIn}
 use Rattle.model.specs.Tables.{slotRecord, holderBytes, rowRecord, laterRecords, roomBytes, viewSlot, viewSlots, viewGroup, rowRecordBytes}
 use Rattle.model.specs.Tables.{viewHolder, spanOf, encodeBy, soundBy, spanRecordsBy, viewBy, viewRowsBy}
 use Rattle.model.specs.Tables.{Layout, LayoutLaws, byMasks, arenaRight}
@@ -89,6 +89,13 @@ group-few c ss t = omega (arith, group-slots c ss t, slots-small c)
 pub disp-fits : (c d : ℕ) → 16 * d ≤ slotBytes c - 4 → d < 256 ^ 2
 unfolding slotBytes
 disp-fits c d h = omega (arith, units-small c)
+
+-- "its use count modulo 256"
+pub count-small : (c : ℕ) (x : Slot) → T (slotSound c x) → count x < 256
+unfolding slotSound
+count-small c Fresh t = lit≤ tt
+count-small c (Idle r k d) t = ltb→lt k 256 (search and-left)
+count-small c (Live a) t = ltb→lt (a .count) 256 (search (and-left, and-right))
 
 -- "a live n is below 131,052"
 pub size-small : (c : ℕ) (x : Slot) → T (slotSound c x) → size x < 131052

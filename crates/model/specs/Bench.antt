@@ -10,7 +10,7 @@ use Rattle.mem.specs.Bytes.{zeros, bit, same, part, put}
 use Rattle.classes.specs.Classes.{rowBytes, slotsOf, rowsOf, classOf}
 use Rattle.model.specs.Plans.{Call, setsUp, grants, grantsAligned, releases, resizes, measures, reports, grantsList}
 use Rattle.model.specs.Proposals.{accepts, planned}
-use Rattle.model.specs.Tables.{roomBytes}
+use Rattle.model.specs.Tables.{roomBytes, roomFor}
 use Rattle.model.specs.declared.Totals.{Totals}
 use Rattle.model.specs.Calls.{KeptBytes, keptIn, sameTotals, call, setUp}
 
@@ -27,10 +27,13 @@ pub data Line : Type 0 where
   writes : Totals → Line
   spoils : (at byte : ℕ) → Line
 
--- an entry of the sheet: lines over a fresh pool of some arena length, a size with its class, a class with the slots and rows of its
--- groups, a proposal with 1 if the check accepts it, or what the planner answers and proposes
+-- an entry of the sheet: lines over a fresh pool of some arena length, what set up answers over arena and room of some lengths, an arena's length
+-- with its room's, which is 0 if there is none, a size with its class, a class with the slots and rows of its groups, a proposal with 1 if the check
+-- accepts it, or what the planner answers and proposes
 pub data Entry : Type 0 where
   fresh : (arena : ℕ) → List Line → Entry
+  sets : (arena room number : ℕ) → Entry
+  rooms : (arena room : ℕ) → Entry
   class : (n c : ℕ) → Entry
   groups : (c slots rows : ℕ) → Entry
   checks : (total cap : ℕ) (sizes : List ℕ) (accepted : ℕ) → Entry
@@ -70,8 +73,14 @@ sheet01 =
     -- W7
     ∷ fresh 4096 (gives (grants 160) 16 ∷ gives (grants 160) 208 ∷ gives (releases 16) 0 ∷ gives (grants 160) 400 ∷ [])
     -- W8, W9; 02 §7: "W8 now gives 33, W9 answers 10 for 32 and 4 for 16."
-    ∷ fresh 4096 (grants160 21 16 ++ (gives (releases 16) 0 ∷ gives (grants 160) 33 ∷ shows 28 (bytes4 0 160 1 0)
+    -- The displaced block has nothing but zeros before its header
+    ∷ fresh 4096 (grants160 21 16 ++ (gives (releases 16) 0 ∷ gives (grants 160) 33 ∷ shows 12 (zeros 16) ∷ shows 28 (bytes4 0 160 1 0)
     ∷ shows 200 (bytes4 12 0 0 0) ∷ refuses (releases 32) 10 ∷ refuses (releases 16) 4 ∷ []))
+    -- "d is the slot's count modulo (t + 1)": the third grant of a slot is not displaced. A refill keeps last starts: the slot that starts at 224
+    -- answers 5 there once it waits, and once it is ready
+    ∷ fresh 4096 (grants160 21 16 ++ (gives (releases 16) 0 ∷ gives (releases 208) 0 ∷ gives (grants 160) 33 ∷ gives (grants 160) 225
+    ∷ gives (releases 33) 0 ∷ gives (releases 225) 0 ∷ refuses (releases 225) 5 ∷ gives (grants 160) 18 ∷ refuses (releases 225) 5
+    ∷ refuses (releases 208) 4 ∷ []))
     -- W10
     ∷ fresh 4096 (gives (grants 160) 16 ∷ gives (grants 160) 208 ∷ gives (releases 16) 0 ∷ refuses (releases 16) 5 ∷ [])
     -- W11
@@ -97,11 +106,11 @@ sheet01 =
     ∷ stores 199 0 ∷ stores 198 1 ∷ gives (releases 16) 0 ∷ shows 196 (bytes4 0 0 0 0) ∷ shows 200 (bytes4 0 0 0 0)
     ∷ asks reports 0 (1 ∷ 160 ∷ 8 ∷ 0 ∷ 19 ∷ 1 ∷ []) ∷ [])
     -- 02 §1: "one byte too many into a block with three spare bytes"; the other two are not compared
-    ∷ fresh 4096 (gives (grants 185) 16 ∷ stores 201 1 ∷ refuses (measures 16) 7 ∷ refuses (releases 16) 7
+    ∷ fresh 4096 (gives (grants 185) 16 ∷ shows 12 (bytes4 0 96 0 0) ∷ stores 201 1 ∷ refuses (measures 16) 7 ∷ refuses (releases 16) 7
     ∷ stores 201 0 ∷ stores 202 1 ∷ stores 203 1 ∷ gives (measures 16) 185 ∷ gives (releases 16) 0 ∷ [])
     -- five spare bytes, whose first is the guard's; one; and none, where the byte past the end is the next header's first
     ∷ fresh 4096 (gives (grants 183) 16 ∷ stores 199 1 ∷ refuses (releases 16) 7 ∷ [])
-    ∷ fresh 4096 (gives (grants 187) 16 ∷ stores 203 1 ∷ refuses (measures 16) 7 ∷ refuses (releases 16) 7 ∷ [])
+    ∷ fresh 4096 (gives (grants 187) 16 ∷ shows 12 (bytes4 0 32 0 0) ∷ stores 203 1 ∷ refuses (measures 16) 7 ∷ refuses (releases 16) 7 ∷ [])
     ∷ fresh 4096 (gives (grants 188) 16 ∷ gives (grants 188) 208 ∷ stores 204 1 ∷ gives (measures 16) 188 ∷ refuses (measures 208) 6
     ∷ gives (releases 16) 0 ∷ [])
     -- no requested bytes: the start is the byte right after them
@@ -232,9 +241,29 @@ sheetHandles =
     ++ (gives (measures 16) 2028 ∷ gives (releases 16) 0 ∷ [])))
     ∷ []
 
+-- the rules of soundness, each broken alone, and what set up takes
+unfoldable pub sheetSound : List Entry
+sheetSound =
+    -- "its class is that of n or the next one up": in the slot of 160 bytes 141 is of the class below, and 140 is not
+    fresh 4096 (gives (grants 160) 16 ∷ spoils 36 141 ∷ writes (six 1 141 8 0 20 0) ∷ leaves (measures 16) 7 ∷ spoils 36 140
+    ∷ writes (six 1 140 8 0 20 0) ∷ leaves (measures 16) 2 ∷ [])
+    -- "each group has a live slot": the one block's slot waits
+    ∷ fresh 4096 (gives (grants 160) 16 ∷ spoils 28 1 ∷ spoils 36 0 ∷ writes (six 0 0 8 0 20 1) ∷ leaves (grants 160) 2 ∷ [])
+    -- "a live slot .. has 16d + n at most s − 4", "a slot granted but not live has 16d at most s − 4", "the arena length is the recorded one"
+    ∷ fresh 4096 (gives (grants 160) 16 ∷ gives (grants 160) 208 ∷ gives (releases 16) 0 ∷ spoils 42 1 ∷ leaves (measures 224) 6 ∷ spoils 42 2
+    ∷ leaves (measures 240) 2 ∷ spoils 42 0 ∷ spoils 34 11 ∷ gives (measures 208) 160 ∷ spoils 34 12 ∷ leaves (measures 208) 2 ∷ spoils 34 0
+    ∷ spoils 1 14 ∷ leaves (measures 208) 2 ∷ [])
+    -- "then i·u + d as two bytes, low byte first": the tables may say a displacement of 256 units
+    ∷ fresh 16896 (gives (grants 13100) 16 ∷ gives (resizes 16 10909) 16 ∷ spoils 35 1 ∷ stores 4109 160 ∷ leaves (measures 4112) 6 ∷ stores 4111 1
+    ∷ leaves (measures 4112) 7 ∷ [])
+    -- "bad arena: .. arena length outside the rule, or table room of another size": "512 to 262,144 bytes, a multiple of 512"
+    ∷ sets 512 280 0 ∷ sets 0 16 1 ∷ sets 256 16 1 ∷ sets 511 280 1 ∷ sets 513 280 1 ∷ sets 768 280 1 ∷ sets 512 279 1 ∷ sets 512 281 1
+    ∷ sets 1024 544 0 ∷ rooms 512 280 ∷ rooms 262144 135184 ∷ rooms 262145 0 ∷ rooms 262656 0 ∷ rooms 0 0
+    ∷ []
+
 unfoldable pub sheet : List Entry
-unfolding sheet01 sheetAligned sheetHandles
-sheet = sheet01 ++ (sheetAligned ++ sheetHandles)
+unfolding sheet01 sheetAligned sheetHandles sheetSound
+sheet = sheet01 ++ (sheetAligned ++ (sheetHandles ++ sheetSound))
 
 -- the lines that are so, over an arena, a table room and the record
 unfoldable pub passes : List ℕ → KeptBytes → List Line → Bool
@@ -265,6 +294,8 @@ unfoldable pub right : Entry → Bool
 right (fresh n ls) =
     let r = setUp rowBytes (zeros n) (keptIn (zeros (roomBytes (n / rowBytes))) (six 7 7 7 7 7 7)) in
     eqb (r .answer .number) 0 && passes (r .arena) (r .room) ls
+right (sets n m k) = eqb (setUp rowBytes (zeros n) (keptIn (zeros m) (six 7 7 7 7 7 7)) .answer .number) k
+right (rooms n m) = eqb (roomFor rowBytes n) m
 right (class n c) = eqb (classOf n) c
 right (groups c s r) = eqb (slotsOf c) s && eqb (rowsOf rowBytes c) r
 right (checks total cap ns k) = eqb (bit (accepts total cap ns)) k
