@@ -24,14 +24,14 @@ use trace::Step;
 pub const TEXT: usize = 1048576;
 
 // What a record tells: an answer with one value, a report, or that the record is bad.
-pub enum Told {
+enum Told {
     One(Reply),
     Six(Report),
     Bad,
 }
 
 // What a record tells, and the totals after it.
-pub struct Played {
+struct Played {
     pub told: Told,
     pub totals: Totals,
 }
@@ -66,7 +66,7 @@ fn store(arena: &mut [u8], offset: usize, bytes: &[u8]) -> bool
 }
 
 // What a record does. The bytes of a store are lent from the trace.
-pub fn perform(arena: &mut [u8], room: &mut [u8], t: Totals, trace: &[u8], op: Op) -> Played
+fn perform(arena: &mut [u8], room: &mut [u8], t: Totals, trace: &[u8], op: Op) -> Played
     requires { ⌜ Within op (length (now trace)) ⌝ }
     ensures short { λ r. ⌜ Short (r .told) ⌝ }
     ensures { λ r. ⌜ answerOf (r .told)
@@ -160,7 +160,7 @@ fn put_bad(out: &mut [u8], at: usize, count: usize) -> usize
 }
 
 // Writes the line of a record at a place, and gives the place after it.
-pub fn put_line(out: &mut [u8], at: usize, count: usize, told: Told) -> usize
+fn put_line(out: &mut [u8], at: usize, count: usize, told: Told) -> usize
     requires { ⌜ (at + 150 ≤ length (now out)) × Short told ⌝ }
     ensures { λ r. ⌜ r ≡ at + length (lineText (lineOf count (answerOf told))) ⌝ }
     ensures { λ r. ⌜ now (out .exit) ≡ put at (lineText (lineOf count (answerOf told))) (now (out .entry)) ⌝ }
