@@ -29,7 +29,7 @@ use Rattle.claims.proofs.History.{history}
 use Rattle.claims.proofs.Stale.{starts-cleared, counts-step, stale-refused}
 use Rattle.claims.proofs.Flips.{flips-refused}
 use Rattle.claims.proofs.Record.{sound-exactly, records-fresh, reports-record, history-recorded, keeps-record}
-use Rattle.claims.proofs.Lists.{plans-as-said, lists-as-grants, lists-exactly}
+use Rattle.claims.proofs.Lists.{checks-exactly, plans-as-said, lists-as-grants, lists-exactly}
 use Rattle.claims.proofs.Alike.{two-engines, stores-anywhere}
 use Rattle.claims.proofs.Traces.{lines-modelled, stores-steer-nothing, replay-steers-nothing}
 
@@ -90,6 +90,7 @@ demands = record {
   never-at-zero = never-at-zero rowBytes;
   serves-ordinary = serves-ordinary;
   all-classes = all-classes;
+  checks-exactly = checks-exactly;
   plans-as-said = plans-as-said;
   bench = bench;
   plain-bench = plain-bench;

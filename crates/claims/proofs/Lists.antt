@@ -1,10 +1,9 @@
 -- Gather lists: the planner's proposals are accepted, and a list is its grants, all of them or none.
 use Rattle.mem.proofs.Prelude.{_∙_, _≡_, sym, ap, refl, subst, true, Bool, false, _&&_, _||_, some, none, Option, List, [], _∷_, map, ℕ, _<_, _≤_, _*_}
-use Rattle.mem.proofs.Prelude.{arith, T, eqb, leb}
-use Rattle.mem.proofs.Prelude.{lt-leb, le→leb, length}
+use Rattle.mem.proofs.Prelude.{arith, T, eqb, leb, eqb→eq, leb→le, ltb→lt, lt-leb, le→leb, lt→ltb, length, getD}
 use mathlib.Core.Logic.{_↔_}
-use Rattle.mem.specs.Lists.{any}
-use Rattle.mem.proofs.Tests.{T-true, true-T, and-both, choose-true, choose-false, choose-case}
+use Rattle.mem.specs.Lists.{any, every, sum}
+use Rattle.mem.proofs.Tests.{T-true, true-T, and-left, and-right, and-both, eq→eqb, every-in, every-by, choose-true, choose-false, choose-case}
 use Rattle.mem.proofs.Laws.{put-length}
 use Rattle.classes.specs.Classes.{tooLarge}
 use Rattle.classes.specs.Alignments.{ordinary}
@@ -12,7 +11,7 @@ use Rattle.model.specs.declared.Refusal.the-variants.{NoRoom, TooLong}
 use Rattle.model.specs.State.{Pool, Place, disp, size, poolOf, slotNumber, rows, owned, handle}
 use Rattle.model.specs.Blocks.{frame}
 use Rattle.model.specs.Answers.{Answer, done, listDone, refusal}
-use Rattle.model.specs.Proposals.{entries, accepts, plannable, fullCaps, planned}
+use Rattle.model.specs.Proposals.{entries, capRight, sizeRight, accepts, plannable, fullCaps, planned}
 use Rattle.model.specs.Plans.{Plan, reserve, enframe, grantAt, grantAs, placed, placedBy, reserveAll, poolAfter, grantAllAt, grantList}
 use Rattle.model.specs.Plans.{grants, grantsList, plan}
 use Rattle.model.specs.Tables.{arenaRight}
@@ -22,24 +21,74 @@ use Rattle.model.proofs.Reserve.{plain, Granted, reserve-formed}
 use Rattle.model.proofs.Calls.{call-sound, same-room, carried-whole}
 use Rattle.model.proofs.Lists.{small, small-first, small-rest, accepts-small, places-counted, on-list}
 use Rattle.model.proofs.Proposals.{planned-accepted, accepts-plannable, planned-fewest}
-use Rattle.claims.specs.Lists.{PlansAsSaid, granting, AsGrants, ListsAsGrants, ListsExactly}
+use Rattle.claims.specs.Lists.{Plannable, Proposal, ChecksExactly, PlansAsSaid, granting, AsGrants, ListsAsGrants, ListsExactly}
 use Rattle.claims.proofs.Cases.{refuses}
 use Rattle.claims.proofs.Demand2.{Accepted, accepted}
 
+-- ---- the check
+
+-- "a cap from 1 to 131,051", and back
+cap-range : (cap : ℕ) → T (capRight cap) ↔ ((1 ≤ cap) × (cap ≤ 131051))
+unfolding capRight tooLarge
+cap-range cap = (
+  λ t. (leb→le 1 cap (and-left (leb 1 cap) _ t), let l : cap < 131052 = ltb→lt cap 131052 (and-right (leb 1 cap) _ t) in omega arith),
+  λ (l, m). and-both (leb 1 cap) _ (le→leb 1 cap l) (lt→ltb cap 131052 (omega arith)),
+)
+
+pub checks-exactly : ChecksExactly
+unfolding accepts sizeRight entries
+checks-exactly total cap ns = (there, back)
+  where
+    there : T (accepts total cap ns) → Proposal total cap ns
+    there t =
+        let (l, m) = cap-range cap .0 (and-left (capRight cap) _ t) in
+        let each : T (every (sizeRight cap) ns) = search (and-left, and-right) in
+        record {
+          least = l;
+          most = m;
+          few = leb→le (length ns) 17 (search (and-left, and-right));
+          sizes = λ i h.
+              let k : T (sizeRight cap (getD ns i 0)) = every-in (sizeRight cap) ns 0 each i h in
+              (leb→le 1 (getD ns i 0) (and-left (leb 1 (getD ns i 0)) _ k), leb→le (getD ns i 0) cap (and-right (leb 1 (getD ns i 0)) _ k));
+          adds-up = eqb→eq (sum (λ n. n) ns) total (search (and-left, and-right));
+        }
+
+    back : Proposal total cap ns → T (accepts total cap ns)
+    back r =
+        let c : T (capRight cap) = cap-range cap .1 (r .least, r .most) in
+        let f : T (leb (length ns) 17) = le→leb (length ns) 17 (r .few) in
+        let s : T (every (sizeRight cap) ns) =
+        every-by (sizeRight cap) ns 0
+        (λ i h. let (l, m) = r .sizes i h in and-both (leb 1 (getD ns i 0)) _ (le→leb 1 (getD ns i 0) l) (le→leb (getD ns i 0) cap m)) in
+        let e : T (eqb (sum (λ n. n) ns) total) = eq→eqb (sum (λ n. n) ns) total (r .adds-up) in
+        search and-both
+
 -- ---- the planner
+
+plannable-exactly : (total cap : ℕ) → T (plannable total cap) ↔ Plannable total cap
+unfolding plannable entries
+plannable-exactly total cap = (
+  λ t.
+      let (l, m) = cap-range cap .0 (and-left (capRight cap) _ t) in
+      record { least = l; most = m; within = leb→le total (17 * cap) (and-right (capRight cap) _ t) },
+  λ r. and-both (capRight cap) _ (cap-range cap .1 (r .least, r .most)) (le→leb total (17 * cap) (r .within)),
+)
 
 pub plans-as-said : PlansAsSaid
 unfolding planned
 plans-as-said total cap = record {
-  found = λ t. ap (λ (r : Answer). r .number) (can t);
-  accepted = λ t. subst (λ (r : Answer). T (accepts total cap (r .lent))) (sym (can t)) (planned-accepted total cap t);
-  too-long = λ n. let e = cannot (plannable total cap) refl n in (ap (λ (r : Answer). r .number) e, ap (λ (r : Answer). r .lent) e);
+  found = λ p. ap (λ (r : Answer). r .number) (can (exactly .1 p));
+  accepted = λ p. subst (λ (r : Answer). T (accepts total cap (r .lent))) (sym (can (exactly .1 p))) (planned-accepted total cap (exactly .1 p));
+  too-long = λ n. let e = cannot (plannable total cap) refl (λ t. n (exactly .0 t)) in (ap (λ (r : Answer). r .number) e, ap (λ (r : Answer). r .lent) e);
   counted = choose-case (λ (r : Answer). r .values ≡ length (r .lent) ∷ []) (plannable total cap) (listDone (fullCaps entries total cap))
       (refusal TooLong) (λ _. refl) (λ _. refl);
   fewest = λ ns t. subst (λ (r : Answer). length (r .lent) ≤ length ns) (sym (can (accepts-plannable total cap ns t))) (planned-fewest total cap ns t);
-  only-plannable = λ ns t. accepts-plannable total cap ns t;
+  only-plannable = λ ns t. exactly .0 (accepts-plannable total cap ns t);
 }
   where
+    exactly : T (plannable total cap) ↔ Plannable total cap
+    exactly = plannable-exactly total cap
+
     can : T (plannable total cap) → planned total cap ≡ listDone (fullCaps entries total cap)
     can t = choose-true (plannable total cap) _ _ (T-true (plannable total cap) t)
 
@@ -152,8 +201,8 @@ module _ (row : ℕ) (F : Form) where
         (ap (λ (r : Outcome (F .Room)). r .answer .number) (sym (y .left)) ∙ z))
 
     pub lists-exactly : ListsExactly row F
-    unfolding plan grantList
-    lists-exactly a t total cap places ns s p l k = by-places (reserveAll row P ns) refl
+    unfolding plan grantList entries
+    lists-exactly a t total cap places ns s l k = by-places (reserveAll row P ns) refl
       where
         P : Pool
         P = F .view t
@@ -164,7 +213,7 @@ module _ (row : ℕ) (F : Form) where
             call-sound row F a t (T-true (F .sound (length a) t) s) (grantsList total cap places ns) tt
             ∙ ap (carriedBy row F a t)
             (choose-true (plannable total cap && leb entries places) _ _
-            (T-true _ (and-both (plannable total cap) (leb entries places) p (le→leb entries places l)))
+            (T-true _ (and-both (plannable total cap) (leb entries places) (accepts-plannable total cap ns k) (le→leb entries places l)))
             ∙ choose-true (accepts total cap ns) _ _ (T-true (accepts total cap ns) k) ∙ ap (grantAllAt row P) e)
 
         by-places : (o : Option (List Place)) → reserveAll row P ns ≡ o

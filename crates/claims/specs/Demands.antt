@@ -23,7 +23,7 @@ use Rattle.claims.specs.Soundness.{ArenasAsSaid, SetsUpExactly, SoundByR
 use Rattle.claims.specs.Alignment.{ResizesKeepAlignment, OthersStay}
 use Rattle.claims.specs.Stale.{StartsCleared, CountsStep, StaleRefused}
 use Rattle.claims.specs.Demand3.{SteersNothing, StoresAdmitted, StoresOnly, ModelStands}
-use Rattle.claims.specs.Lists.{PlansAsSaid, ListsAsGrants, ListsExactly}
+use Rattle.claims.specs.Lists.{ChecksExactly, PlansAsSaid, ListsAsGrants, ListsExactly}
 use Rattle.claims.specs.History.{History}
 use Rattle.claims.specs.Record.{SoundExactly, RecordsFresh, ReportsRecord, HistoryRecorded, KeepsRecord, FlipsRefused}
 use Rattle.claims.specs.Alike.{TwoEngines, StoresAnywhere}
@@ -93,10 +93,11 @@ pub record Demands (row : ℕ) : Type 0 where
   pub history-recorded : HistoryRecorded row
   pub keeps-record : KeepsRecord row
   pub flips-refused : FlipsRefused row
-  -- places and classes; the planner's proposals are accepted
+  -- places and classes; what the check accepts, and that the planner's proposals are among it
   pub never-at-zero : NeverAtZero row
   pub serves-ordinary : ServesOrdinary
   pub all-classes : AllClasses
+  pub checks-exactly : ChecksExactly
   pub plans-as-said : PlansAsSaid
   -- the bench sheets
   pub bench : T (every right sheet)

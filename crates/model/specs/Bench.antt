@@ -8,15 +8,18 @@ use lib.ListN.{length, replicate, set}
 use Rattle.mem.specs.Lists.{choose}
 use Rattle.mem.specs.Bytes.{zeros, bit, same, part, put}
 use Rattle.classes.specs.Classes.{rowBytes, slotsOf, rowsOf, classOf}
+use Rattle.model.specs.declared.Slot.{Slot}
+use Rattle.model.specs.declared.Slot.the-variants.{Fresh, Idle, Live}
 use Rattle.model.specs.Plans.{Call, setsUp, grants, grantsAligned, releases, resizes, measures, reports, grantsList}
 use Rattle.model.specs.Proposals.{accepts, planned}
-use Rattle.model.specs.Tables.{roomBytes, roomFor}
+use Rattle.model.specs.Tables.{roomBytes, roomFor, slotRecord}
 use Rattle.model.specs.declared.Totals.{Totals}
 use Rattle.model.specs.Calls.{KeptBytes, keptIn, sameTotals, call, setUp}
 
 -- a line of the sheet: a call with the number and values due; a list call that is done, with its value and the lent list before and after
 -- it; a call that is refused and leaves every byte of arena and tables and the record, and writes nothing to a lent list; bytes due from a
--- place on, or a store into the arena; the record's numbers due, or a record put in its place; a store into the table room
+-- place on, or a store into the arena; the record's numbers due, or a record put in its place; bytes due in the table room from a place on, or a
+-- store into it
 pub data Line : Type 0 where
   asks : Call → (number : ℕ) (values : List ℕ) → Line
   lists : Call → (value : ℕ) (before after : List ℕ) → Line
@@ -25,15 +28,17 @@ pub data Line : Type 0 where
   stores : (at byte : ℕ) → Line
   holds : Totals → Line
   writes : Totals → Line
+  tables : (at : ℕ) → List ℕ → Line
   spoils : (at byte : ℕ) → Line
 
 -- an entry of the sheet: lines over a fresh pool of some arena length, what set up answers over arena and room of some lengths, an arena's length
--- with its room's, which is 0 if there is none, a size with its class, a class with the slots and rows of its groups, a proposal with 1 if the check
--- accepts it, or what the planner answers and proposes
+-- with its room's, which is 0 if there is none, a slot with the bytes of its record, a size with its class, a class with the slots and rows of its
+-- groups, a proposal with 1 if the check accepts it, or what the planner answers and proposes
 pub data Entry : Type 0 where
   fresh : (arena : ℕ) → List Line → Entry
   sets : (arena room number : ℕ) → Entry
   rooms : (arena room : ℕ) → Entry
+  keeps : Slot → List ℕ → Entry
   class : (n c : ℕ) → Entry
   groups : (c slots rows : ℕ) → Entry
   checks : (total cap : ℕ) (sizes : List ℕ) (accepted : ℕ) → Entry
@@ -48,6 +53,9 @@ refuses c k = asks c k (0 ∷ [])
 
 abbrev pub bytes4 : ℕ → ℕ → ℕ → ℕ → List ℕ
 bytes4 a b c d = a ∷ b ∷ c ∷ d ∷ []
+
+abbrev pub bytes8 : ℕ → ℕ → ℕ → ℕ → ℕ → ℕ → ℕ → ℕ → List ℕ
+bytes8 a b c d e f g h = a ∷ b ∷ c ∷ d ∷ e ∷ f ∷ g ∷ h ∷ []
 
 -- n grants of 160 bytes, the first at a place, each 192 bytes after the one before
 abbrev pub grants160 : ℕ → ℕ → List Line
@@ -241,11 +249,25 @@ sheetHandles =
     ++ (gives (measures 16) 2028 ∷ gives (releases 16) 0 ∷ [])))
     ∷ []
 
--- the rules of soundness, each broken alone, and what set up takes
+-- the tables: their bytes (docs/TABLES.md), the rules of soundness, each broken alone, and what set up takes
 unfoldable pub sheetSound : List Entry
 sheetSound =
+    -- a slot's record: 0 or the alignment's code, use count, displacement in two bytes, requested size in three, 0
+    keeps Fresh (zeros 8) ∷ keeps (Idle true 5 258) (bytes8 1 5 2 1 0 0 0 0) ∷ keeps (Idle false 5 258) (bytes8 1 5 2 1 0 0 0 0)
+    ∷ keeps (Live (record { count = 7; disp = 258; size = 66051; align = 1 })) (bytes8 1 7 2 1 3 2 1 0)
+    ∷ keeps (Live (record { count = 0; disp = 0; size = 0; align = 9 })) (bytes8 9 0 0 0 0 0 0 0)
+    -- the room: a fresh one; a group of class 19 with three of its four slots live, with all, with two of them waiting, with these ready again and the
+    -- lower one granted; its later rows
+    ∷ fresh 4096 (tables 0 (0 ∷ 16 ∷ zeros 278) ∷ gives (grants 1000) 16 ∷ gives (grants 1000) 1024 ∷ gives (grants 1000) 2032
+    ∷ tables 16 (1 ∷ 19 ∷ zeros 6) ∷ tables 24 (bytes8 8 0 0 0 0 0 0 0) ∷ tables 32 (bytes8 1 1 0 0 232 3 0 0) ∷ tables 56 (zeros 8)
+    ∷ gives (grants 1000) 3040 ∷ gives (releases 16) 0 ∷ gives (releases 1024) 0 ∷ tables 24 (bytes8 0 0 0 0 3 0 0 0) ∷ tables 32 (bytes8 1 1 0 0 0 0 0 0)
+    ∷ gives (grants 1000) 17 ∷ tables 24 (bytes8 2 0 0 0 0 0 0 0) ∷ tables 32 (bytes8 1 2 0 0 232 3 0 0) ∷ tables 40 (bytes8 1 1 0 0 0 0 0 0)
+    ∷ tables 48 (bytes8 1 1 0 0 232 3 0 0) ∷ tables 64 (zeros 216) ∷ tables 280 (2 ∷ 1 ∷ zeros 262) ∷ tables 1864 (2 ∷ 7 ∷ zeros 262) ∷ [])
+    -- a mask's bytes, low byte first: of 31 slots the first and the fifth are live, and the three between them wait
+    ∷ fresh 512 (gives (grants 0) 16 ∷ gives (grants 0) 32 ∷ gives (grants 0) 48 ∷ gives (grants 0) 64 ∷ gives (grants 0) 80 ∷ gives (releases 32) 0
+    ∷ gives (releases 48) 0 ∷ gives (releases 64) 0 ∷ tables 24 (bytes8 224 255 255 127 14 0 0 0) ∷ [])
     -- "its class is that of n or the next one up": in the slot of 160 bytes 141 is of the class below, and 140 is not
-    fresh 4096 (gives (grants 160) 16 ∷ spoils 36 141 ∷ writes (six 1 141 8 0 20 0) ∷ leaves (measures 16) 7 ∷ spoils 36 140
+    ∷ fresh 4096 (gives (grants 160) 16 ∷ spoils 36 141 ∷ writes (six 1 141 8 0 20 0) ∷ leaves (measures 16) 7 ∷ spoils 36 140
     ∷ writes (six 1 140 8 0 20 0) ∷ leaves (measures 16) 2 ∷ [])
     -- "each group has a live slot": the one block's slot waits
     ∷ fresh 4096 (gives (grants 160) 16 ∷ spoils 28 1 ∷ spoils 36 0 ∷ writes (six 0 0 8 0 20 1) ∷ leaves (grants 160) 2 ∷ [])
@@ -288,6 +310,7 @@ passes a t (shows p bs ∷ ls) = let rest = passes a t ls in choose (same (part 
 passes a t (stores p b ∷ ls) = passes (set a p b) t ls
 passes a t (holds s ∷ ls) = let rest = passes a t ls in choose (sameTotals (t .totals) s) rest false
 passes a t (writes s ∷ ls) = passes a (keptIn (t .tables) s) ls
+passes a t (tables p bs ∷ ls) = let rest = passes a t ls in choose (same (part p (length bs) (t .tables)) bs) rest false
 passes a t (spoils p b ∷ ls) = passes a (keptIn (set (t .tables) p b) (t .totals)) ls
 
 unfoldable pub right : Entry → Bool
@@ -296,6 +319,7 @@ right (fresh n ls) =
     eqb (r .answer .number) 0 && passes (r .arena) (r .room) ls
 right (sets n m k) = eqb (setUp rowBytes (zeros n) (keptIn (zeros m) (six 7 7 7 7 7 7)) .answer .number) k
 right (rooms n m) = eqb (roomFor rowBytes n) m
+right (keeps x bs) = same (slotRecord x) bs
 right (class n c) = eqb (classOf n) c
 right (groups c s r) = eqb (slotsOf c) s && eqb (rowsOf rowBytes c) r
 right (checks total cap ns k) = eqb (bit (accepts total cap ns)) k

@@ -12,6 +12,7 @@ use Rattle.model.specs.declared.Slot.the-variants.{Fresh, Idle, Live}
 use Rattle.model.specs.Plans.{Call, setsUp, grants, grantsAligned, releases, resizes, measures, reports, grantsList}
 use Rattle.model.specs.Tables.{roomBytes}
 use Rattle.model.specs.Plain.{plainRecord, plainCall}
+use Rattle.model.specs.Bench.{bytes8}
 
 -- a line: a call with the number and values due; a call that is refused and leaves every byte of arena and room; bytes due in the room from a
 -- place on, or a store into it
@@ -28,9 +29,6 @@ pub data PlainEntry : Type 0 where
 
 abbrev pub gives : Call → ℕ → PlainLine
 gives c v = asks c 0 (v ∷ [])
-
-abbrev pub bytes8 : ℕ → ℕ → ℕ → ℕ → ℕ → ℕ → ℕ → ℕ → List ℕ
-bytes8 a b c d e f g h = a ∷ b ∷ c ∷ d ∷ e ∷ f ∷ g ∷ h ∷ []
 
 unfoldable pub plainSheet : List PlainEntry
 plainSheet =

@@ -30,6 +30,13 @@ unfoldable pub sheet : List Entry
 sheet =
     -- "The trace 1 0 5 1 0 0 0 0 prints `0 16`."
     bytes (1 ∷ 0 ∷ 5 ∷ 1 ∷ 0 ∷ 0 ∷ 0 ∷ 0 ∷ []) (gives 16 ∷ [])
+    -- every operation in bytes: the number of its kind, and four-byte numbers, high byte first; 131,051 is 1 255 235
+    ∷ bytes (1 ∷ 0 ∷ 5 ∷ 1 ∷ 0 ∷ 0 ∷ 0 ∷ 160 ∷ 0 ∷ 1 ∷ 6 ∷ 0 ∷ 7 ∷ 5 ∷ 0 ∷ 0 ∷ 0 ∷ 16 ∷ 7 ∷ 9 ∷ 0 ∷ 9 ∷ 3 ∷ 0 ∷ 0 ∷ 0 ∷ 16 ∷ 0 ∷ 0 ∷ 0 ∷ 188
+    ∷ 0 ∷ 5 ∷ 4 ∷ 0 ∷ 0 ∷ 0 ∷ 16 ∷ 0 ∷ 5 ∷ 2 ∷ 0 ∷ 0 ∷ 0 ∷ 16 ∷ 0 ∷ 5 ∷ 1 ∷ 0 ∷ 1 ∷ 255 ∷ 235 ∷ 0 ∷ 5 ∷ 1 ∷ 0 ∷ 1 ∷ 255 ∷ 236 ∷ [])
+    (gives 16 ∷ told (done (1 ∷ 160 ∷ 8 ∷ 24 ∷ 20 ∷ 0 ∷ [])) ∷ gives 0 ∷ gives 16 ∷ gives 188 ∷ gives 0 ∷ refuses 8 ∷ refuses 3 ∷ [])
+    -- where a store's bytes go: over a header, and then back as they were
+    ∷ bytes (1 ∷ 0 ∷ 5 ∷ 1 ∷ 0 ∷ 0 ∷ 0 ∷ 160 ∷ 0 ∷ 7 ∷ 5 ∷ 0 ∷ 0 ∷ 0 ∷ 12 ∷ 0 ∷ 1 ∷ 0 ∷ 5 ∷ 4 ∷ 0 ∷ 0 ∷ 0 ∷ 16 ∷ 0 ∷ 7 ∷ 5 ∷ 0 ∷ 0 ∷ 0 ∷ 12 ∷ 0 ∷ 160
+    ∷ 0 ∷ 5 ∷ 4 ∷ 0 ∷ 0 ∷ 0 ∷ 16 ∷ []) (gives 16 ∷ gives 0 ∷ refuses 6 ∷ gives 0 ∷ gives 160 ∷ [])
     -- no record; "An empty trace, or one over 65,535 bytes"; another version
     ∷ bytes (1 ∷ []) []
     ∷ bytes [] (bad 0 ∷ [])
