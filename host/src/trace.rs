@@ -24,6 +24,9 @@ const VERSION: u8 = 1;
 /// The most bytes of a trace. A record's two bytes of length count as far.
 pub const MOST: usize = 65_535;
 
+/// The bytes of the arena that a trace is replayed over.
+pub const ARENA: usize = 16_384;
+
 /// What a record asks for: a call on the pool, or a store into its arena.
 #[derive(Clone, Debug, PartialEq, Eq)]
 pub enum Op {
@@ -160,7 +163,7 @@ impl fmt::Display for Bad {
 
 impl error::Error for Bad {}
 
-/// The operations of a trace, up to its end or to what is bad in it.
+/// The operations of a trace, up to its end or to what is no record of one.
 pub fn read(trace: &[u8]) -> (Vec<Op>, Option<Bad>) {
     let mut ops = Vec::new();
     let bad = read_to(&mut ops, trace).err();
@@ -202,6 +205,22 @@ fn read_op(record: &[u8]) -> Result<Op, String> {
         let more = if kind.bytes { " or more" } else { "" };
         format!("operation {operation} has {} bytes, not {}{more}", record.len(), kind.least())
     })
+}
+
+/// The operations of a trace that its replay makes, up to its end or to what the replay prints as bad: besides what cannot be read, a store
+/// that ends past the arena.
+pub fn replayable(trace: &[u8]) -> (Vec<Op>, Option<Bad>) {
+    let (mut ops, bad) = read(trace);
+    let Some((at, why)) = ops.iter().enumerate().find_map(|(at, op)| Some((at, past_arena(op)?))) else { return (ops, bad) };
+    ops.truncate(at);
+    (ops, Some(Bad { record: at + 1, why }))
+}
+
+/// What is wrong with a store that ends past the arena.
+fn past_arena(op: &Op) -> Option<String> {
+    let Op::Store(offset, bytes) = op else { return None };
+    let end = *offset as usize + bytes.len();
+    (end > ARENA).then(|| format!("the store at {offset} ends at {end}, past the arena of 16,384 bytes"))
 }
 
 /// A line for each operation.

@@ -7,16 +7,15 @@ mod random;
 use common::{Answer, Both, Call};
 use program::run;
 use random::{all_seen, block, kind, next_call, Numbers, Seen, UNDAMAGED};
-use slotpool::trace::{parse, read, text, write, Op, MOST};
+use slotpool::trace::{parse, read, replayable, text, write, Op, ARENA, MOST};
 use slotpool_reference::{replay, start_of};
 use std::ops::Range;
 use std::path::Path;
 use std::process::Command;
 
 const PROGRAM: &str = concat!(env!("CARGO_MANIFEST_DIR"), "/../target/bin/replay");
-const ARENA: usize = 16_384;
 
-/// What both print of a trace; fails if that is not the same.
+/// What both print of a trace; fails if that is not the same, or if the trace is shown with other records or another bad one.
 fn prints(trace: &[u8]) -> String {
     prints_in_pieces(&[trace])
 }
@@ -31,6 +30,10 @@ fn prints_in_pieces(pieces: &[&[u8]]) -> String {
         fail(&trace, &printed, &due);
     }
     assert!(output.status.code().is_some(), "{} after all was printed of\n{}", output.status, text(&read(&trace).0));
+    let (shown, bad) = replayable(&trace);
+    let bad = bad.map(|bad| format!("bad {}", bad.record));
+    assert_eq!(due.lines().count(), shown.len() + bad.iter().len(), "records that are shown of\n{}", text(&read(&trace).0));
+    assert_eq!(due.lines().last().filter(|line| line.starts_with("bad")), bad.as_deref(), "{}", text(&read(&trace).0));
     due
 }
 

@@ -3,7 +3,7 @@
 mod program;
 
 use program::run;
-use slotpool::trace::{forms, parse, read, text, write, Op, MOST};
+use slotpool::trace::{forms, parse, read, replayable, text, write, Op, ARENA, MOST};
 use std::ffi::OsStr;
 use std::fs::File;
 use std::io::{self, Write};
@@ -135,6 +135,27 @@ fn a_bad_trace_is_told_with_its_record() {
     assert_eq!(read(&[1]), (vec![], None));
 }
 
+#[test]
+fn a_store_past_the_arena_ends_a_trace() {
+    let told = |offset, count: usize| format!("record 2: the store at {offset} ends at {}, past the arena of 16,384 bytes", offset as usize + count);
+    for (offset, count) in [(0, ARENA + 1), (1, ARENA), (16_380, 5), (16_384, 1), (16_385, 0), (u32::MAX, 0), (u32::MAX, 40_000)] {
+        let ops = [Op::Report, Op::Store(offset, vec![7; count]), Op::Store(16_384, vec![1]), Op::Report];
+        // it can be read, and a replay ends before it, whether or not the trace goes on or is cut short
+        for trace in [write(&ops), write(&ops[..2]), [&write(&ops[..2])[..], &[0]].concat()] {
+            let (replayed, bad) = replayable(&trace);
+            assert_eq!((&replayed[..], bad.map(|bad| bad.to_string())), (&ops[..1], Some(told(offset, count))), "{count} bytes at {offset}");
+        }
+        assert_eq!(read(&write(&ops)), (ops.to_vec(), None), "{count} bytes at {offset}");
+    }
+    for (offset, count) in [(0, ARENA), (1, ARENA - 1), (16_380, 4), (16_384, 0)] {
+        let ops = vec![Op::Store(offset, vec![7; count]), Op::Report];
+        assert_eq!(replayable(&write(&ops)), (ops, None), "{count} bytes at {offset}");
+    }
+    // what cannot be read is told as it is, if no such store comes before it
+    let cut = [1, 0, 1, 6, 0];
+    assert_eq!(replayable(&cut), read(&cut));
+}
+
 /// The program `trace` with an argument: what it printed, what it said, and its exit status.
 fn trace(argument: &str, input: &[u8]) -> (Vec<u8>, String, Option<i32>) {
     let output = run(Command::new(env!("CARGO_BIN_EXE_trace")).arg(argument), &[input]);
@@ -161,6 +182,12 @@ fn the_program_says_what_is_wrong() {
         ("write", b"report\nrep\xffrt\n", "", &unknown),
         ("show", &[1, 0, 1, 6, 0, 5, 1, 0, 0, 0, 0, 0, 1, 9], "report\ngrant 0\n", "record 3: no operation 9"),
         ("show", b"", "", "the trace is empty"),
+        (
+            "show",
+            &[1, 0, 1, 6, 0, 7, 5, 0, 0, 63, 255, 1, 2, 0, 1, 6],
+            "report\n",
+            "record 2: the store at 16383 ends at 16385, past the arena of 16,384 bytes",
+        ),
     ] {
         assert_eq!(trace(argument, input), (printed.as_bytes().to_vec(), format!("trace: {why}\n"), Some(1)));
     }

@@ -8,7 +8,7 @@ use std::process::ExitCode;
 
 const USAGE: &str = "\
 usage: trace write < calls.txt > calls.trace    makes a trace of a text
-       trace show < calls.trace                 shows a trace as such a text
+       trace show < calls.trace                 shows a trace as such a text, up to what a replay prints as bad
 A text has a line for each call; blank lines are skipped, and what follows a #. Lines:";
 
 type Done = Result<(), Box<dyn Error>>;
@@ -35,7 +35,7 @@ fn write() -> Done {
 }
 
 fn show() -> Done {
-    let (ops, bad) = trace::read(&input()?);
+    let (ops, bad) = trace::replayable(&input()?);
     print(trace::text(&ops).as_bytes())?;
     bad.map_or(Ok(()), |bad| Err(bad.into()))
 }
