@@ -1,13 +1,17 @@
 //! The bench sheet of document 01, with what document 02 adds, run on the library beside the second implementation; W4 and W5 with their large arenas.
 
+mod any;
 mod common;
 mod due;
+mod forged;
 
+use any::{calls_on, refused, set_up_over};
 use common::Answer::{self, Done, Refused, Value};
-use common::Call::{self, Grant, GrantAligned, Measure, Release, Report, Resize, Store};
-use common::{Both, List};
+use common::Call::{self, Grant, GrantAligned, Measure, Release, Report, Resize, SetUp, Store};
+use common::{lent, Both, Buffers, List, Record};
 use due::due;
-use slotpool::{check_list, plan_list, Refusal, Totals, ENTRIES};
+use forged::over_each;
+use slotpool::{check_list, plan_list, room_len, PlainPool, Refusal, Totals, ENTRIES};
 
 const OVERRUN: Answer = Refused(Refusal::Overrun);
 
@@ -69,10 +73,15 @@ fn w7_and_its_stores() {
 fn one_byte_past_a_block() {
     // three spare bytes, of which the first is compared; five, whose first is the guard's; one; and none
     let three = &mut fresh(4096);
-    due(three, [(Grant(185), Value(16)), (Store(201, 1), Done), (Measure(16), OVERRUN), (Release(16), OVERRUN)]);
+    due(three, [(Grant(185), Value(16))]);
+    assert_eq!(three.first.arena[12..16], [0, 96, 0, 0]);
+    due(three, [(Store(201, 1), Done), (Measure(16), OVERRUN), (Release(16), OVERRUN)]);
     due(three, [(Store(201, 0), Done), (Store(202, 1), Done), (Store(203, 1), Done), (Measure(16), Value(185)), (Release(16), Done)]);
     due(&mut fresh(4096), [(Grant(183), Value(16)), (Store(199, 1), Done), (Release(16), OVERRUN)]);
-    due(&mut fresh(4096), [(Grant(187), Value(16)), (Store(203, 1), Done), (Measure(16), OVERRUN), (Release(16), OVERRUN)]);
+    let one = &mut fresh(4096);
+    due(one, [(Grant(187), Value(16))]);
+    assert_eq!(one.first.arena[12..16], [0, 32, 0, 0]);
+    due(one, [(Store(203, 1), Done), (Measure(16), OVERRUN), (Release(16), OVERRUN)]);
     let none = &mut fresh(4096);
     due(none, [(Grant(188), Value(16)), (Grant(188), Value(208)), (Store(204, 1), Done), (Measure(16), Value(188))]);
     due(none, [(Measure(208), Refused(Refusal::HeaderDamaged)), (Release(16), Done)]);
@@ -99,16 +108,34 @@ fn a_wrong_header_is_told_before_a_wrong_guard() {
     }
 }
 
-#[test]
-fn w8_and_w9() {
+/// The pool of W8 before its release, a full group.
+fn w8_granted() -> Both {
     let mut both = fresh(4096);
     for i in 0..21 {
         due(&mut both, [(Grant(160), Value(16 + 192 * i))]);
     }
+    both
+}
+
+#[test]
+fn w8_and_w9() {
+    let mut both = w8_granted();
     due(&mut both, [(Release(16), Done), (Grant(160), Value(33))]);
+    // the displaced block has nothing but zeros before its header
+    assert_eq!(both.first.arena[12..28], [0; 16]);
     assert_eq!(both.first.arena[28..32], [0, 160, 1, 0]);
     assert_eq!(both.first.arena[200..204], [12, 0, 0, 0]);
     due(&mut both, [(Release(32), Refused(Refusal::Stale)), (Release(16), Refused(Refusal::NoSuchBlock)), (Release(33), Done)]);
+}
+
+#[test]
+fn a_third_grant_is_not_displaced_and_a_refill_keeps_last_starts() {
+    let free = Refused(Refusal::AlreadyFree);
+    let mut both = w8_granted();
+    due(&mut both, [(Release(16), Done), (Release(208), Done), (Grant(160), Value(33)), (Grant(160), Value(225))]);
+    // the slot that started at 224 last waits, and then is ready
+    due(&mut both, [(Release(33), Done), (Release(225), Done), (Release(225), free), (Grant(160), Value(18)), (Release(225), free)]);
+    due(&mut both, [(Release(208), Refused(Refusal::NoSuchBlock))]);
 }
 
 #[test]
@@ -313,4 +340,119 @@ fn the_enlarged_size_of_a_resize_is_tested_before_damage() {
     due(&mut both, [(Resize(64, 131_036), too_large), (Resize(64, 131_035), Refused(Refusal::HeaderDamaged)), (Release(32), Done)]);
     due(&mut both, [(Resize(32, 131_051), Refused(Refusal::AlreadyFree)), (Resize(48, 131_051), Refused(Refusal::NoSuchBlock))]);
     due(&mut both, [(Resize(1552, 131_051), no_room), (Resize(48, 131_052), too_large)]);
+}
+
+/// Puts a byte into both engines' rooms. The head, and use count, displacement and size of a slot's record, stand at the same places in both.
+fn spoil(both: &mut Both, at: usize, byte: u8) {
+    both.first.room[at] = byte;
+    both.plain.room[at] = byte;
+}
+
+/// Stores a byte into both engines' arenas.
+fn store(both: &mut Both, at: usize, byte: u8) {
+    both.first.arena[at] = byte;
+    both.plain.arena[at] = byte;
+}
+
+/// Puts another record in the place of the first engine's: blocks, bytes, rows held and free, ready and waiting slots.
+fn write_record(both: &mut Both, numbers: [usize; 6]) {
+    let [live_blocks, requested_bytes, rows_held, rows_free, ready_slots, waiting_slots] = numbers;
+    both.first.totals = Totals { live_blocks, requested_bytes, rows_held, rows_free, ready_slots, waiting_slots };
+}
+
+/// A call over the spoilt tables of each engine: refused as is due, with nothing changed. The second implementation says the same of the tables.
+fn leaves(both: &Both, call: Call, due: Refusal) {
+    refused(&both.first, call, due, format_args!("spoilt"));
+    refused(&both.plain, call, due, format_args!("spoilt"));
+    assert_eq!(over_each(both, &[call], format_args!("spoilt")), due != Refusal::Unsound, "{call:?}");
+}
+
+/// Spoilt tables that are unsound: 2 from the call, as from all others but set up.
+fn leaves_unsound(both: &Both, call: Call) {
+    leaves(both, call, Refusal::Unsound);
+    assert!(!over_each(both, &calls_on((16, 160)), format_args!("spoilt")), "{call:?}");
+}
+
+#[test]
+fn a_live_block_is_of_its_class_or_the_one_below() {
+    let mut both = fresh(4096);
+    due(&mut both, [(Grant(160), Value(16))]);
+    // the requested size of slot 0
+    spoil(&mut both, 36, 141);
+    write_record(&mut both, [1, 141, 8, 0, 20, 0]);
+    leaves(&both, Measure(16), Refusal::Overrun);
+    spoil(&mut both, 36, 140);
+    write_record(&mut both, [1, 140, 8, 0, 20, 0]);
+    leaves_unsound(&both, Measure(16));
+}
+
+#[test]
+fn a_group_has_a_live_slot() {
+    let mut both = fresh(4096);
+    due(&mut both, [(Grant(160), Value(16))]);
+    // slot 0 waits: by the waiting mask, and by its own record
+    both.first.room[28] = 1;
+    both.plain.room[32] = 2;
+    spoil(&mut both, 36, 0);
+    write_record(&mut both, [0, 0, 8, 0, 20, 1]);
+    leaves_unsound(&both, Grant(160));
+}
+
+#[test]
+fn a_block_fits_its_slot_and_the_arena_has_the_recorded_length() {
+    let mut both = w7_granted();
+    due(&mut both, [(Release(16), Done)]);
+    // the displacement of slot 1, which is live
+    spoil(&mut both, 42, 1);
+    leaves(&both, Measure(224), Refusal::HeaderDamaged);
+    spoil(&mut both, 42, 2);
+    leaves_unsound(&both, Measure(240));
+    spoil(&mut both, 42, 0);
+    // the displacement of slot 0, which waits
+    spoil(&mut both, 34, 11);
+    assert!(over_each(&both, &calls_on((208, 160)), format_args!("a last start of 192")));
+    assert_eq!([both.first.clone().call(&mut lent(), Measure(208)), both.plain.clone().call(&mut lent(), Measure(208))], [Value(160); 2]);
+    spoil(&mut both, 34, 12);
+    leaves_unsound(&both, Measure(208));
+    spoil(&mut both, 34, 0);
+    // the recorded length: 3,584 for 4,096
+    spoil(&mut both, 1, 14);
+    leaves_unsound(&both, Measure(208));
+}
+
+#[test]
+fn a_displacement_of_256_units_in_the_header() {
+    let mut both = fresh(16_896);
+    due(&mut both, [(Grant(13_100), Value(16)), (Resize(16, 10_909), Value(16))]);
+    spoil(&mut both, 35, 1);
+    store(&mut both, 4109, 160);
+    leaves(&both, Measure(4112), Refusal::HeaderDamaged);
+    store(&mut both, 4111, 1);
+    leaves(&both, Measure(4112), Refusal::Overrun);
+}
+
+/// Set up over an arena and a room of these lengths, with zeros in them.
+fn set_up<R: Record>(arena: usize, room: usize, is_right: bool) {
+    let told = format_args!("an arena of {arena} bytes and a room of {room}");
+    let buffers = Buffers { arena: vec![0; arena], room: vec![0; room], totals: R::old(7) };
+    if is_right {
+        set_up_over(&buffers, told);
+    } else {
+        refused(&buffers, SetUp, Refusal::BadArena, told);
+    }
+}
+
+#[test]
+fn what_set_up_takes() {
+    let right = [(512, 280), (1024, 544)];
+    let wrong = [(0, 16), (256, 16), (511, 280), (513, 280), (768, 280), (512, 279), (512, 281)];
+    for (lengths, is_right) in [(&right[..], true), (&wrong, false)] {
+        for &(arena, room) in lengths {
+            set_up::<Totals>(arena, room, is_right);
+            set_up::<()>(arena, room, is_right);
+        }
+    }
+    for (arena, room) in [(512, 280), (262_144, 135_184), (262_145, 0), (262_656, 0), (0, 0)] {
+        assert_eq!([room_len(arena), PlainPool::room_len(arena)], [room; 2], "an arena of {arena} bytes");
+    }
 }
