@@ -1,5 +1,6 @@
 /* Grants a packet as one gather list and a ring of descriptors on a boundary, shows what the pool refuses, and prints a map of the arena's
  * rows. */
+#include <stdalign.h>
 #include <stdio.h>
 #include <stdlib.h>
 #include <string.h>
@@ -8,7 +9,8 @@
 
 enum { ARENA = 8192, ROW = 512 };
 
-static uint8_t arena[ARENA];
+/* Alignments are counted from its first byte, so it is aligned itself, for all of them. */
+static alignas(4096) uint8_t arena[ARENA];
 static uint8_t *room;
 static size_t room_len;
 static slotpool_totals totals;
@@ -98,6 +100,8 @@ int main(void)
     printf("grant 128 aligned to 48: %s\n", name(slotpool_grant_aligned(POOL, 128, 48, &value)));
     printf("grant 128 aligned to 64: %s", name(slotpool_grant_aligned(POOL, 128, 64, &value)));
     printf(", %zu\n", value);
+    if ((uintptr_t)(arena + slotpool_start(value)) % 64 != 0)
+        return 1;
     map();
 
     /* a flipped bit in the tables: block 16 has 156 bytes for 188, which its slot may hold. The tables are sound by themselves, and without the

@@ -2,6 +2,7 @@
  * answers, values and whole arenas are compared after it. The program ends with 1 at the first difference.
  *
  * It prints a line for each call, with the number of the first engine's answer and its value, and then those of the monitor. */
+#include <stdalign.h>
 #include <stdio.h>
 #include <stdlib.h>
 #include <string.h>
@@ -10,8 +11,10 @@
 
 enum { ARENA = 16384, ROOM = 16 + 264 * (ARENA / 512) }; /* docs/TABLES.md */
 
+/* Alignments are counted from the arena's first byte, so it is aligned itself. The monitor's is a copy that no DMA engine reads. */
 static struct {
-    uint8_t arena[ARENA], room[ROOM];
+    alignas(4096) uint8_t arena[ARENA];
+    uint8_t room[ROOM];
     slotpool_totals totals;
 } first;
 
@@ -140,6 +143,8 @@ int main(void)
     size_t packet = grant("grant 160", 160);
     memset(first.arena + slotpool_start(packet), 'p', 160);
     size_t ring = grant_aligned("grant 128 aligned to 64", 128, 64);
+    if ((uintptr_t)(first.arena + slotpool_start(ring)) % 64 != 0)
+        return 1;
     memset(first.arena + slotpool_start(ring), 'r', 128);
 
     /* a packet of 400 bytes in entries of at most 160; check and planner take no pool, and there is one of each */

@@ -3,8 +3,9 @@
  * The calls of slotpool.h, but without `totals`: from a set up that is done, each pool with its own room, the same calls and the same
  * stores to the arena get the same answers and leave the same bytes of the arena. Only the bytes of the tables differ, and nothing in a room
  * says whose it is: a room belongs to the engine that set it up, and a call of the other on it answers 2 or goes by what it reads there.
- * Numbers, handles, what the caller owes and what a refusal keeps are as in slotpool.h; the check of a proposal and the planner, which take
- * no pool, are there. A program that uses both engines links both archives.
+ * Numbers, handles, what the caller owes and what a refusal keeps are as in slotpool.h, and so are machine, memset, threads and the size of a
+ * room; a call takes 1 to 4.5 times as long. The check of a proposal and the planner, which take no pool, are there. A program that uses both
+ * engines links both archives.
  */
 #ifndef SLOTPOOL_PLAIN_H
 #define SLOTPOOL_PLAIN_H
@@ -24,8 +25,8 @@ uint32_t slotpool_plain_set_up(uint8_t *arena, size_t arena_len, uint8_t *room, 
 /* Grants a block of n bytes, all zero; *value is its handle. Answers 0, 2, 3 or 8. */
 uint32_t slotpool_plain_grant(uint8_t *arena, size_t arena_len, uint8_t *room, size_t room_len, size_t n, size_t *value);
 
-/* Grants a block of n bytes, all zero, that starts at a multiple of align, a power of two from 1 to 4,096; *value is its handle. Answers
- * 0, 2, 13, 3 or 8, refusals in this order. */
+/* Grants a block of n bytes, all zero, that starts at a multiple of align, a power of two from 1 to 4,096, counted from the arena's first
+ * byte: its address is such a multiple only if the arena's is. *value is its handle. Answers 0, 2, 13, 3 or 8, refusals in this order. */
 uint32_t slotpool_plain_grant_aligned(uint8_t *arena, size_t arena_len, uint8_t *room, size_t room_len, size_t n, size_t align,
                                       size_t *value);
 

@@ -2,10 +2,14 @@
 //! lent record. [`PlainPool`] is the same by a second engine, without the record.
 //!
 //! ```
-//! let mut arena = vec![0; 16_384];
+//! // alignments are counted from the arena's first byte, so the arena is aligned itself, here for all of them
+//! #[repr(align(4096))]
+//! struct Arena([u8; 16_384]);
+//!
+//! let mut arena = Box::new(Arena([0; 16_384]));
 //! let mut room = vec![0; slotpool::room_len(16_384)];
 //! let mut totals = slotpool::Totals::default();
-//! let mut pool = slotpool::Pool::set_up(&mut arena, &mut room, &mut totals).unwrap();
+//! let mut pool = slotpool::Pool::set_up(&mut arena.0, &mut room, &mut totals).unwrap();
 //!
 //! let block = pool.grant(160).unwrap();
 //! let start = block.start();
@@ -23,7 +27,8 @@
 //! assert_eq!(pool.report().unwrap().requested_bytes, 400);
 //!
 //! // a ring of 8 descriptors of 16 bytes, which the DMA engine wants at a multiple of 64
-//! assert_eq!(pool.grant_aligned(128, 64).unwrap().start(), 448);
+//! let ring = pool.grant_aligned(128, 64).unwrap().start();
+//! assert_eq!((ring, pool.arena()[ring..].as_ptr().addr() % 64), (448, 0));
 //!
 //! // two blocks fill a group, so the next one has the slot of one that was released: the old handle is refused
 //! let old = pool.grant(2028).unwrap();
@@ -97,9 +102,9 @@ pub struct Totals {
 }
 
 /// What names a block: grants give it, and the calls on the block take it. It is the block's start plus, in the low four bits, how often the
-/// block's slot was granted before, modulo 16; so a handle that was kept too long is refused, even if another block has its start by now.
-/// Not told apart are a slot's blocks a multiple of 16 grants apart, if they start at the same place, and blocks before and after all of a
-/// group were released: then the slots are counted anew.
+/// block's slot was granted before, modulo 16; so a handle that was kept too long is refused, even if another block has its start by now,
+/// except that a slot's blocks a multiple of 16 grants apart are not told apart if they start at the same place, nor are blocks before and
+/// after all of a group were released: then the slots are counted anew.
 #[repr(transparent)]
 #[derive(Clone, Copy, Debug, Default, PartialEq, Eq, PartialOrd, Ord, Hash)]
 pub struct Handle(usize);
@@ -236,9 +241,10 @@ macro_rules! calls {
                 answer(number, value)
             }
 
-            /// Grants a block of `n` zero bytes that starts at a multiple of `align`, a power of two from 1 to 4,096. Up to 16 this is
-            /// [`Self::grant`]; from 32 on the block takes the slot of one of `n + align - 16` bytes, and keeps the alignment when it is
-            /// resized. Refused with [`Refusal::BadAlignment`] for any other `align`.
+            /// Grants a block of `n` zero bytes that starts at a multiple of `align`, a power of two from 1 to 4,096, counted from the arena's
+            /// first byte: its address is such a multiple only if the arena's is. Up to 16 this is [`Self::grant`]; from 32 on the block takes
+            /// the slot of one of `n + align - 16` bytes, and keeps the alignment when it is resized. Refused with [`Refusal::BadAlignment`]
+            /// for any other `align`.
             pub fn grant_aligned(&mut self, n: usize, align: usize) -> Result<Handle, Refusal> {
                 let mut value = Handle::default();
                 let number = call!(mut self $record $engine::grant_aligned(n, align, &mut value));
