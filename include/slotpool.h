@@ -12,9 +12,9 @@
  * start at the same place, nor are blocks before and after all of a group were released: then the slots are counted anew.
  *
  * The archive is x86-64 code and leaves one symbol undefined, the C library's memset, which is believed and not proved. It has no state of
- * its own: pools on different threads are apart, and one pool is not to be called from two threads at once. Every call reads the whole room,
- * 16 bytes and 264 for each row of 512 bytes of arena: with an arena of 64 KiB, whose room has 33,808 bytes, a measure takes about 1
- * microsecond on the machine of docs/PERFORMANCE.md.
+ * its own: pools on different threads are apart, and one pool is not to be called from two threads at once. A room has 16 bytes, and 264 for
+ * each row of 512 bytes of arena: 33,808 bytes for 64 KiB. Every call reads all of it (set up writes it): with 64 KiB, full of blocks of 160
+ * bytes, a measure takes about 1 microsecond on the machine of docs/PERFORMANCE.md.
  */
 #ifndef SLOTPOOL_H
 #define SLOTPOOL_H
