@@ -43,6 +43,7 @@ test:
 	.ci/run
 
 bench: $(LIBS) replay
-	cd host && cargo bench --quiet --offline --bench bench
-	cc -O2 -o target/malloc host/benches/malloc.c && target/malloc glibc
-	if command -v musl-gcc >/dev/null; then musl-gcc -O2 -static -o target/malloc-musl host/benches/malloc.c && target/malloc-musl musl; else echo "musl-gcc is not installed (Debian: musl-tools)"; fi
+	@cd host && cargo bench --quiet --offline --bench bench
+	@printf '\nthe C libraries, nanoseconds: median of 15 runs (least to most)\n'
+	@cc -O2 -o target/malloc host/benches/malloc.c && target/malloc glibc
+	@if command -v musl-gcc >/dev/null; then musl-gcc -O2 -static -o target/malloc-musl host/benches/malloc.c && target/malloc-musl musl; else echo "musl-gcc is not installed (Debian: musl-tools)"; fi

@@ -160,7 +160,9 @@ fn replays() {
         };
         println!("{name:<34} {:>8} {:>34} {:>34}", ops.len(), per_second(one), per_second(other));
     }
-    println!("nanoseconds of a run with no record, the program's start: {}", show(&time(10, || drop(black_box(program(&[1]))))));
+    let (start, other, _) =
+        time_beside(10, || drop(black_box(program(&[1]))), || drop(black_box(program::run(&mut Command::new("true"), &[]).stdout)));
+    println!("nanoseconds of a run with no record, the program's start: {}; of a run of true: {}", show(&start).trim(), show(&other).trim());
 }
 
 /// A pool that is put back to one state before every turn.
