@@ -3,9 +3,9 @@
  * The calls of slotpool.h, but without `totals`: from a set up that is done, each pool with its own room, the same calls and the same
  * stores to the arena get the same answers and leave the same bytes of the arena. Only the bytes of the tables differ, and nothing in a room
  * says whose it is: a room belongs to the engine that set it up, and a call of the other on it answers 2 or goes by what it reads there.
- * Numbers, handles, what the caller owes and what a refusal keeps are as in slotpool.h, and so are machine, memset, threads and the size of a
- * room; a call takes 1 to 5 times as long. The check of a proposal and the planner, which take no pool, are there. A program that uses both
- * engines links both archives.
+ * Numbers, handles, what the caller owes and what a refusal keeps are as in slotpool.h, and so are the machine, threads and the size of a room;
+ * this archive too leaves memset undefined and nothing else, and a call takes 1 to 5 times as long. The check of a proposal and the planner,
+ * which take no pool, are there. A program that uses both engines links both archives.
  */
 #ifndef SLOTPOOL_PLAIN_H
 #define SLOTPOOL_PLAIN_H
