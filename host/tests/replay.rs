@@ -229,6 +229,23 @@ fn every_version() {
 }
 
 #[test]
+fn every_operation_in_bytes() {
+    let grant = [0, 5, 1, 0, 0, 0, 160];
+    let report = [0, 1, 6];
+    let store = [0, 7, 5, 0, 0, 0, 16, 7, 9];
+    let resize = [0, 9, 3, 0, 0, 0, 16, 0, 0, 0, 188];
+    let measure = [0, 5, 4, 0, 0, 0, 16];
+    let release = [0, 5, 2, 0, 0, 0, 16];
+    let (no_room, too_large) = ([0, 5, 1, 0, 1, 255, 235], [0, 5, 1, 0, 1, 255, 236]);
+    let trace = [&[1][..], &grant, &report, &store, &resize, &measure, &release, &no_room, &too_large].concat();
+    assert_eq!(prints(&trace), "0 16\n0 1 160 8 24 20 0\n0 0\n0 16\n0 188\n0 0\n8 0\n3 0\n");
+    // a store over a header, and then back as it was
+    let (spoils, mends) = ([0, 7, 5, 0, 0, 0, 12, 0, 1], [0, 7, 5, 0, 0, 0, 12, 0, 160]);
+    let trace = [&[1][..], &grant, &spoils, &measure, &mends, &measure].concat();
+    assert_eq!(prints(&trace), "0 16\n0 0\n6 0\n0 0\n0 160\n");
+}
+
+#[test]
 fn every_operation_with_every_length() {
     // some long ones have a right length as their first byte or their last
     let long = [13, 255, 256, 257, 261, 265, 1280, 2304, 65_000];

@@ -139,6 +139,12 @@ fn a_third_grant_is_not_displaced_and_a_refill_keeps_last_starts() {
 }
 
 #[test]
+fn the_lowest_group_serves_though_its_slot_waits() {
+    let mut both = fresh(8192);
+    due(&mut both, [(Grant(2028), Value(16)), (Grant(2028), Value(2048)), (Grant(2028), Value(4112)), (Release(16), Done), (Grant(2028), Value(17))]);
+}
+
+#[test]
 fn w10() {
     due(&mut w7_granted(), [(Release(16), Done), (Release(16), Refused(Refusal::AlreadyFree))]);
 }
@@ -455,4 +461,70 @@ fn what_set_up_takes() {
     for (arena, room) in [(512, 280), (262_144, 135_184), (262_145, 0), (262_656, 0), (0, 0)] {
         assert_eq!([room_len(arena), PlainPool::room_len(arena)], [room; 2], "an arena of {arena} bytes");
     }
+}
+
+/// What stands in each engine's room from a place on: the first's, and the second's.
+fn rooms_hold<const N: usize>(both: &Both, at: usize, first: [u8; N], plain: [u8; N]) {
+    assert_eq!((&both.first.room[at..at + N], &both.plain.room[at..at + N]), (&first[..], &plain[..]), "from byte {at} on");
+}
+
+/// Zeros in both rooms.
+fn rooms_clear(both: &Both, at: usize, len: usize) {
+    assert!([&both.first.room, &both.plain.room].iter().all(|room| room[at..at + len].iter().all(|&byte| byte == 0)), "{len} bytes from {at} on");
+}
+
+#[test]
+fn the_bytes_of_the_room() {
+    let mut both = fresh(4096);
+    rooms_hold(&both, 0, [0, 16], [0, 16]);
+    rooms_clear(&both, 2, 278);
+    due(&mut both, [(Grant(1000), Value(16)), (Grant(1000), Value(1024)), (Grant(1000), Value(2032))]);
+    rooms_hold(&both, 16, [1, 19], [1, 19]);
+    rooms_clear(&both, 18, 6);
+    // the masks of the first: slot 3 is ready. The slots' records: 0 to 2 are live, 3 was never granted
+    rooms_hold(&both, 24, [8, 0, 0, 0, 0, 0, 0, 0], [0; 8]);
+    rooms_hold(&both, 32, [1, 1, 0, 0, 232, 3, 0, 0], [3, 1, 0, 0, 232, 3, 0, 0]);
+    rooms_clear(&both, 56, 8);
+    due(&mut both, [(Grant(1000), Value(3040)), (Release(16), Done), (Release(1024), Done)]);
+    rooms_hold(&both, 24, [0, 0, 0, 0, 3, 0, 0, 0], [0; 8]);
+    rooms_hold(&both, 32, [1, 1, 0, 0, 0, 0, 0, 0], [2, 1, 0, 0, 0, 0, 0, 0]);
+    due(&mut both, [(Grant(1000), Value(17))]);
+    rooms_hold(&both, 24, [2, 0, 0, 0, 0, 0, 0, 0], [0; 8]);
+    rooms_hold(&both, 32, [1, 2, 0, 0, 232, 3, 0, 0], [3, 2, 0, 0, 232, 3, 0, 0]);
+    rooms_hold(&both, 40, [1, 1, 0, 0, 0, 0, 0, 0], [1, 1, 0, 0, 0, 0, 0, 0]);
+    rooms_hold(&both, 48, [1, 1, 0, 0, 232, 3, 0, 0], [3, 1, 0, 0, 232, 3, 0, 0]);
+    rooms_clear(&both, 64, 216);
+    // the later rows
+    for (row, at) in [(1, 280), (7, 1864)] {
+        rooms_hold(&both, at, [2, row], [2, row]);
+        rooms_clear(&both, at + 2, 262);
+    }
+}
+
+#[test]
+fn a_mask_has_its_low_byte_first() {
+    let mut both = fresh(512);
+    due(&mut both, (0..5).map(|i| (Grant(0), Value(16 + 16 * i))));
+    due(&mut both, [(Release(32), Done), (Release(48), Done), (Release(64), Done)]);
+    rooms_hold(&both, 24, [224, 255, 255, 127, 14, 0, 0, 0], [0; 8]);
+}
+
+#[test]
+fn soundness_reads_the_enlarged_size() {
+    let mut both = fresh(4096);
+    due(&mut both, [(GrantAligned(20, 32), Value(32)), (GrantAligned(20, 32), Value(64))]);
+    // slot 1 may be ordinary; aligned to 64 its enlarged size would be two classes up. The plain record has the code plus 2
+    (both.first.room[40], both.plain.room[40]) = (1, 3);
+    assert!(over_each(&both, &calls_on((64, 20)), format_args!("an ordinary block")));
+    (both.first.room[40], both.plain.room[40]) = (3, 5);
+    leaves_unsound(&both, Measure(64));
+}
+
+#[test]
+fn a_use_count_of_255_becomes_0() {
+    let mut both = fresh(4096);
+    due(&mut both, [(Grant(2028), Value(16)), (Grant(2028), Value(2048)), (Release(16), Done)]);
+    spoil(&mut both, 33, 255);
+    let answers = [both.first.call(&mut lent(), Grant(2028)), both.plain.call(&mut lent(), Grant(2028))];
+    assert_eq!((answers, both.first.room[33], both.plain.room[33]), ([Value(31); 2], 0, 0));
 }

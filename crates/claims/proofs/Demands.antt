@@ -31,7 +31,7 @@ use Rattle.claims.proofs.Flips.{flips-refused}
 use Rattle.claims.proofs.Record.{sound-exactly, records-fresh, reports-record, history-recorded, keeps-record}
 use Rattle.claims.proofs.Lists.{checks-exactly, plans-as-said, lists-as-grants, lists-exactly}
 use Rattle.claims.proofs.Alike.{two-engines, stores-anywhere}
-use Rattle.claims.proofs.Traces.{lines-modelled, stores-steer-nothing, replay-steers-nothing}
+use Rattle.claims.proofs.Traces.{past-asks-nothing, lines-modelled, stores-steer-nothing, replay-steers-nothing}
 
 -- an engine whose tables have a lawful form meets the demands
 pub meets-demands : (row : ℕ) → 0 < row → (F : Form) → FormLaws row F → MeetsDemands row F
@@ -97,6 +97,7 @@ demands = record {
   reads-back = reads-back;
   writes-back = writes-back;
   lines-due = lines-due;
+  past-asks-nothing = past-asks-nothing rowBytes;
   lines-modelled = lines-modelled rowBytes card-some;
   stores-steer-nothing = stores-steer-nothing rowBytes card-some;
   replay-steers-nothing = replay-steers-nothing card-some;

@@ -1,5 +1,5 @@
--- Demand 1: "Any arena bytes, table bytes, offset and size may be given. Every call ends with an answer of document 01's table. A
--- refusal names its reason, in the fixed order, and changes no byte of arena or tables."
+-- Demand 1: "Any arena bytes, table bytes, offset and size may be given, and every call ends with an answer from document 01's table or one that a
+-- later request adds to it. A refusal names its reason, in the fixed order, and changes no byte of arena or tables."
 use Prim.Native.Nat.{ℕ, suc, _+_, _*_, _-_, _^_, _≤_, _<_}
 use mathlib.Core.Path.{_≡_}
 use mathlib.Core.Bool.{Bool, not}

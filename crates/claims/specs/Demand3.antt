@@ -1,6 +1,10 @@
--- Demand 3: "Packet contents steer nothing: one theorem over every list of calls, run twice with different engine stores into
--- requested bytes of live blocks; both runs give the model's answers, tables and totals, the same bytes outside live requested
--- bytes, and gained bytes are zero. Refused calls and every later call are in it."
+-- Demand 3: "Packet contents steer nothing. Take any list of these calls, refused ones included: set up, grant, release, resize, measure, report,
+-- and each call on the pool that a later request adds. Run it twice, each time from a fresh pool, over arenas of one length. Each call is lent the
+-- whole arena, and the tables as the last call left them. Between calls only the engine writes, and only into the requested bytes of live blocks; it
+-- may store anything there, different in each run. Then, for every such list and whatever the engine stores, both runs give the same answers, and
+-- they are those of document 01's model. After the list, tables and totals are the same in both and are the model's. All arena bytes outside live
+-- requested bytes are the same. Bytes that a block gained in any of the calls, by grant or growth, were zero when that call ended (a moved block
+-- gains only those past its old size)."
 use Prim.Native.Nat.{ℕ, _+_, _/_, _≤_, _<_, min}
 use mathlib.Core.Path.{_≡_}
 use mathlib.Core.Bool.{Bool, _&&_, not}

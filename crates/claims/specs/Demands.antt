@@ -1,6 +1,7 @@
 -- All that is claimed, at one place. `Demands rowBytes` speaks of the very definitions that the contracts cite, at the card's row size: those of the
 -- first engine (crates `pool` and `slotpool`) are equations with `call rowBytes`, which is `callBy rowBytes (engine rowBytes)`, those of the second
--- (`plain` and `slotpool_plain`) with `plainCall rowBytes`, which is `callBy rowBytes (plainForm rowBytes)`.
+-- (`plain` and `slotpool_plain`) with `plainCall rowBytes`, which is `callBy rowBytes (plainForm rowBytes)`. Two claims stand elsewhere: `TextsDue`, the
+-- text of a replay's lines (crate `player`), and `FormsAlike` (`Alike.antt`), of every two lawful forms, of which `TwoEngines` is the case of the engines.
 use Prim.Native.Nat.{ℕ}
 use lib.Dec.{T}
 use Rattle.mem.specs.Lists.{every}
@@ -27,7 +28,7 @@ use Rattle.claims.specs.Lists.{ChecksExactly, PlansAsSaid, ListsAsGrants
 use Rattle.claims.specs.History.{History}
 use Rattle.claims.specs.Record.{SoundExactly, RecordsFresh, ReportsRecord, HistoryRecorded, KeepsRecord, FlipsRefused}
 use Rattle.claims.specs.Alike.{TwoEngines, StoresAnywhere}
-use Rattle.claims.specs.Traces.{LinesModelled, StoresSteerNothing, ReplaySteersNothing}
+use Rattle.claims.specs.Traces.{PastAsksNothing, LinesModelled, StoresSteerNothing, ReplaySteersNothing}
 
 -- what is claimed of an engine, by the form of its tables: the three demands
 pub record MeetsDemands (row : ℕ) (F : Form) : Type 0 where
@@ -106,6 +107,7 @@ pub record Demands (row : ℕ) : Type 0 where
   pub reads-back : ReadsBack
   pub writes-back : WritesBack
   pub lines-due : LinesDue
+  pub past-asks-nothing : PastAsksNothing row
   pub lines-modelled : LinesModelled row
   pub stores-steer-nothing : StoresSteerNothing row
   pub replay-steers-nothing : ReplaySteersNothing

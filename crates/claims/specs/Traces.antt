@@ -82,6 +82,10 @@ module _ (row : ℕ) where
   StoresInside n P (Item.bad ∷ xs) = Unit {0}
   StoresInside n P (does x ∷ xs) = GoesOn n x → Lies P x × StoresInside n (steps n P x .pool) xs
 
+  -- so it is, of a store that ends past the arena, whatever stands behind it
+  abbrev pub PastAsksNothing : Type 0
+  PastAsksNothing = (n : ℕ) (P : Pool) (o : ℕ) (bs : List ℕ) (xs : List Item) → n < o + length bs → StoresInside n P (does (store o bs) ∷ xs)
+
   -- over any arena and room bytes of the right lengths, and any record, the lines are the model's
   abbrev pub LinesModelled : Type 0
   LinesModelled = (a : List ℕ) (t : KeptBytes) (s : List ℕ) → T (setUpRight row a t) → StoresInside (length a) (fed row (length a)) (items s)

@@ -89,6 +89,8 @@ sheet01 =
     ∷ fresh 4096 (grants160 21 16 ++ (gives (releases 16) 0 ∷ gives (releases 208) 0 ∷ gives (grants 160) 33 ∷ gives (grants 160) 225
     ∷ gives (releases 33) 0 ∷ gives (releases 225) 0 ∷ refuses (releases 225) 5 ∷ gives (grants 160) 18 ∷ refuses (releases 225) 5
     ∷ refuses (releases 208) 4 ∷ []))
+    -- "Of the groups of n's class with a slot not live, take the one with the lowest first row": its slot waits, and another group has a ready one
+    ∷ fresh 8192 (gives (grants 2028) 16 ∷ gives (grants 2028) 2048 ∷ gives (grants 2028) 4112 ∷ gives (releases 16) 0 ∷ gives (grants 2028) 17 ∷ [])
     -- W10
     ∷ fresh 4096 (gives (grants 160) 16 ∷ gives (grants 160) 208 ∷ gives (releases 16) 0 ∷ refuses (releases 16) 5 ∷ [])
     -- W11
@@ -215,10 +217,15 @@ sheetAligned =
     ∷ fresh 4096 (gives (grantsAligned 20 32) 32 ∷ gives (grantsAligned 20 32) 64 ∷ gives (grants 20) 1552 ∷ leaves (resizes 64 131036) 3
     ∷ leaves (resizes 64 131035) 8 ∷ stores 61 0 ∷ leaves (resizes 64 131036) 3 ∷ leaves (resizes 64 131035) 6 ∷ gives (releases 32) 0
     ∷ leaves (resizes 32 131051) 5 ∷ leaves (resizes 48 131051) 4 ∷ leaves (resizes 1552 131051) 8 ∷ leaves (resizes 48 131052) 3 ∷ [])
-    -- "soundness .. demands the boundary": a later multiple is sound, and no other place is; an enlarged size of another class is not
+    -- "soundness .. demands the boundary": a later multiple is sound, and no other place is; an alignment of which the start is no multiple is not, nor
+    -- is a code that is none
     ∷ fresh 4096 (gives (grantsAligned 250 32) 32 ∷ gives (resizes 32 190) 32 ∷ spoils 34 3 ∷ refuses (measures 64) 6 ∷ refuses (measures 32) 4
     ∷ spoils 34 2 ∷ leaves (measures 48) 2 ∷ spoils 34 1 ∷ gives (measures 32) 190 ∷ spoils 32 3 ∷ leaves (measures 32) 2 ∷ spoils 32 10
     ∷ leaves (measures 32) 2 ∷ spoils 32 0 ∷ leaves (measures 32) 2 ∷ spoils 32 2 ∷ gives (releases 32) 0 ∷ [])
+    -- "soundness reads the enlarged size where it speaks of a live block's class": 20 bytes at 64 may be ordinary, and aligned to 64 they would be two
+    -- classes up
+    ∷ fresh 4096 (gives (grantsAligned 20 32) 32 ∷ gives (grantsAligned 20 32) 64 ∷ spoils 40 1 ∷ gives (measures 64) 20 ∷ spoils 40 3
+    ∷ leaves (measures 64) 2 ∷ [])
     ∷ []
 
 -- a block of 2,028 bytes, which fills its slot, given back and granted again k times; h is its handle, of start 16, and the bits are the next
@@ -256,6 +263,9 @@ sheetSound =
     keeps Fresh (zeros 8) ∷ keeps (Idle true 5 258) (bytes8 1 5 2 1 0 0 0 0) ∷ keeps (Idle false 5 258) (bytes8 1 5 2 1 0 0 0 0)
     ∷ keeps (Live (record { count = 7; disp = 258; size = 66051; align = 1 })) (bytes8 1 7 2 1 3 2 1 0)
     ∷ keeps (Live (record { count = 0; disp = 0; size = 0; align = 9 })) (bytes8 9 0 0 0 0 0 0 0)
+    -- "its use count modulo 256", "255 becoming 0"
+    ∷ fresh 4096 (gives (grants 2028) 16 ∷ gives (grants 2028) 2048 ∷ gives (releases 16) 0 ∷ spoils 33 255 ∷ gives (grants 2028) 31 ∷ tables 33 (0 ∷ [])
+    ∷ gives (measures 31) 2028 ∷ [])
     -- the room: a fresh one; a group of class 19 with three of its four slots live, with all, with two of them waiting, with these ready again and the
     -- lower one granted; its later rows
     ∷ fresh 4096 (tables 0 (0 ∷ 16 ∷ zeros 278) ∷ gives (grants 1000) 16 ∷ gives (grants 1000) 1024 ∷ gives (grants 1000) 2032
