@@ -125,7 +125,9 @@ fn w8_and_w9() {
     assert_eq!(both.first.arena[12..28], [0; 16]);
     assert_eq!(both.first.arena[28..32], [0, 160, 1, 0]);
     assert_eq!(both.first.arena[200..204], [12, 0, 0, 0]);
-    due(&mut both, [(Release(32), Refused(Refusal::Stale)), (Release(16), Refused(Refusal::NoSuchBlock)), (Release(33), Done)]);
+    due(&mut both, [(Release(32), Refused(Refusal::Stale)), (Release(16), Refused(Refusal::NoSuchBlock))]);
+    // it is displaced by one unit, so 172 bytes fit, and 173 do not
+    due(&mut both, [(Resize(33, 172), Value(33)), (Resize(33, 173), Refused(Refusal::NoRoom)), (Release(33), Done)]);
 }
 
 #[test]

@@ -1,18 +1,20 @@
 -- Set up and release leave what document 01 says, measure and report leave everything, and no block starts at 0.
-use Rattle.mem.proofs.Prelude.{_∙_, _≡_, sym, ap, refl, subst, ⊎-elim, inl, inr, _⊎_, List, [], _++_, append-nil, ℕ, _<_, _/_, arith}
-use Rattle.mem.proofs.Prelude.{T, length, getD}
+use Rattle.mem.proofs.Prelude.{_∙_, _≡_, sym, ap, refl, ap₂, subst, ⊎-elim, inl, inr, _⊎_, List, [], _∷_, _++_, append-nil, ℕ, _<_, _*_, _/_, arith}
+use Rattle.mem.proofs.Prelude.{T, length, getD, mul-div-cancel-left}
 use Rattle.mem.specs.Lists.{any}
 use Rattle.mem.specs.Bytes.{zeros, put}
-use Rattle.mem.proofs.Tests.{T-true, true-T, every-not, choose-case}
+use Rattle.mem.proofs.Tests.{T-true, true-T, and-both, every-not, choose-case}
 use Rattle.mem.proofs.Laws.{put-all, put-length, put-before, put-past, zeros-length, zeros-put}
-use Rattle.model.specs.State.{Pool, Place, isLive, wellFormed, startOf, poolOf}
+use Rattle.model.specs.State.{Pool, Place, isLive, wellFormed, startOf, poolOf, rows}
+use Rattle.model.specs.Answers.{done}
 use Rattle.model.specs.Plans.{freshPool, Plan, releases, reports, plan, onHandle, releaseAt, release, report}
+use Rattle.model.specs.Tables.{arenaRight}
 use Rattle.model.specs.Calls.{Form, FormLaws, Outcome, setUpRightBy, applied, written, callBy}
 use Rattle.model.proofs.Formed.{release-formed}
 use Rattle.model.proofs.Fresh.{fresh-formed, set-up-done}
 use Rattle.model.proofs.Calls.{call-sound, carried-whole, measure-keeps, report-keeps}
 use Rattle.claims.specs.Demand2 as demand2
-use Rattle.claims.specs.AsSaid.{MadeFresh, SetsUpAsSaid, ReportsAsSaid, ZeroedOnly, NeverAtZero, ReadsOnly, Waits, Goes, ReleasesAsSaid}
+use Rattle.claims.specs.AsSaid.{MadeFresh, SetsUpAsSaid, SetsUpAsPlanned, ReportsAsSaid, ZeroedOnly, NeverAtZero, ReadsOnly, Waits, Goes, ReleasesAsSaid}
 use Rattle.model.proofs.Handles.{on-present}
 use Rattle.claims.proofs.Cases.{release-parts}
 use Rattle.claims.proofs.Demand1.{starts-found}
@@ -40,6 +42,18 @@ sets-up-as-said row pos F L a t z =
       pool = L .says (freshPool n) (fresh-formed n);
       bytes = zeroed a (zeros (length a)) 0 (length a) (sym (put-all (zeros (length a)) a (zeros-length (length a))));
     })
+
+pub sets-up-as-planned : (row : ℕ) → 0 < row → (F : Form) → FormLaws row F → SetsUpAsPlanned row F
+unfolding callBy setUpRightBy plan
+sets-up-as-planned row pos F L a t s =
+    let P : Pool = F .view t in
+    let (w, e) = L .only (length a) t s in
+    let f : T (F .fits (length a) t) = subst (λ u. T (F .fits (length a) u)) (sym e) (L .taken (length a) P w) in
+    let z : zeros (length a) ≡ put 0 (zeros (row * rows row P)) a =
+    ap zeros (w .long) ∙ sym (put-all (zeros (row * rows row P)) a (zeros-length (row * rows row P) ∙ sym (w .long))) in
+    let q : length a / row ≡ rows row P = ap (λ n. n / row) (w .long) ∙ mul-div-cancel-left (rows row P) pos in
+    set-up-done row F a t (and-both (arenaRight row (length a)) _ (w .lawful) f)
+    ∙ ap₂ (λ b n. record { answer = done (0 ∷ []); arena = b; room = F .encode (freshPool n) }) z q
 
 -- ---- measure and report
 

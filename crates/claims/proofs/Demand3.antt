@@ -1,8 +1,8 @@
 -- Packet contents steer nothing: demand 3, for rows of every size.
-use Rattle.mem.proofs.Prelude.{_∙_, _≡_, sym, ap, refl, ap₂, subst, true, false, Bool, not, List, [], _∷_, ℕ, _<_, _*_, _/_, mul-div-cancel-left, T, T-not, length}
+use Rattle.mem.proofs.Prelude.{_∙_, _≡_, sym, ap, refl, ap₂, subst, true, false, Bool, not, List, [], _∷_, ℕ, _<_, _*_, _/_, T, T-not, length}
 use Rattle.mem.proofs.Prelude.{length-set}
 use lib.Seq.{getD-set-other}
-use Rattle.mem.specs.Bytes.{zeros, put}
+use Rattle.mem.specs.Bytes.{zeros}
 use Rattle.mem.proofs.Tests.{T-true, true-T}
 use Rattle.mem.proofs.Laws.{zeros-length}
 use Rattle.model.specs.State.{Pool, Place, wellFormed, aligned, rows}
@@ -13,13 +13,14 @@ use Rattle.model.specs.Calls.{Form, FormLaws, Outcome, Stands, applied, written
 use Rattle.model.proofs.Fresh.{fresh-rows, fresh-formed, all-fresh, whole-rows, whole-units, set-up-lawful, set-up-done}
 use Rattle.model.proofs.Formed.{Formed, plan-formed}
 use Rattle.model.proofs.Calls.{call-sound, carried-whole}
-use Rattle.model.proofs.Forms.{call-step, fresh-stands, plan-stands}
+use Rattle.model.proofs.Forms.{fresh-stands, plan-stands}
 use Rattle.claims.specs.Demand3.{Turn, calls, model, fed, modelFresh, requested, RequestedByte, StoresAdmitted, StoresOnly, ModelStands}
 use Rattle.claims.specs.Demand3.{ran, ranFresh, reported, EngineOnly, AllCleared, AsModelled, Run, SteersNothing}
 use Rattle.claims.proofs.Cases.{by-call}
 use Rattle.claims.proofs.Cells.{cells, Agrees}
-use Rattle.claims.proofs.Steps.{Kept, fresh-agrees, arena-length, set-up-zero, plan-kept}
+use Rattle.claims.proofs.Steps.{Kept, fresh-agrees, arena-length, plan-kept}
 use Rattle.claims.proofs.Demand2.{set-up-accepted}
+use Rattle.claims.proofs.AsSaid.{sets-up-as-planned}
 use Rattle.claims.proofs.Requested.{requested-exactly, engine-keeps, outside}
 
 -- ---- one call
@@ -33,11 +34,8 @@ module _ (row : ℕ) (pos : 0 < row) (F : Form) (L : FormLaws row F) where
     stands = record { lawful = h; long = l; formed = w; bounds = b }
 
     set-up-follows : callBy row F a (F .encode P) setsUp ≡ applied F a (plan row P setsUp)
-    unfolding plan
     set-up-follows =
-        let q : length a / row ≡ rows row P = ap (λ n. n / row) l ∙ mul-div-cancel-left (rows row P) pos in
-        let e : zeros (length a) ≡ put 0 (zeros (row * rows row P)) a = ap zeros l ∙ sym (set-up-zero row pos P w a g) in
-        call-step row F (L) a P stands setsUp ∙ cc
+        sets-up-as-planned row pos F L a (F .encode P) (L .right (length a) P stands) ∙ ap (λ Q. applied F a (plan row Q setsUp)) (L .says P w)
 
     -- a call on an arena that agrees with the tables does what the model does
     pub call-follows : (c : Call) → callBy row F a (F .encode P) c ≡ applied F a (plan row P c)

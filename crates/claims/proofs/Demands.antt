@@ -16,7 +16,7 @@ use Rattle.claims.proofs.Tables.{tables, plain-tables}
 use Rattle.claims.proofs.Bench.{too-large-anywhere}
 use Rattle.claims.proofs.Demand1.{demand1}
 use Rattle.claims.proofs.Demand2.{releases-exactly, measures-exactly, grants-exactly, grants-as-said, never-shared, leaves-sound}
-use Rattle.claims.proofs.AsSaid.{never-at-zero, sets-up-as-said, reads-only, reports-as-said, releases-as-said}
+use Rattle.claims.proofs.AsSaid.{never-at-zero, sets-up-as-said, sets-up-as-planned, reads-only, reports-as-said, releases-as-said}
 use Rattle.claims.proofs.Serves.{serves-ordinary}
 use Rattle.claims.proofs.Stays.{others-stay}
 use Rattle.claims.proofs.Kept.{resizes-keep-alignment}
@@ -42,6 +42,7 @@ meets-demands row pos F L = record {
   grants-exactly = grants-exactly row pos F L;
   aligned-exactly = aligned-exactly row pos F L;
   sets-up-as-said = sets-up-as-said row pos F L;
+  sets-up-as-planned = sets-up-as-planned row pos F L;
   grants-as-said = grants-as-said row pos F L;
   aligned-as-said = aligned-as-said row pos F L;
   aligned-ordinary = aligned-ordinary row F;

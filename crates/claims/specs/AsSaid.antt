@@ -14,8 +14,8 @@ use Rattle.classes.specs.Alignments.{alignOf}
 use Rattle.model.specs.declared.Slot.the-variants.{Idle, Live}
 use Rattle.model.specs.State.{Pool, Place, isLive, count, disp, size, align, startOf, poolOf, become, slotNumber, base, beginning, owned, start}
 use Rattle.model.specs.Answers.{done, listed}
-use Rattle.model.specs.Plans.{copies, Call, setsUp, grantsAligned, releases, resizes, measures, reports, freshPool, totals}
-use Rattle.model.specs.Calls.{Form, Outcome, write, callBy}
+use Rattle.model.specs.Plans.{copies, Call, setsUp, grantsAligned, releases, resizes, measures, reports, freshPool, totals, plan}
+use Rattle.model.specs.Calls.{Form, Outcome, write, applied, callBy}
 use Rattle.claims.specs.Demand1.{Near, Serves, StartsAt, headerDue, guardDue}
 use Rattle.claims.specs.Demand2.{Intact, reservedOf}
 
@@ -80,6 +80,10 @@ module _ (row : ℕ) where
 
     abbrev pub SetsUpAsSaid : Type 0
     SetsUpAsSaid = (a : List ℕ) (t : F .Room) → callBy row F a t setsUp .answer .number ≡ 0 → MadeFresh a (callBy row F a t setsUp)
+
+    -- over a pool's own arena a set up is also a call of the model: its plan, carried out
+    abbrev pub SetsUpAsPlanned : Type 0
+    SetsUpAsPlanned = (a : List ℕ) (t : F .Room) → T (F .sound (length a) t) → callBy row F a t setsUp ≡ applied F a (plan row (F .view t) setsUp)
 
     -- MEASURE AND REPORT
 

@@ -19,7 +19,7 @@ use Rattle.claims.specs.Demand1.{Demand1}
 use Rattle.claims.specs.Demand2.{ReleasesExactly, MeasuresExactly, GrantsExactly, AlignedExactly, GrantsAsSaid, AlignedAsSaid, AlignedOrdinary}
 use Rattle.claims.specs.Demand2.{NeverShared, LeavesSound}
 use Rattle.claims.specs.AsSaid.{ServesOrdinary, NeverAtZero, HeadersAsSaid, GuardsAsSaid, SetsUpAsSaid, ReadsOnly, ReportsAsSaid, ReleasesAsSaid}
-use Rattle.claims.specs.AsSaid.{ResizesAsSaid}
+use Rattle.claims.specs.AsSaid.{SetsUpAsPlanned, ResizesAsSaid}
 use Rattle.claims.specs.Soundness.{ArenasAsSaid, SetsUpExactly, SoundByRules}
 use Rattle.claims.specs.Alignment.{ResizesKeepAlignment, OthersStay}
 use Rattle.claims.specs.Stale.{StartsCleared, CountsStep, StaleRefused}
@@ -40,6 +40,7 @@ pub record MeetsDemands (row : ℕ) (F : Form) : Type 0 where
   pub grants-exactly : GrantsExactly row F
   pub aligned-exactly : AlignedExactly row F
   pub sets-up-as-said : SetsUpAsSaid row F
+  pub sets-up-as-planned : SetsUpAsPlanned row F
   pub grants-as-said : GrantsAsSaid row F
   pub aligned-as-said : AlignedAsSaid row F
   pub aligned-ordinary : AlignedOrdinary row F

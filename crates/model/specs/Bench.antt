@@ -81,9 +81,9 @@ sheet01 =
     -- W7
     ∷ fresh 4096 (gives (grants 160) 16 ∷ gives (grants 160) 208 ∷ gives (releases 16) 0 ∷ gives (grants 160) 400 ∷ [])
     -- W8, W9; 02 §7: "W8 now gives 33, W9 answers 10 for 32 and 4 for 16."
-    -- The displaced block has nothing but zeros before its header
+    -- The displaced block has nothing but zeros before its header. "In place if n is at most s − 4 − 16d": it has room for 172 bytes, and not for 173
     ∷ fresh 4096 (grants160 21 16 ++ (gives (releases 16) 0 ∷ gives (grants 160) 33 ∷ shows 12 (zeros 16) ∷ shows 28 (bytes4 0 160 1 0)
-    ∷ shows 200 (bytes4 12 0 0 0) ∷ refuses (releases 32) 10 ∷ refuses (releases 16) 4 ∷ []))
+    ∷ shows 200 (bytes4 12 0 0 0) ∷ refuses (releases 32) 10 ∷ refuses (releases 16) 4 ∷ gives (resizes 33 172) 33 ∷ refuses (resizes 33 173) 8 ∷ []))
     -- "d is the slot's count modulo (t + 1)": the third grant of a slot is not displaced. A refill keeps last starts: the slot that starts at 224
     -- answers 5 there once it waits, and once it is ready
     ∷ fresh 4096 (grants160 21 16 ++ (gives (releases 16) 0 ∷ gives (releases 208) 0 ∷ gives (grants 160) 33 ∷ gives (grants 160) 225
@@ -93,8 +93,9 @@ sheet01 =
     ∷ fresh 8192 (gives (grants 2028) 16 ∷ gives (grants 2028) 2048 ∷ gives (grants 2028) 4112 ∷ gives (releases 16) 0 ∷ gives (grants 2028) 17 ∷ [])
     -- W10
     ∷ fresh 4096 (gives (grants 160) 16 ∷ gives (grants 160) 208 ∷ gives (releases 16) 0 ∷ refuses (releases 16) 5 ∷ [])
-    -- W11
-    ∷ fresh 4096 (gives (grants 160) 16 ∷ gives (releases 16) 0 ∷ refuses (releases 16) 4 ∷ [])
+    -- W11; "all its rows become zero", whatever was stored in them
+    ∷ fresh 4096 (gives (grants 160) 16 ∷ stores 0 7 ∷ stores 1000 8 ∷ stores 4095 9 ∷ gives (releases 16) 0 ∷ refuses (releases 16) 4 ∷ shows 0 (0 ∷ [])
+    ∷ shows 1000 (0 ∷ []) ∷ shows 4095 (0 ∷ []) ∷ [])
     -- W12: the guard of 160 bytes is gone from the block that grew, and that of 141 is there
     ∷ fresh 4096 (gives (grants 160) 16 ∷ shows 200 (bytes4 28 0 0 0) ∷ gives (resizes 16 188) 16 ∷ shows 200 (bytes4 0 0 0 0)
     ∷ gives (resizes 16 141) 16 ∷ shows 200 (bytes4 47 0 0 0) ∷ [])
@@ -135,7 +136,7 @@ sheet01 =
     ∷ fresh 4096 (gives (grants 160) 16 ∷ stores 16 7 ∷ stores 175 9 ∷ gives (resizes 16 188) 16 ∷ shows 16 (7 ∷ []) ∷ shows 175 (9 ∷ 0 ∷ [])
     ∷ stores 156 5 ∷ stores 157 6 ∷ gives (resizes 16 141) 16 ∷ shows 16 (7 ∷ []) ∷ shows 156 (5 ∷ 0 ∷ []) ∷ gives (measures 16) 141 ∷ [])
     -- "that many bytes are copied, then the old is released": a block that grows by a move, and one that shrinks by a move
-    ∷ fresh 8192 (gives (grants 160) 16 ∷ stores 16 7 ∷ stores 175 9 ∷ gives (resizes 16 189) 4112 ∷ shows 4112 (7 ∷ []) ∷ shows 4271 (9 ∷ 0 ∷ [])
+    ∷ fresh 8192 (gives (grants 160) 16 ∷ stores 16 7 ∷ stores 175 9 ∷ gives (resizes 16 189) 4112 ∷ shows 4112 (7 ∷ []) ∷ shows 4271 (9 ∷ zeros 29)
     ∷ shows 16 (0 ∷ []) ∷ shows 175 (0 ∷ []) ∷ [])
     ∷ fresh 8192 (gives (grants 160) 16 ∷ stores 16 7 ∷ stores 155 5 ∷ stores 156 6 ∷ gives (resizes 16 140) 4112 ∷ shows 4112 (7 ∷ [])
     ∷ shows 4251 (5 ∷ 0 ∷ []) ∷ shows 155 (0 ∷ 0 ∷ []) ∷ [])
@@ -170,7 +171,7 @@ sheet01 =
     ∷ holds (six 20 3190 8 8 1 0) ∷ gives (resizes 33 13) 4112 ∷ holds (six 20 3053 10 6 31 1) ∷ gives (releases 4112) 0
     ∷ holds (six 19 3040 8 8 1 1) ∷ lists (grantsList 14 13 17 (13 ∷ 1 ∷ [])) 2 (replicate 17 7) (4112 ∷ 5136 ∷ replicate 15 7)
     ∷ holds (six 21 3054 11 5 61 1) ∷ gives (measures 5136) 1 ∷ asks reports 0 (21 ∷ 3054 ∷ 11 ∷ 5 ∷ 61 ∷ 1 ∷ []) ∷ gives setsUp 0
-    ∷ holds (six 0 0 0 16 0 0) ∷ []))
+    ∷ holds (six 0 0 0 16 0 0) ∷ shows 396 (bytes4 0 0 0 0) ∷ shows 5132 (bytes4 0 0 0 0) ∷ []))
     -- "the stored totals equal those counted from the tables": a requested size with a flipped bit, and with it a record that agrees; a use
     -- count is in no total, but in the handle's bits
     ∷ fresh 4096 (gives (grants 160) 16 ∷ spoils 36 161 ∷ leaves (grants 0) 2 ∷ leaves (releases 16) 2 ∷ leaves (resizes 16 7) 2 ∷ leaves (measures 16) 2
