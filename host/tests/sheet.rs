@@ -523,10 +523,13 @@ fn soundness_reads_the_enlarged_size() {
 }
 
 #[test]
-fn a_use_count_of_255_becomes_0() {
+fn a_use_count_steps_and_255_becomes_0() {
     let mut both = fresh(4096);
     due(&mut both, [(Grant(2028), Value(16)), (Grant(2028), Value(2048)), (Release(16), Done)]);
-    spoil(&mut both, 33, 255);
-    let answers = [both.first.call(&mut lent(), Grant(2028)), both.plain.call(&mut lent(), Grant(2028))];
-    assert_eq!((answers, both.first.room[33], both.plain.room[33]), ([Value(31); 2], 0, 0));
+    for (count, next) in [(127, 128), (255, 0)] {
+        let mut spoilt = both.clone();
+        spoil(&mut spoilt, 33, count);
+        let answers = [spoilt.first.call(&mut lent(), Grant(2028)), spoilt.plain.call(&mut lent(), Grant(2028))];
+        assert_eq!((answers, spoilt.first.room[33], spoilt.plain.room[33]), ([Value(31); 2], next, next));
+    }
 }

@@ -113,8 +113,8 @@ module _ (row : ℕ) (pos : 0 < row) (n : ℕ) (h : T (arenaRight row n)) where
   on-or-ends (measure h) = inl tt
   on-or-ends (store o bs) = go (leb (o + length bs) n) refl
     where
-      go : (b : Bool) → leb (o + length bs) n ≡ b → (o + length bs ≤ n) ⊎ Ends (store o bs)
-      go true e = inl (leb-true (o + length bs) n e)
+      go : (b : Bool) → leb (o + length bs) n ≡ b → GoesOn n (store o bs) ⊎ Ends (store o bs)
+      go true e = inl (omega (arith, leb-true (o + length bs) n e))
       go false e = inr (λ P a t l. (
         ap (λ (d : Effect). d .tells) (choose-false (leb (o + length bs) (length a)) _ _ (ap (leb (o + length bs)) l ∙ e)),
         ap (λ (d : Stepped). d .tells) (choose-false (leb (o + length bs) n) _ _ e),
@@ -150,7 +150,7 @@ module _ (row n : ℕ) where
   store-like o bs cs e = record {
     steps-same = λ P. rw e;
     lies-same = λ P. ap (λ k. (i : ℕ) → o ≤ i → i < o + k → T (requested row P i)) e;
-    goes-same = ap (λ k. o + k ≤ n) e;
+    goes-same = rw e;
   }
 
   -- what is so of records that are the same to the model is so of a record without its bytes beside the record

@@ -265,8 +265,8 @@ sheetSound =
     ∷ keeps (Live (record { count = 7; disp = 258; size = 66051; align = 1 })) (bytes8 1 7 2 1 3 2 1 0)
     ∷ keeps (Live (record { count = 0; disp = 0; size = 0; align = 9 })) (bytes8 9 0 0 0 0 0 0 0)
     -- "its use count modulo 256", "255 becoming 0"
-    ∷ fresh 4096 (gives (grants 2028) 16 ∷ gives (grants 2028) 2048 ∷ gives (releases 16) 0 ∷ spoils 33 255 ∷ gives (grants 2028) 31 ∷ tables 33 (0 ∷ [])
-    ∷ gives (measures 31) 2028 ∷ [])
+    ∷ fresh 4096 (gives (grants 2028) 16 ∷ gives (grants 2028) 2048 ∷ gives (releases 16) 0 ∷ spoils 33 127 ∷ gives (grants 2028) 31
+    ∷ tables 33 (128 ∷ []) ∷ gives (releases 31) 0 ∷ spoils 33 255 ∷ gives (grants 2028) 31 ∷ tables 33 (0 ∷ []) ∷ gives (measures 31) 2028 ∷ [])
     -- the room: a fresh one; a group of class 19 with three of its four slots live, with all, with two of them waiting, with these ready again and the
     -- lower one granted; its later rows
     ∷ fresh 4096 (tables 0 (0 ∷ 16 ∷ zeros 278) ∷ gives (grants 1000) 16 ∷ gives (grants 1000) 1024 ∷ gives (grants 1000) 2032
