@@ -13,7 +13,8 @@ use Rattle.model.proofs.Tables.{masks-laws}
 use Rattle.model.proofs.Plain.{plain-lawful}
 use Rattle.model.proofs.Kept.{layout-lawful, engine-lawful}
 use Rattle.model.proofs.Forms.{step, inRoom, call-step, Standing, step-stands, fresh-stands}
-use Rattle.claims.specs.Alike.{Store, stored, Round, Seen, seen, seenFresh, FormsAlike, FirstLawful, MaskedLawful, SecondLawful, TwoEngines, StoresAnywhere}
+use Rattle.claims.specs.Alike.{Store, stored, Round, Seen, seen, seenFresh, StoresAnywhere}
+use Rattle.claims.specs.Alike.{FormsAlike, FirstLawful, MaskedLawful, SecondLawful, TwoEngines}
 use Rattle.claims.proofs.Demand2.{set-up-accepted}
 
 stored-length : (a : List ℕ) (ss : List Store) → length (stored a ss) ≡ length a

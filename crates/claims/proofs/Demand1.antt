@@ -291,8 +291,12 @@ module _ (row : ℕ) (pos : 0 < row) (F : Form) (L : FormLaws row F) (a : List �
         room : (p : Place) → inPlace p n ≡ false → (r : Option Place) → reserve row P (align (p .state)) n ≡ r → M p (moveTo row P p n r)
         room p e none f = (
           refl,
-          λ l. due-right c NoRoom [] refl (sym (s .1))
-              (p, l, λ v. subst T e (live-serves row pos P o p n (s .0 .formed) l .1 v), subst Full (live-enlarged row pos P o p n (s .0 .formed) l) (reserve-none row pos P (align (p .state)) n f)),
+          λ l. due-right c NoRoom [] refl (sym (s .1)) (
+            p,
+            l,
+            λ v. subst T e (live-serves row pos P o p n (s .0 .formed) l .1 v),
+            subst Full (live-enlarged row pos P o p n (s .0 .formed) l) (reserve-none row pos P (align (p .state)) n f),
+          ),
         )
         room p e (some q) f = (
           refl,

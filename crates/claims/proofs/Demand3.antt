@@ -135,7 +135,8 @@ module _ (row : ℕ) (pos : 0 < row) (F : Form) (L : FormLaws row F) where
         };
         formed = subst (λ m. T (wellFormed (m .pool))) m (f .formed);
         agrees = subst (λ m. Agrees (cells row (m .pool)) (ranFresh row F a t us .arena)) m
-            (subst (λ (z : Outcome (F .Room)). Agrees (cells row (model row P (calls us) .pool)) (ran row F (z .arena) (z .room) us .arena)) (sym d) (f .agrees));
+            (subst (λ (z : Outcome (F .Room)). Agrees (cells row (model row P (calls us) .pool)) (ran row F (z .arena) (z .room) us .arena)) (sym d)
+            (f .agrees));
       }
 
   -- ---- two runs

@@ -1,6 +1,6 @@
 -- A byte is a requested byte of a live block exactly where the cells say so; what agrees with them is fixed everywhere else.
 use Rattle.mem.proofs.Prelude.{_∙_, _≡_, sym, ap, refl, ap₂, subst, true, Bool, false, _&&_, _||_, true≢false, and-false, List, [], _∷_, _++_, _+_, ℕ}
-use Rattle.mem.proofs.Prelude.{_<_, _≤_, _*_, _-_, suc, zero, add-zero, zero-add, mul-add, arith, eq-eqb, ne-eqb, leb-false, leb-true, le-ltb, lt-ltb, T}
+use Rattle.mem.proofs.Prelude.{_<_, _*_, _-_, suc, zero, add-zero, zero-add, mul-add, arith, eq-eqb, ne-eqb, leb-false, leb-true, le-ltb, lt-ltb, T}
 use Rattle.mem.proofs.Prelude.{eqb, leb, ltb, leb→le, ltb→lt, le→leb, lt→ltb, T-not, length, getD, length-append}
 use mathlib.Core.Bool.{or-false, or-assoc}
 use mathlib.Core.Logic.{_↔_}

@@ -1,14 +1,13 @@
 -- A resize leaves what document 01 says: in place, or as a grant, a copy and a release.
-use Rattle.mem.proofs.Prelude.{_∙_, _≡_, sym, ap, refl, subst, true, false, Bool, _||_, ⊎-elim, inl, inr, _⊎_, some, none, Option, List, [], _∷_, _++_}
-use Rattle.mem.proofs.Prelude.{append-assoc, append-nil, _+_, ℕ, _<_, _≤_, _*_, _-_, suc, arith, lt-leb, lt-ltb, T, leb, ltb, leb→le, le→leb, drop, getD}
-use Rattle.mem.proofs.Prelude.{length, length-append, eqb, eqb→eq, eq-eqb, eqb-true}
-use mathlib.Core.Logic.{_↔_}
+use Rattle.mem.proofs.Prelude.{_∙_, _≡_, sym, ap, refl, subst, false, ⊎-elim, inl, inr, _⊎_, some, none, Option, List, [], _∷_, _++_}
+use Rattle.mem.proofs.Prelude.{append-assoc, append-nil, _+_, ℕ, _<_, _≤_, _*_, _-_, arith, lt-leb, lt-ltb, T, leb, ltb, drop, getD}
+use Rattle.mem.proofs.Prelude.{length, length-append}
 use Rattle.mem.specs.Lists.{choose}
 use Rattle.mem.specs.Bytes.{zeros, low, same, put, part}
-use Rattle.mem.proofs.Tests.{T-true, true-T, and-left, and-right, and-both, eq→eqb, choose-case, choose-true, choose-false}
+use Rattle.mem.proofs.Tests.{T-true, true-T, and-both, choose-case, choose-true, choose-false}
 use Rattle.mem.proofs.Laws.{put-length, put-before, put-past, part-put, part-written, part-length, part-among, part-part, getD-part, zeros-length, zeros-add}
 use Rattle.mem.proofs.Laws.{zeros-put, eq→same}
-use Rattle.classes.specs.Classes.{slotBytes, classOf, tooLarge, ownClass}
+use Rattle.classes.specs.Classes.{slotBytes, tooLarge}
 use Rattle.classes.specs.Alignments.{alignOf, codeOf, enlarged, Askable}
 use Rattle.model.specs.declared.Refusal.the-variants.{NoRoom}
 use Rattle.model.specs.declared.Damage.the-variants.{Intact}
@@ -25,9 +24,8 @@ use Rattle.model.proofs.Reserve.{Granted, reserve-formed, reserve-size, served}
 use Rattle.model.proofs.Formed.{resize-in-place-formed, resizable}
 use Rattle.model.proofs.Calls.{call-sound, carried-whole}
 use Rattle.model.proofs.Moves.{Old, old, old-released, old-apart, slot-owned, stays-start}
-use Rattle.claims.specs.Demand1.{order, headerDue, guardDue, Due}
+use Rattle.claims.specs.Demand1.{order, Serves, headerDue, guardDue, Due}
 use Rattle.claims.specs.Demand2 as demand2
-use Rattle.claims.specs.Demand1.{Serves}
 use Rattle.claims.specs.AsSaid.{Waits, Goes, sized, stay, InPlace, Moved, MovedBy, ResizesAsSaid}
 use Rattle.model.proofs.Handles.{start-cleared, stays-handle, on-present}
 use Rattle.claims.proofs.Cases.{release-parts, reserve-live}

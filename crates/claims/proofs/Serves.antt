@@ -1,5 +1,5 @@
 -- What serves in place: the test of the plans is what is said, and of an ordinary block that is document 01's.
-use Rattle.mem.proofs.Prelude.{_∙_, _≡_, sym, refl, subst, true, false, Bool, _||_, ⊎-elim, inl, inr, ℕ, suc, _+_, _*_, _-_, _≤_, arith, T, leb, leb→le}
+use Rattle.mem.proofs.Prelude.{_≡_, sym, refl, subst, true, false, Bool, _||_, ⊎-elim, inl, inr, ℕ, suc, _+_, _*_, _-_, _≤_, arith, T, leb, leb→le}
 use Rattle.mem.proofs.Prelude.{le→leb, eqb, eqb→eq, eq-eqb, eqb-true}
 use mathlib.Core.Logic.{_↔_}
 use native.Mathlib.Nat.{eq-or-lt-of-le}

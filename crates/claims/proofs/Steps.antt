@@ -20,7 +20,7 @@ use Rattle.model.specs.Blocks.{reserved, header, spare}
 use Rattle.model.specs.Answers.{done}
 use Rattle.model.specs.Plans.{Plan, refused, turnReady, refill, grantIn, reserve, enframe, vacant, releaseAt, release, discard, inPlace, resizeInPlace, moveTo}
 use Rattle.model.specs.Plans.{measureAt, measure, report, freshPool, Call, setsUp, grants, grantsAligned, releases, resizes, measures, reports, grantsList}
-use Rattle.model.specs.Plans.{plan, lookup, grantAt, reserveAll, poolAfter}
+use Rattle.model.specs.Plans.{plan, grantAt, reserveAll, poolAfter}
 use Rattle.model.proofs.Lists.{small, by-grants, on-list}
 use Rattle.model.specs.Calls.{write, written, damaged}
 use Rattle.model.proofs.Lookup.{Fits, fits, disp-inside, place-unique}

@@ -1,6 +1,6 @@
 -- The lines of a trace whose stores lie in requested bytes of live blocks are the model's, whatever bytes it stores.
-use Rattle.mem.proofs.Prelude.{_∙_, _≡_, sym, ap, refl, ap₂, subst, true, Bool, false, not, ⊎-elim, inl, inr, _⊎_, none, Option, List, [], _∷_, map, ℕ, _<_, _≤_, _+_, _*_, suc, _/_}
-use Rattle.mem.proofs.Prelude.{arith, leb-false, leb-true, T, leb, ltb, T-not, length, getD}
+use Rattle.mem.proofs.Prelude.{_∙_, _≡_, sym, ap, refl, ap₂, subst, true, Bool, false, not, ⊎-elim, inl, inr, _⊎_, none, Option, List, [], _∷_}
+use Rattle.mem.proofs.Prelude.{map, ℕ, _<_, _≤_, _+_, _*_, suc, _/_, arith, leb-false, leb-true, T, leb, ltb, T-not, length, getD}
 use borrow.Author.Tests.{ltb-true, ltb-false}
 use Rattle.mem.specs.Lists.{choose}
 use Rattle.mem.specs.Bytes.{zeros, put}
@@ -18,8 +18,8 @@ use Rattle.model.proofs.Formed.{Formed, plan-formed}
 use Rattle.trace.specs.Trace.{Operation, grant, release, resize, measure, store, report, Item, does, items, traceRight}
 use Rattle.trace.specs.Replay.{noTotals, arenaBytes, Line, Effect, effect, lineThen, performed, linesFrom, replayedOver, replayed}
 use Rattle.claims.specs.Demand3.{fed, requested, SameOutside}
-use Rattle.claims.specs.Traces.{blank, Stepped, stepped, steps, modelLines, GoesOn, Lies, StoresInside, PastAsksNothing, LinesModelled, StoresSteerNothing}
-use Rattle.claims.specs.Traces.{ReplaySteersNothing}
+use Rattle.claims.specs.Traces.{blank, Stepped, stepped, steps, modelLines, GoesOn, Lies, StoresInside, PastAsksNothing, LinesModelled}
+use Rattle.claims.specs.Traces.{StoresSteerNothing, ReplaySteersNothing}
 use Rattle.claims.proofs.Cells.{cells, Agrees}
 use Rattle.claims.proofs.Steps.{fresh-agrees, arena-length, plan-kept}
 use Rattle.claims.proofs.Requested.{engine-keeps}
