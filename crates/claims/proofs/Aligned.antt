@@ -14,7 +14,7 @@ use Rattle.model.specs.Calls.{Form, FormLaws, Outcome, Stands, applied, callBy,
 use Rattle.model.proofs.Fresh.{whole-units}
 use Rattle.model.proofs.Bounds.{rounded, grant-aligned, begins-on-unit}
 use Rattle.model.proofs.Reserve.{served, reserve-align}
-use Rattle.claims.specs.Demand1.{order, FirstDue, NoAlignment, Due}
+use Rattle.claims.specs.Demand1.{FirstDue, NoAlignment, reasons}
 use Rattle.claims.specs.Demand2.{GrantedBy, GrantedAligned, AlignedExactly, AlignedAsSaid, AlignedOrdinary}
 use Rattle.claims.proofs.Codes.{power-code, coded-power, align-code, enlarged-code}
 use Rattle.claims.proofs.Cases.{refuses, on-aligned}
@@ -86,7 +86,7 @@ module _ (row : ℕ) (q : Place) (c k n : ℕ) (old : Slot) (s : q .state ≡ gr
 pub aligned-exactly : (row : ℕ) → 0 < row → (F : Form) → FormLaws row F → AlignedExactly row F
 aligned-exactly row pos F L a t n b = (
   why d,
-  λ x e. let (n₂, (n₁₃, (n₃, (n₈, _)))) = none-due (Due row F a t asks) (order asks) k d e in ⊎-elim n₁₃ (⊎-elim n₃ (⊎-elim n₂ n₈)) x,
+  λ x e. let (n₂, (n₁₃, (n₃, (n₈, _)))) = none-due (reasons row F a t asks) k d e in ⊎-elim n₁₃ (⊎-elim n₃ (⊎-elim n₂ n₈)) x,
 )
   where
     asks : Call
@@ -95,10 +95,10 @@ aligned-exactly row pos F L a t n b = (
     k : ℕ
     k = callBy row F a t asks .answer .number
 
-    d : FirstDue (Due row F a t asks) (order asks) k
+    d : FirstDue (reasons row F a t asks) k
     d = demand1 row pos F L a t asks .number
 
-    why : FirstDue (Due row F a t asks) (order asks) k → (k ≡ 0 → ⊥)
+    why : FirstDue (reasons row F a t asks) k → (k ≡ 0 → ⊥)
         → NoAlignment b ⊎ ((tooLarge ≤ n + (b - 16)) ⊎ (T (not (F .sound (length a) t)) ⊎ NoPlace row (F .view t) (classOf (n + (b - 16)))))
     why (inl (_, x)) z = inr (inr (inl x))
     why (inr (_, inl (_, x))) z = inl x

@@ -1,6 +1,6 @@
 -- Demand 1: every call ends with the number of the first reason that is due, or 0, and a refusal changes no byte.
 use Rattle.mem.proofs.Prelude.{_≡_, sym, ap, refl, subst, true, Bool, false, inl, inr, some, none, Option, List, [], _∷_, ℕ, _<_, _≤_, _+_, _-_, _%_, arith}
-use Rattle.mem.proofs.Prelude.{_&&_, leb-false, leb-true, eqb-true, eqb-false, T, eqb, leb, ltb, T-not, length, ⊎-elim, true≢false}
+use Rattle.mem.proofs.Prelude.{_&&_, not, leb-false, leb-true, eqb-true, eqb-false, T, eqb, leb, ltb, T-not, length, replicate, ⊎-elim, true≢false}
 use mathlib.Core.Logic.{_↔_}
 use borrow.Author.Tests.{ltb-true, ltb-false}
 use Rattle.mem.specs.Lists.{choose}
@@ -10,14 +10,13 @@ use Rattle.classes.specs.Alignments.{ordinary, alignOf, codeOf, enlarged}
 use Rattle.classes.proofs.Alignments.{enlarged-least}
 use Rattle.model.specs.declared.Slot.{Slot}
 use Rattle.model.specs.declared.Slot.the-variants.{Fresh, Idle, Live}
-use Rattle.model.specs.declared.Refusal.{Refusal}
-use Rattle.model.specs.declared.Refusal.the-variants.{BadArena, Unsound, TooLarge, NoSuchBlock, AlreadyFree, Stale, HeaderDamaged, Overrun, NoRoom}
+use Rattle.model.specs.declared.Refusal.the-variants.{BadArena, TooLarge, AlreadyFree, Stale, NoRoom}
 use Rattle.model.specs.declared.Refusal.the-variants.{TooLong, BadProposal, BadAlignment}
 use Rattle.model.specs.declared.Damage.{Damage}
 use Rattle.model.specs.State.{Pool, Place, isLive, granted, count, align, wellFormed, useBits, startOf, poolOf, start, handle}
 use Rattle.model.specs.Blocks.{damageIn}
 use Rattle.model.specs.Answers.{numberOf, refusal}
-use Rattle.model.specs.Plans.{Plan, Call, setsUp, grants, grantsAligned, releases, resizes, measures, reports, grantsList, refused, plan, NoPlace}
+use Rattle.model.specs.Plans.{Plan, Call, setsUp, grants, grantsAligned, releases, resizes, measures, reports, grantsList, valuesOf, refused, plan, NoPlace}
 use Rattle.model.specs.Proposals.{entries, accepts, plannable}
 use Rattle.model.specs.Plans.{reserveAll, grantAllAt, grantList}
 use Rattle.model.specs.Plans.{reserve, grantAt, grantAs, grantAligned, lookup, newSize, onBlock, byHandle, onHandle, releaseAt, inPlace, resizeInPlace}
@@ -27,8 +26,10 @@ use Rattle.model.specs.Calls.{Form, FormLaws, Stands, Outcome, keeps, applied, 
 use Rattle.model.proofs.Lookup.{fits, lookup-start, lookup-found}
 use Rattle.model.proofs.Formed.{code-kept}
 use Rattle.model.proofs.Lowest.{reserve-none, reserve-some}
-use Rattle.claims.specs.Demand1.{Serves, order, handleIn, FirstDue, refusedValues, StartsAt, LiveAt, headerDue, guardDue, TooLargeFor, Due, Demand1}
-use Rattle.claims.proofs.Serves.{in-place-serves}
+use Rattle.claims.specs.Demand1.{StaysInPlace, Reason, when, FirstDue, RefusedValues, six-zeros, one-zero, StartsAt, LiveAt, headerDue, guardDue, TooLargeAt}
+use Rattle.claims.specs.Demand1.{alreadyFree, stale, headerDamaged, overrun, blockReasons, sizeReasons, NoRoomToMove, listReasons}
+use Rattle.claims.specs.Demand1.{NoAlignment, Meets, unsoundReason, reasons, Demand1}
+use Rattle.claims.proofs.StaysInPlace.{in-place-serves}
 use Rattle.claims.proofs.Codes.{no-code, some-code, enlarged-align, enlarged-code}
 use Rattle.model.proofs.Handles.{by-bits}
 use Rattle.claims.proofs.Cases.{release-parts}
@@ -39,10 +40,6 @@ idle-size : (x : Slot) (n : ℕ) → isLive x ≡ false → enlarged (align x) n
 idle-size Fresh n e = refl
 idle-size (Idle r k d) n e = refl
 idle-size (Live a) n e = absurd (true≢false e)
-
--- what is tested of the block of a handle, before other reasons
-abbrev pub blockFirst : List Refusal → List Refusal
-blockFirst rs = NoSuchBlock ∷ AlreadyFree ∷ Stale ∷ HeaderDamaged ∷ Overrun ∷ rs
 
 module _ (row : ℕ) (pos : 0 < row) (P : Pool) (o : ℕ) where
   -- the look-up finds the one granted slot that starts at an offset
@@ -80,18 +77,18 @@ module _ (row : ℕ) (pos : 0 < row) (P : Pool) (o : ℕ) where
   live-enlarged p n w l = enlarged-align (align (p .state)) n (live-code p w l)
 
   -- and what serves it in place
-  pub live-serves : (p : Place) (n : ℕ) → T (wellFormed P) → LiveAt row P o p → T (inPlace p n) ↔ Serves p n
+  pub live-serves : (p : Place) (n : ℕ) → T (wellFormed P) → LiveAt row P o p → T (inPlace p n) ↔ StaysInPlace p n
   live-serves p n w l = in-place-serves p n (live-code p w l)
 
 -- answer 3 of a resize, by what is found at the start of its handle
 module _ (row : ℕ) (pos : 0 < row) (P : Pool) (h : ℕ) where
-  pub resize-large : (n : ℕ) → T (wellFormed P) → (tooLarge ≤ newSize (lookup row P (startOf h)) n) ↔ TooLargeFor row P (resizes h n)
+  pub resize-large : (n : ℕ) → T (wellFormed P) → (tooLarge ≤ newSize (lookup row P (startOf h)) n) ↔ TooLargeAt row P h n
   resize-large n w = go (lookup row P o) refl
     where
       o : ℕ
       o = startOf h
 
-      go : (r : Option Place) → lookup row P o ≡ r → (tooLarge ≤ newSize r n) ↔ TooLargeFor row P (resizes h n)
+      go : (r : Option Place) → lookup row P o ≡ r → (tooLarge ≤ newSize r n) ↔ TooLargeAt row P h n
       go none e = (inl, ⊎-elim (λ x. x) (λ (p, l, _). absurd (none-starts row pos P o p w e (l .here))))
       go (some p) e = (
         by-state (isLive (p .state)) refl,
@@ -100,18 +97,21 @@ module _ (row : ℕ) (pos : 0 < row) (P : Pool) (h : ℕ) where
             (subst (λ m. tooLarge ≤ m) (sym (live-enlarged row pos P o q n w l)) x)),
       )
         where
-          by-state : (b : Bool) → isLive (p .state) ≡ b → tooLarge ≤ enlarged (align (p .state)) n → TooLargeFor row P (resizes h n)
+          by-state : (b : Bool) → isLive (p .state) ≡ b → tooLarge ≤ enlarged (align (p .state)) n → TooLargeAt row P h n
           by-state true i x =
               let l : LiveAt row P o p = record { here = found-starts row pos P o p e; live = true-T (isLive (p .state)) i } in
               inr (p, l, subst (λ m. tooLarge ≤ m) (live-enlarged row pos P o p n w l) x)
           by-state false i x = inl (subst (λ m. tooLarge ≤ m) (idle-size (p .state) n i) x)
 
+-- the value of a call that gives one, where it is refused
+gives-one : (c : Call) → valuesOf c ≡ 1 → RefusedValues c (0 ∷ [])
+gives-one c v = one-zero {c = c} (λ e. omega (arith, v, ap valuesOf e))
+
 module _ (row : ℕ) (pos : 0 < row) (F : Form) (L : FormLaws row F) (a : List ℕ) (t : F .Room) where
   -- what is claimed of a call, of the reasons that are left to test and a result
-  record Right (c : Call) (rs : List Refusal) (r : Outcome (F .Room)) : Type 0 where
-    number : FirstDue (Due row F a t c) rs (r .answer .number)
-    refused : (r .answer .number ≡ 0 → ⊥)
-        → (r .arena ≡ a) × (r .room ≡ t) × (r .answer .values ≡ refusedValues c) × (r .answer .lent ≡ [])
+  record Right (c : Call) (rs : List Reason) (r : Outcome (F .Room)) : Type 0 where
+    number : FirstDue rs (r .answer .number)
+    refused : (r .answer .number ≡ 0 → ⊥) → (r .arena ≡ a) × (r .room ≡ t) × RefusedValues c (r .answer .values) × (r .answer .lent ≡ [])
 
   abbrev P : Pool
   P = F .view t
@@ -126,132 +126,130 @@ module _ (row : ℕ) (pos : 0 < row) (F : Form) (L : FormLaws row F) (a : List �
     done-right r e = record { number = e; refused = λ n. absurd (n e) }
 
     -- a reason that is not due is passed by
-    later-right : (d : Refusal) (rs : List Refusal) (r : Outcome (F .Room)) → (Due row F a t c d → ⊥) → Right c rs r → Right c (d ∷ rs) r
-    later-right d rs r n s = record { number = inr (n, s .number); refused = s .refused }
+    later-right : {d : Reason} {rs : List Reason} {r : Outcome (F .Room)} → (d .due → ⊥) → Right c rs r → Right c (d ∷ rs) r
+    later-right n s = record { number = inr (n, s .number); refused = s .refused }
 
     -- one that is due is given
-    due-right : (d : Refusal) (rs : List Refusal) {vs : List ℕ} {u : F .Room} → vs ≡ refusedValues c → u ≡ t → Due row F a t c d
-        → Right c (d ∷ rs) (keeps (record { number = numberOf d; values = vs; lent = [] }) a u)
-    due-right d rs v e x = record { number = inl (refl, x); refused = λ n. (refl, e, v, refl) }
+    due-right : {d : Reason} {rs : List Reason} {vs : List ℕ} {u : F .Room} → RefusedValues c vs → u ≡ t → d .due
+        → Right c (d ∷ rs) (keeps (record { number = numberOf (d .refusal); values = vs; lent = [] }) a u)
+    due-right v e x = record { number = inl (refl, x); refused = λ n. (refl, e, v, refl) }
 
   -- a call on tables that must be sound
-  checked-right : (c : Call) (rs : List Refusal) → calls.unsound c ≡ record { number = numberOf Unsound; values = refusedValues c; lent = [] }
-      → (Sound → Right c rs (carriedBy row F a t (plan row P c))) → Right c (Unsound ∷ rs) (checkedBy row F a t c)
+  checked-right : (c : Call) (rs : List Reason) → RefusedValues c (replicate (valuesOf c) 0)
+      → (Sound → Right c rs (carriedBy row F a t (plan row P c))) → Right c (unsoundReason row F a t ∷ rs) (checkedBy row F a t c)
   unfolding checkedBy
-  checked-right c rs u f =
-      choose-case (Right c (Unsound ∷ rs)) (F .sound (length a) t) (carriedBy row F a t (plan row P c)) (keeps (calls.unsound c) a t)
+  checked-right c rs v f =
+      choose-case (Right c (unsoundReason row F a t ∷ rs)) (F .sound (length a) t) (carriedBy row F a t (plan row P c)) (keeps (calls.unsound c) a t)
       (λ e.
       let s : T (F .sound (length a) t) = true-T (F .sound (length a) t) e in
-      later-right c Unsound rs _ (λ d. T-not (F .sound (length a) t) d s) (f (L .only (length a) t s)))
-      (λ e. subst (λ r. Right c (Unsound ∷ rs) (keeps r a t)) (sym u) (due-right c Unsound rs refl refl (rw e tt)))
+      later-right c (λ d. T-not (F .sound (length a) t) d s) (f (L .only (length a) t s)))
+      (λ e. due-right c v refl (rw e tt))
 
-  set-up-right : Right setsUp (BadArena ∷ []) (setUpBy row F a t)
+  set-up-right : Right setsUp (reasons row F a t setsUp) (setUpBy row F a t)
   unfolding setUpBy
   set-up-right =
-      choose-case (Right setsUp (BadArena ∷ [])) (setUpRightBy row F a t) _ (keeps (refusal BadArena) a t)
-      (λ e. later-right setsUp BadArena [] _ (λ d. T-not (setUpRightBy row F a t) d (true-T (setUpRightBy row F a t) e)) (done-right setsUp _ refl))
-      (λ e. due-right setsUp BadArena [] refl refl (rw e tt))
+      choose-case (Right setsUp (reasons row F a t setsUp)) (setUpRightBy row F a t) _ (keeps (refusal BadArena) a t)
+      (λ e. later-right setsUp (λ d. T-not (setUpRightBy row F a t) d (true-T (setUpRightBy row F a t) e)) (done-right setsUp _ refl))
+      (λ e. due-right setsUp (gives-one setsUp refl) refl (rw e tt))
 
   -- a call on sound tables that gives one value
-  module _ (s : Sound) (c : Call) (v : refusedValues c ≡ 0 ∷ []) where
-    -- the handle that it names, and its start
-    abbrev h : ℕ
-    h = handleIn c
+  module _ (s : Sound) (c : Call) (v : valuesOf c ≡ 1) where
+    refused-right : {d : Reason} {rs : List Reason} → d .due → Right c (d ∷ rs) (carriedBy row F a t (refused (d .refusal) P))
+    unfolding carriedBy unless
+    refused-right x = due-right c (gives-one c v) (sym (s .1)) x
 
+    -- the size is tested first
+    small-right : {D : Type 0} {rs : List Reason} (p : Plan) (m : ℕ) → (tooLarge ≤ m) ↔ D → Right c rs (carriedBy row F a t p)
+        → Right c (when TooLarge D ∷ rs) (carriedBy row F a t (choose (leb tooLarge m) (refused TooLarge P) p))
+    small-right {D} {rs} p m due r =
+        choose-case (λ p. Right c (when TooLarge D ∷ rs) (carriedBy row F a t p)) (leb tooLarge m) (refused TooLarge P) p
+        (λ e. refused-right (due .0 (leb-true tooLarge m e)))
+        (λ e. later-right c (λ d. omega (arith, due .1 d, leb-false tooLarge m e)) r)
+
+    -- a grant with the code k
+    granted-right : (k n : ℕ) {D E : Type 0} → (tooLarge ≤ enlarged k n) ↔ D → NoPlace row P (classOf (enlarged k n)) ↔ E
+        → Right c (when TooLarge D ∷ when NoRoom E ∷ []) (carriedBy row F a t (grantAs row P k n))
+    unfolding grantAs carriedBy unless
+    granted-right k n {D} {E} large full = small-right _ (enlarged k n) large (room (reserve row P k n) refl)
+      where
+        room : (r : Option Place) → reserve row P k n ≡ r → Right c (when NoRoom E ∷ []) (carriedBy row F a t (grantAt row P r))
+        room none e = refused-right (full .0 (reserve-none row pos P k n e))
+        room (some q) e = later-right c (λ d. reserve-some row P k n q e (full .1 d)) (done-right c _ refl)
+
+  -- and on a block by its handle
+  module _ (s : Sound) (c : Call) (v : valuesOf c ≡ 1) (h : ℕ) where
     abbrev o : ℕ
     o = startOf h
 
-    refused-right : (d : Refusal) (rs : List Refusal) → Due row F a t c d → Right c (d ∷ rs) (carriedBy row F a t (refused d P))
-    unfolding carriedBy unless
-    refused-right d rs x = due-right c d rs (sym v) (sym (s .1)) x
-
-    -- the size is tested first
-    small-right : (rs : List Refusal) (p : Plan) (m : ℕ) → (tooLarge ≤ m) ↔ Due row F a t c TooLarge → Right c rs (carriedBy row F a t p)
-        → Right c (TooLarge ∷ rs) (carriedBy row F a t (choose (leb tooLarge m) (refused TooLarge P) p))
-    small-right rs p m due r =
-        choose-case (λ p. Right c (TooLarge ∷ rs) (carriedBy row F a t p)) (leb tooLarge m) (refused TooLarge P) p
-        (λ e. refused-right TooLarge rs (due .0 (leb-true tooLarge m e)))
-        (λ e. later-right c TooLarge rs _ (λ d. omega (arith, due .1 d, leb-false tooLarge m e)) r)
-
-    -- a grant with the code k
-    granted-right : (k n : ℕ) → (tooLarge ≤ enlarged k n) ↔ Due row F a t c TooLarge → NoPlace row P (classOf (enlarged k n)) ↔ Due row F a t c NoRoom
-        → Right c (TooLarge ∷ NoRoom ∷ []) (carriedBy row F a t (grantAs row P k n))
-    unfolding grantAs carriedBy unless
-    granted-right k n large full = small-right (NoRoom ∷ []) _ (enlarged k n) large (room (reserve row P k n) refl)
-      where
-        room : (r : Option Place) → reserve row P k n ≡ r → Right c (NoRoom ∷ []) (carriedBy row F a t (grantAt row P r))
-        room none e = refused-right NoRoom [] (full .0 (reserve-none row pos P k n e))
-        room (some q) e = later-right c NoRoom [] _ (λ d. reserve-some row P k n q e (full .1 d)) (done-right c _ refl)
-
-    -- then a live block's header and guard
-    intact-right : (rs : List Refusal) (p : Place) (f : Plan) → f .checks ≡ some p → LiveAt row P o p
-        → Right c rs (applied F a f) → Right c (HeaderDamaged ∷ Overrun ∷ rs) (carriedBy row F a t f)
+    -- a live block's header and guard
+    intact-right : (rs : List Reason) (p : Place) (f : Plan) → f .checks ≡ some p → LiveAt row P o p
+        → Right c rs (applied F a f) → Right c (headerDamaged row a P h ∷ overrun row a P h ∷ rs) (carriedBy row F a t f)
     unfolding carriedBy unless damageIn
     intact-right rs p f k l r =
         rw k
-        (choose-case (M (HeaderDamaged ∷ Overrun ∷ rs)) (headerDue row a p) _ _
-        (λ e. later-right c HeaderDamaged (Overrun ∷ rs) _ (λ (q, m, d). T-not (headerDue row a q) d (alike (headerDue row a) q m e))
-        (choose-case (M (Overrun ∷ rs)) (guardDue row a p) _ _
-        (λ g. later-right c Overrun rs _ (λ (q, m, _, d). T-not (guardDue row a q) d (alike (guardDue row a) q m g)) r)
-        (λ g. due-right c Overrun rs (sym v) refl (p, l, true-T (headerDue row a p) e, rw g tt))))
-        (λ e. due-right c HeaderDamaged (Overrun ∷ rs) (sym v) refl (p, l, rw e tt)))
+        (choose-case (M (headerDamaged row a P h ∷ overrun row a P h ∷ rs)) (headerDue row a p) _ _
+        (λ e. later-right c (λ (q, m, d). T-not (headerDue row a q) d (alike (headerDue row a) q m e))
+        (choose-case (M (overrun row a P h ∷ rs)) (guardDue row a p) _ _
+        (λ g. later-right c (λ (q, m, _, d). T-not (guardDue row a q) d (alike (guardDue row a) q m g)) r)
+        (λ g. due-right c (gives-one c v) refl (p, l, true-T (headerDue row a p) e, rw g tt))))
+        (λ e. due-right c (gives-one c v) refl (p, l, rw e tt)))
       where
-        M : List Refusal → Damage → Type 0
+        M : List Reason → Damage → Type 0
         M rs d = Right c rs (unless d (applied F a f) (λ r. keeps (refusal r) a t))
 
         alike : (M : Place → Bool) (q : Place) → LiveAt row P o q → M p ≡ true → T (M q)
         alike M q m e = starts-alike row pos P o M p q (s .0 .formed) (l .here) (m .here) (true-T (M p) e)
 
     -- and before them the bits of the handle
-    present-right : (rs : List Refusal) (p : Place) (f : Place → Plan) → f p .checks ≡ some p → LiveAt row P o p
-        → Right c rs (applied F a (f p)) → Right c (Stale ∷ HeaderDamaged ∷ Overrun ∷ rs) (carriedBy row F a t (byHandle P h f p))
+    present-right : (rs : List Reason) (p : Place) (f : Place → Plan) → f p .checks ≡ some p → LiveAt row P o p → Right c rs (applied F a (f p))
+        → Right c (stale row a P h ∷ headerDamaged row a P h ∷ overrun row a P h ∷ rs) (carriedBy row F a t (byHandle P h f p))
     present-right rs p f k l r =
         let bits : (handle row p ≡ h) ↔ (h % 16 ≡ useBits (count (p .state))) = by-bits row p h (l .here .starts) in
-        choose-case (λ z. Right c (Stale ∷ HeaderDamaged ∷ Overrun ∷ rs) (carriedBy row F a t z)) (eqb (h % 16) (useBits (count (p .state)))) (f p)
-        (refused Stale P)
-        (λ e. later-right c Stale (HeaderDamaged ∷ Overrun ∷ rs) _
+        choose-case (λ z. Right c (stale row a P h ∷ headerDamaged row a P h ∷ overrun row a P h ∷ rs) (carriedBy row F a t z))
+        (eqb (h % 16) (useBits (count (p .state)))) (f p) (refused Stale P)
+        (λ e. later-right c
         (λ (q, m, d). d (subst (λ x. handle row x ≡ h) (starts-same row pos P o p q (s .0 .formed) (l .here) (m .here)) (bits .1 (eqb-true _ _ e))))
         (intact-right rs p (f p) k l r))
-        (λ e. refused-right Stale (HeaderDamaged ∷ Overrun ∷ rs) (p, l, λ i. eqb-false _ _ e (bits .0 i)))
+        (λ e. refused-right s c v (p, l, λ i. eqb-false _ _ e (bits .0 i)))
 
     -- what is done with the block of a handle
-    block-right : (rs : List Refusal) (f : Place → Plan)
+    block-right : (rs : List Reason) (f : Place → Plan)
         → ((p : Place) → (f p .checks ≡ some p) × (LiveAt row P o p → Right c rs (applied F a (f p))))
-        → Right c (blockFirst rs) (carriedBy row F a t (onHandle row P h f))
+        → Right c (blockReasons row a P h rs) (carriedBy row F a t (onHandle row P h f))
     unfolding onHandle
     block-right rs f k = found (lookup row P o) refl
       where
-        found : (r : Option Place) → lookup row P o ≡ r → Right c (blockFirst rs) (carriedBy row F a t (onBlock P (byHandle P h f) r))
-        found none e = refused-right NoSuchBlock _ (λ p h. none-starts row pos P o p (s .0 .formed) e h)
+        found : (r : Option Place) → lookup row P o ≡ r → Right c (blockReasons row a P h rs) (carriedBy row F a t (onBlock P (byHandle P h f) r))
+        found none e = refused-right s c v (λ p h. none-starts row pos P o p (s .0 .formed) e h)
         found (some p) e =
             let i : StartsAt row P o p = found-starts row pos P o p e in
-            later-right c NoSuchBlock (AlreadyFree ∷ Stale ∷ HeaderDamaged ∷ Overrun ∷ rs) _ (λ d. d p i)
-            (choose-case (λ z. Right c (AlreadyFree ∷ Stale ∷ HeaderDamaged ∷ Overrun ∷ rs) (carriedBy row F a t z)) (isLive (p .state)) (byHandle P h f p)
-            (refused AlreadyFree P)
+            later-right c (λ d. d p i)
+            (choose-case (λ z. Right c (alreadyFree row a P h ∷ stale row a P h ∷ headerDamaged row a P h ∷ overrun row a P h ∷ rs) (carriedBy row F a t z))
+            (isLive (p .state)) (byHandle P h f p) (refused AlreadyFree P)
             (λ e.
             let l : T (isLive (p .state)) = true-T (isLive (p .state)) e in
             let m : LiveAt row P o p = record { here = i; live = l } in
-            later-right c AlreadyFree (Stale ∷ HeaderDamaged ∷ Overrun ∷ rs) _
-            (λ (q, g, d). T-not (isLive (q .state)) d (starts-alike row pos P o (λ z. isLive (z .state)) p q (s .0 .formed) i g l))
+            later-right c (λ (q, g, d). T-not (isLive (q .state)) d (starts-alike row pos P o (λ z. isLive (z .state)) p q (s .0 .formed) i g l))
             (present-right rs p f (k p .0) m (k p .1 m)))
-            (λ e. refused-right AlreadyFree (Stale ∷ HeaderDamaged ∷ Overrun ∷ rs) (p, i, rw e tt)))
+            (λ e. refused-right s c v (p, i, rw e tt)))
 
   module _ (s : Sound) where
-    grants-right : (n : ℕ) → Right (grants n) (TooLarge ∷ NoRoom ∷ []) (carriedBy row F a t (plan row P (grants n)))
+    grants-right : (n : ℕ) → Right (grants n) (sizeReasons row P n) (carriedBy row F a t (plan row P (grants n)))
     unfolding plan
     grants-right n = granted-right s (grants n) refl ordinary n ((λ h. h), λ h. h) ((λ h. h), λ h. h)
 
     -- an aligned grant is one of the alignment's code, if it has one
-    aligned-right : (n b : ℕ) → (let c = grantsAligned n b in Right c (BadAlignment ∷ TooLarge ∷ NoRoom ∷ []) (carriedBy row F a t (plan row P c)))
+    aligned-right : (n b : ℕ) → Right (grantsAligned n b) (when BadAlignment (NoAlignment b) ∷ sizeReasons row P (n + (b - 16)))
+        (carriedBy row F a t (plan row P (grantsAligned n b)))
     unfolding plan grantAligned
     aligned-right n b =
-        choose-case (λ p. Right c (BadAlignment ∷ TooLarge ∷ NoRoom ∷ []) (carriedBy row F a t p)) (ltb 0 (codeOf b)) (grantAs row P (codeOf b) n)
-        (refused BadAlignment P)
+        choose-case (λ p. Right c (when BadAlignment (NoAlignment b) ∷ sizeReasons row P (n + (b - 16))) (carriedBy row F a t p)) (ltb 0 (codeOf b))
+        (grantAs row P (codeOf b) n) (refused BadAlignment P)
         (λ e.
         let h : 0 < codeOf b = ltb-true 0 (codeOf b) e in
-        later-right c BadAlignment (TooLarge ∷ NoRoom ∷ []) _ (some-code b h)
+        later-right c (some-code b h)
         (granted-right s c refl (codeOf b) n (sized h (λ m. tooLarge ≤ m)) (sized h (λ m. NoPlace row P (classOf m)))))
-        (λ e. refused-right s c refl BadAlignment (TooLarge ∷ NoRoom ∷ []) (no-code b (omega (arith, ltb-false 0 (codeOf b) e))))
+        (λ e. refused-right s c refl (no-code b (omega (arith, ltb-false 0 (codeOf b) e))))
       where
         c : Call
         c = grantsAligned n b
@@ -260,26 +258,30 @@ module _ (row : ℕ) (pos : 0 < row) (F : Form) (L : FormLaws row F) (a : List �
         sized : 0 < codeOf b → (M : ℕ → Type 0) → M (enlarged (codeOf b) n) ↔ M (n + (b - 16))
         sized h M = (subst M (enlarged-code b n h), subst M (sym (enlarged-code b n h)))
 
-    resizes-right : (h n : ℕ) → Right (resizes h n) (TooLarge ∷ blockFirst (NoRoom ∷ [])) (carriedBy row F a t (plan row P (resizes h n)))
+    resizes-right : (h n : ℕ) → Right (resizes h n) (when TooLarge (TooLargeAt row P h n) ∷ blockReasons row a P h (when NoRoom (NoRoomToMove row P h n) ∷ []))
+        (carriedBy row F a t (plan row P (resizes h n)))
     unfolding plan
     resizes-right h n =
-        small-right s c refl (blockFirst (NoRoom ∷ [])) _ (newSize (lookup row P o) n) (resize-large row pos P h n (s .0 .formed))
-        (block-right s c refl (NoRoom ∷ []) (resizeAt row P n)
+        small-right s c refl _ (newSize (lookup row P o) n) (resize-large row pos P h n (s .0 .formed))
+        (block-right s c refl h no-room (resizeAt row P n)
         (λ p. choose-case (M p) (inPlace p n) (resizeInPlace row p n) (resizeMove row P p n)
-        (λ e. (refl, λ l. later-right c NoRoom [] _ (λ (q, m, d, _). d (fitting p q e l m)) (done-right c _ refl)))
+        (λ e. (refl, λ l. later-right c (λ (q, m, d, _). d (fitting p q e l m)) (done-right c _ refl)))
         (λ e. room p e (reserve row P (align (p .state)) n) refl)))
       where
         c : Call
         c = resizes h n
 
+        no-room : List Reason
+        no-room = when NoRoom (NoRoomToMove row P h n) ∷ []
+
         o : ℕ
         o = startOf h
 
         M : Place → Plan → Type 0
-        M p z = (z .checks ≡ some p) × (LiveAt row P o p → Right c (NoRoom ∷ []) (applied F a z))
+        M p z = (z .checks ≡ some p) × (LiveAt row P o p → Right c no-room (applied F a z))
 
         -- the block at the start is but one
-        fitting : (p q : Place) → inPlace p n ≡ true → LiveAt row P o p → LiveAt row P o q → Serves q n
+        fitting : (p q : Place) → inPlace p n ≡ true → LiveAt row P o p → LiveAt row P o q → StaysInPlace q n
         fitting p q e l m =
             live-serves row pos P o q n (s .0 .formed) m .0
             (starts-alike row pos P o (λ z. inPlace z n) p q (s .0 .formed) (l .here) (m .here) (true-T (inPlace p n) e))
@@ -291,7 +293,7 @@ module _ (row : ℕ) (pos : 0 < row) (F : Form) (L : FormLaws row F) (a : List �
         room : (p : Place) → inPlace p n ≡ false → (r : Option Place) → reserve row P (align (p .state)) n ≡ r → M p (moveTo row P p n r)
         room p e none f = (
           refl,
-          λ l. due-right c NoRoom [] refl (sym (s .1)) (
+          λ l. due-right c (gives-one c refl) (sym (s .1)) (
             p,
             l,
             λ v. subst T e (live-serves row pos P o p n (s .0 .formed) l .1 v),
@@ -300,7 +302,7 @@ module _ (row : ℕ) (pos : 0 < row) (F : Form) (L : FormLaws row F) (a : List �
         )
         room p e (some q) f = (
           refl,
-          λ l. later-right c NoRoom [] _
+          λ l. later-right c
               (λ (x, m, _, d). reserve-some row P (align (p .state)) n q f
               (subst (λ (x : Place). Full (enlarged (align (x .state)) n))
               (starts-same row pos P o x p (s .0 .formed) (m .here) (l .here))
@@ -309,43 +311,44 @@ module _ (row : ℕ) (pos : 0 < row) (F : Form) (L : FormLaws row F) (a : List �
         )
 
     lists-right : (total cap places : ℕ) (ns : List ℕ) → (let c = grantsList total cap places ns in
-        Right c (TooLong ∷ BadProposal ∷ NoRoom ∷ []) (carriedBy row F a t (plan row P c)))
+        Right c (listReasons row P total cap places ns) (carriedBy row F a t (plan row P c)))
     unfolding plan grantList carriedBy unless
     lists-right total cap places ns =
-        choose-case (M (TooLong ∷ BadProposal ∷ NoRoom ∷ [])) (plannable total cap && leb entries places) _ (refused TooLong P)
-        (λ e. later-right c TooLong (BadProposal ∷ NoRoom ∷ []) _ (short-enough total cap places e)
-        (choose-case (M (BadProposal ∷ NoRoom ∷ [])) (accepts total cap ns) (grantAllAt row P (reserveAll row P ns)) (refused BadProposal P)
-        (λ f. later-right c BadProposal (NoRoom ∷ []) _ (λ d. T-not (accepts total cap ns) d (true-T (accepts total cap ns) f))
+        choose-case (M (listReasons row P total cap places ns)) (plannable total cap && leb entries places) _ (refused TooLong P)
+        (λ e. later-right c (short-enough total cap places e)
+        (choose-case (M (when BadProposal (T (not (accepts total cap ns))) ∷ when NoRoom (Meets row P ns) ∷ [])) (accepts total cap ns) (grantAllAt row P (reserveAll row P ns)) (refused BadProposal P)
+        (λ f. later-right c (λ d. T-not (accepts total cap ns) d (true-T (accepts total cap ns) f))
         (room (reserveAll row P ns) refl))
-        (λ f. refused-right s c refl BadProposal (NoRoom ∷ []) (rw f tt))))
-        (λ e. refused-right s c refl TooLong (BadProposal ∷ NoRoom ∷ []) (too-long total cap places e))
+        (λ f. refused-right s c refl (rw f tt))))
+        (λ e. refused-right s c refl (too-long total cap places e))
       where
         c : Call
         c = grantsList total cap places ns
 
-        M : List Refusal → Plan → Type 0
+        M : List Reason → Plan → Type 0
         M rs p = Right c rs (carriedBy row F a t p)
 
-        room : (o : Option (List Place)) → reserveAll row P ns ≡ o → M (NoRoom ∷ []) (grantAllAt row P o)
-        room none e = refused-right s c refl NoRoom [] (meets row pos P ns e)
-        room (some qs) e = later-right c NoRoom [] _ (meets-none row P ns qs e) (done-right c _ refl)
+        room : (o : Option (List Place)) → reserveAll row P ns ≡ o → M (when NoRoom (Meets row P ns) ∷ []) (grantAllAt row P o)
+        room none e = refused-right s c refl (meets row pos P ns e)
+        room (some qs) e = later-right c (meets-none row P ns qs e) (done-right c _ refl)
 
-  call-right : (c : Call) → Right c (order c) (callBy row F a t c)
-  unfolding callBy plan carriedBy unless
+  call-right : (c : Call) → Right c (reasons row F a t c) (callBy row F a t c)
+  unfolding callBy choose plan carriedBy unless
   call-right setsUp = set-up-right
-  call-right (grants n) = checked-right (grants n) _ refl (λ s. grants-right s n)
-  call-right (grantsAligned n b) = checked-right (grantsAligned n b) _ refl (λ s. aligned-right s n b)
+  call-right (grants n) = checked-right (grants n) _ (gives-one _ refl) (λ s. grants-right s n)
+  call-right (grantsAligned n b) = checked-right (grantsAligned n b) _ (gives-one _ refl) (λ s. aligned-right s n b)
   call-right (releases h) =
-      checked-right (releases h) _ refl
-      (λ s. block-right s (releases h) refl [] (releaseAt row)
+      checked-right (releases h) _ (gives-one _ refl)
+      (λ s. block-right s (releases h) refl h [] (releaseAt row)
       (λ p. (release-parts row p .0, λ l. done-right (releases h) _ (ap (λ r. r .number) (release-parts row p .1)))))
-  call-right (resizes h n) = checked-right (resizes h n) _ refl (λ s. resizes-right s h n)
+  call-right (resizes h n) = checked-right (resizes h n) _ (gives-one _ refl) (λ s. resizes-right s h n)
   call-right (measures h) =
-      checked-right (measures h) _ refl
-      (λ s. block-right s (measures h) refl [] (measureAt row P) (λ p. (refl, λ l. done-right (measures h) _ refl)))
-  call-right reports = checked-right reports [] refl (λ s. done-right reports _ refl)
-  call-right (grantsList total cap places ns) = checked-right (grantsList total cap places ns) _ refl (λ s. lists-right s total cap places ns)
+      checked-right (measures h) _ (gives-one _ refl)
+      (λ s. block-right s (measures h) refl h [] (measureAt row P) (λ p. (refl, λ l. done-right (measures h) _ refl)))
+  call-right reports = checked-right reports [] six-zeros (λ s. done-right reports _ refl)
+  call-right (grantsList total cap places ns) = checked-right (grantsList total cap places ns) _ (gives-one _ refl) (λ s. lists-right s total cap places ns)
 
 pub demand1 : (row : ℕ) → 0 < row → (F : Form) → FormLaws row F → Demand1 row F
 demand1 row pos F L a t c =
-    let r : Right row pos F L a t c (order c) (callBy row F a t c) = call-right row pos F L a t c in record { number = r .number; refused = r .refused }
+    let r : Right row pos F L a t c (reasons row F a t c) (callBy row F a t c) = call-right row pos F L a t c in
+    record { number = r .number; refused = r .refused }

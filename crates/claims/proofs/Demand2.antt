@@ -12,8 +12,6 @@ use Rattle.classes.specs.Classes.{classOf, rowsOf, tooLarge}
 use Rattle.classes.specs.Alignments.{ordinary, enlarged, Askable}
 use Rattle.model.specs.declared.Slot.{Slot}
 use Rattle.model.specs.declared.Slot.the-variants.{Fresh, Idle, Live}
-use Rattle.model.specs.declared.Refusal.{Refusal}
-use Rattle.model.specs.declared.Refusal.the-variants.{Unsound, AlreadyFree, Stale, HeaderDamaged, Overrun}
 use Rattle.model.specs.declared.Damage.{Damage}
 use Rattle.model.specs.declared.Damage.the-variants.{Intact, Damaged}
 use Rattle.model.specs.State.{Pool, Place, group, isLive, isReady, count, disp, size, wellFormed, useBits, startOf, poolOf, slotNumber, rows}
@@ -27,17 +25,17 @@ use Rattle.model.specs.Calls.{Form, FormLaws, Outcome, Stands, applied, keeps, 
 use Rattle.model.proofs.Fresh.{whole-units, set-up-done, set-up-sound}
 use Rattle.model.proofs.Forms.{step, call-step, Standing, step-stands}
 use Rattle.model.proofs.Calls.{Asks, call-sound}
-use Rattle.model.proofs.Lookup.{All, Fits, fits, disp-inside, owned-inside, Owns, owned-unique}
+use Rattle.model.proofs.Lookup.{Fits, fits, disp-inside, owned-inside, Owns, owned-unique}
 use Rattle.model.proofs.Reserve.{Served, served, Granted, reserve-formed}
 use Rattle.model.proofs.Moves.{live-granted}
 use Rattle.model.proofs.Lowest.{site-lowest, first-lowest}
-use Rattle.claims.specs.Demand1.{order, handleIn, FirstDue, StartsAt, LiveAt, headerDue, guardDue, Due}
+use Rattle.claims.specs.Demand1.{Reason, FirstDue, StartsAt, LiveAt, headerDue, guardDue, blockReasons, unsoundReason, reasons}
 use Rattle.claims.specs.Demand2 as demand2
 use Rattle.claims.specs.Demand2.{ReleasesExactly, MeasuresExactly, GrantsExactly, TurnsReady, Refilled, LaidOut, GrantedBy, GrantsAsSaid, InBlock}
 use Rattle.claims.specs.Demand2.{NeverShared, LeavesSound}
 use Rattle.model.proofs.Handles.{stepped-bits, start-cleared, by-bits}
 use Rattle.claims.proofs.Cases.{refuses, by-call, on-grant, reserve-live}
-use Rattle.claims.proofs.Demand1.{blockFirst, starts-found, none-starts, starts-same, starts-alike, found-starts, demand1}
+use Rattle.claims.proofs.Demand1.{starts-found, none-starts, starts-same, starts-alike, found-starts, demand1}
 use Rattle.claims.proofs.Frames.{laid-out, laid-header, laid-guard}
 
 -- what is not refuted passes the test
@@ -49,17 +47,21 @@ unrefuted false f = absurd (f tt)
 same-number : (m n : ℕ) → ((m ≡ n → ⊥) → ⊥) → m ≡ n
 same-number m n f = eqb→eq m n (unrefuted (eqb m n) (λ d. f (λ e. T-not (eqb m n) d (eq→eqb m n e))))
 
--- a call's number is 0 exactly if no reason that it tests is due
-module _ (D : Refusal → Type 0) where
-  pub none-due : (rs : List Refusal) (k : ℕ) → FirstDue D rs k → k ≡ 0 → All (λ r. D r → ⊥) rs
-  none-due [] k d z = tt
-  none-due (r ∷ rs) k (inl (e, _)) z = absurd (refuses r (sym e ∙ z))
-  none-due (r ∷ rs) k (inr (n, d)) z = (n, none-due rs k d z)
+-- no reason of a list is due
+abbrev pub NoneDue : List Reason → Type 0
+NoneDue [] = Unit {0}
+NoneDue (r ∷ rs) = (r .due → ⊥) × NoneDue rs
 
-  due-none : (rs : List Refusal) (k : ℕ) → FirstDue D rs k → All (λ r. D r → ⊥) rs → k ≡ 0
-  due-none [] k d n = d
-  due-none (r ∷ rs) k (inl (_, x)) n = absurd (n .0 x)
-  due-none (r ∷ rs) k (inr (_, d)) n = due-none rs k d (n .1)
+-- a call's number is 0 exactly if no reason that it tests is due
+pub none-due : (rs : List Reason) (k : ℕ) → FirstDue rs k → k ≡ 0 → NoneDue rs
+none-due [] k d z = tt
+none-due (r ∷ rs) k (inl (e, _)) z = absurd (refuses (r .refusal) (sym e ∙ z))
+none-due (r ∷ rs) k (inr (n, d)) z = (n, none-due rs k d z)
+
+due-none : (rs : List Reason) (k : ℕ) → FirstDue rs k → NoneDue rs → k ≡ 0
+due-none [] k d n = d
+due-none (r ∷ rs) k (inl (_, x)) n = absurd (n .0 x)
+due-none (r ∷ rs) k (inr (_, d)) n = due-none rs k d (n .1)
 
 -- ---- accepted calls
 
@@ -72,13 +74,13 @@ module _ (row : ℕ) (pos : 0 < row) (F : Form) (L : FormLaws row F) (a : List �
   pub accepted : (c : Call) → Asks c → callBy row F a t c .answer .number ≡ 0 → Accepted c
   unfolding carriedBy unless
   accepted c k z =
-      let s : T (F .sound (length a) t) = asked-sound c k (none-due (Due row F a t c) (order c) _ (demand1 row pos F L a t c .number) z) in
+      let s : T (F .sound (length a) t) = asked-sound c k (none-due (reasons row F a t c) _ (demand1 row pos F L a t c .number) z) in
       record { sound-tables = s; left = intact (damaged row a (p .checks)) (call-sound row F a t (T-true (F .sound (length a) t) s) c k) }
     where
       p : Plan
       p = plan row (F .view t) c
 
-      asked-sound : (c : Call) → Asks c → All (λ r. Due row F a t c r → ⊥) (order c) → T (F .sound (length a) t)
+      asked-sound : (c : Call) → Asks c → NoneDue (reasons row F a t c) → T (F .sound (length a) t)
       asked-sound setsUp k n = absurd k
       asked-sound (grants m) k n = unrefuted (F .sound (length a) t) (n .0)
       asked-sound (grantsAligned m b) k n = unrefuted (F .sound (length a) t) (n .0)
@@ -93,7 +95,7 @@ module _ (row : ℕ) (pos : 0 < row) (F : Form) (L : FormLaws row F) (a : List �
       intact (Damaged r) e = absurd (refuses r (ap (λ r. r .answer .number) (sym e) ∙ z))
 
   pub set-up-accepted : callBy row F a t setsUp .answer .number ≡ 0 → T (setUpRightBy row F a t)
-  set-up-accepted z = unrefuted (setUpRightBy row F a t) (none-due (Due row F a t setsUp) (order setsUp) _ (demand1 row pos F L a t setsUp .number) z .0)
+  set-up-accepted z = unrefuted (setUpRightBy row F a t) (none-due (reasons row F a t setsUp) _ (demand1 row pos F L a t setsUp .number) z .0)
 
   -- its tables are sound for the arena that it was given, and it leaves one of the same length
   pub record Leaves (r : Outcome (F .Room)) : Type 0 where
@@ -133,50 +135,55 @@ module _ (row : ℕ) (pos : 0 < row) (F : Form) (L : FormLaws row F) (a : List �
   w = L .only (length a) t s .0 .formed
 
   -- where no reason of the block of a handle is due, it is live and intact, and the handle is its present one
-  pub found-intact : (c : Call) (rs : List Refusal) → All (λ r. Due row F a t c r → ⊥) (blockFirst rs) → (p : Place) × demand2.Intact row a P (handleIn c) p
-  found-intact c rs n = whole (lookup row P o) refl n
+  pub found-intact : (h : ℕ) (rs : List Reason) → NoneDue (blockReasons row a P h rs) → (p : Place) × demand2.Intact row a P h p
+  found-intact h rs n = whole (lookup row P o) refl n
     where
       o : ℕ
-      o = startOf (handleIn c)
+      o = startOf h
 
-      whole : (r : Option Place) → lookup row P o ≡ r → All (λ r. Due row F a t c r → ⊥) (blockFirst rs) → (p : Place) × demand2.Intact row a P (handleIn c) p
-      whole none e (n₄, _) = absurd (n₄ (λ p h. none-starts row pos P o p w e h))
+      whole : (r : Option Place) → lookup row P o ≡ r → NoneDue (blockReasons row a P h rs) → (p : Place) × demand2.Intact row a P h p
+      whole none e (n₄, _) = absurd (n₄ (λ p i. none-starts row pos P o p w e i))
       whole (some p) e (_, (n₅, (n₁₀, (n₆, (n₇, _))))) =
-          let h : StartsAt row P o p = found-starts row pos P o p e in
-          let l : LiveAt row P o p = record { here = h; live = unrefuted (isLive (p .state)) (λ d. n₅ (p, h, d)) } in
+          let i : StartsAt row P o p = found-starts row pos P o p e in
+          let l : LiveAt row P o p = record { here = i; live = unrefuted (isLive (p .state)) (λ d. n₅ (p, i, d)) } in
           let m : T (headerDue row a p) = unrefuted (headerDue row a p) (λ d. n₆ (p, l, d)) in (
             p,
             record {
               live = l;
-              present = same-number (handle row p) (handleIn c) (λ d. n₁₀ (p, l, d));
+              present = same-number (handle row p) h (λ d. n₁₀ (p, l, d));
               header = m;
               guard = unrefuted (guardDue row a p) (λ d. n₇ (p, l, m, d));
             },
           )
 
   -- the number of a call on the block of a handle is 0 exactly if it is the present one of a live, intact block
-  exactly : (c : Call) (k : ℕ) → FirstDue (Due row F a t c) (Unsound ∷ blockFirst []) k → (k ≡ 0) ↔ ((p : Place) × demand2.Intact row a P (handleIn c) p)
-  exactly c k d = (
-    λ z. found-intact c [] (none-due (Due row F a t c) (Unsound ∷ blockFirst []) k d z .1),
-    λ (p, i). due-none (Due row F a t c) (Unsound ∷ blockFirst []) k d (fine p i),
-  )
+  exactly : (h k : ℕ) → FirstDue (unsoundReason row F a t ∷ blockReasons row a P h []) k → (k ≡ 0) ↔ ((p : Place) × demand2.Intact row a P h p)
+  exactly h k d = (λ z. found-intact h [] (none-due all k d z .1), λ (p, i). due-none all k d (fine p i))
     where
       o : ℕ
-      o = startOf (handleIn c)
+      o = startOf h
 
-      Fine : Type 0
-      Fine = All (λ r. Due row F a t c r → ⊥) (Unsound ∷ blockFirst [])
+      all : List Reason
+      all = unsoundReason row F a t ∷ blockReasons row a P h []
 
-      fine : (p : Place) → demand2.Intact row a P (handleIn c) p → Fine
+      fine : (p : Place) → demand2.Intact row a P h p → NoneDue all
       fine p i =
-          let alike : (M : Place → Bool) (q : Place) → StartsAt row P o q → T (M p) → T (M q) = λ M q h. starts-alike row pos P o M p q w (i .live .here) h in
-          let n₂ : Due row F a t c Unsound → ⊥ = λ d. T-not (F .sound (length a) t) d s in
-          let n₅ : Due row F a t c AlreadyFree → ⊥ = λ (q, h, d). T-not (isLive (q .state)) d (alike (λ z. isLive (z .state)) q h (i .live .live)) in
-          let n₁₀ : Due row F a t c Stale → ⊥ =
-          λ (q, l, d). d (subst (λ z. handle row z ≡ handleIn c) (starts-same row pos P o p q w (i .live .here) (l .here)) (i .present)) in
-          let n₆ : Due row F a t c HeaderDamaged → ⊥ = λ (q, l, d). T-not (headerDue row a q) d (alike (headerDue row a) q (l .here) (i .header)) in
-          let n₇ : Due row F a t c Overrun → ⊥ = λ (q, l, _, d). T-not (guardDue row a q) d (alike (guardDue row a) q (l .here) (i .guard)) in
-          (n₂, (λ d. d p (i .live .here), (n₅, (n₁₀, (n₆, (n₇, tt))))))
+          let alike : (M : Place → Bool) (q : Place) → StartsAt row P o q → T (M p) → T (M q) = λ M q g. starts-alike row pos P o M p q w (i .live .here) g in (
+            λ d. T-not (F .sound (length a) t) d s,
+            (
+              λ d. d p (i .live .here),
+              (
+                λ (q, g, d). T-not (isLive (q .state)) d (alike (λ z. isLive (z .state)) q g (i .live .live)),
+                (
+                  λ (q, l, d). d (subst (λ z. handle row z ≡ h) (starts-same row pos P o p q w (i .live .here) (l .here)) (i .present)),
+                  (
+                    λ (q, l, d). T-not (headerDue row a q) d (alike (headerDue row a) q (l .here) (i .header)),
+                    (λ (q, l, _, d). T-not (guardDue row a q) d (alike (guardDue row a) q (l .here) (i .guard)), tt),
+                  ),
+                ),
+              ),
+            ),
+          )
 
   -- the size of an intact block
   measured : (h : ℕ) (p : Place) → demand2.Intact row a P h p → callBy row F a t (measures h) .answer .values ≡ size (p .state) ∷ []
@@ -192,27 +199,27 @@ module _ (row : ℕ) (pos : 0 < row) (F : Form) (L : FormLaws row F) (a : List �
       )
 
 pub releases-exactly : (row : ℕ) → 0 < row → (F : Form) → FormLaws row F → ReleasesExactly row F
-releases-exactly row pos F L a t h s = exactly row pos F L a t s (releases h) _ (demand1 row pos F L a t (releases h) .number)
+releases-exactly row pos F L a t h s = exactly row pos F L a t s h _ (demand1 row pos F L a t (releases h) .number)
 
 pub measures-exactly : (row : ℕ) → 0 < row → (F : Form) → FormLaws row F → MeasuresExactly row F
 measures-exactly row pos F L a t h s =
-    (exactly row pos F L a t s (measures h) _ (demand1 row pos F L a t (measures h) .number), λ p i. measured row pos F L a t s h p i)
+    (exactly row pos F L a t s h _ (demand1 row pos F L a t (measures h) .number), λ p i. measured row pos F L a t s h p i)
 
 -- ---- what a grant refuses, and what it gives
 
 pub grants-exactly : (row : ℕ) → 0 < row → (F : Form) → FormLaws row F → GrantsExactly row F
 grants-exactly row pos F L a t n = (
   why d,
-  λ x e. let (n₂, (n₃, (n₈, _))) = none-due (Due row F a t (grants n)) (order (grants n)) k d e in ⊎-elim n₃ (⊎-elim n₂ n₈) x,
+  λ x e. let (n₂, (n₃, (n₈, _))) = none-due (reasons row F a t (grants n)) k d e in ⊎-elim n₃ (⊎-elim n₂ n₈) x,
 )
   where
     k : ℕ
     k = callBy row F a t (grants n) .answer .number
 
-    d : FirstDue (Due row F a t (grants n)) (order (grants n)) k
+    d : FirstDue (reasons row F a t (grants n)) k
     d = demand1 row pos F L a t (grants n) .number
 
-    why : FirstDue (Due row F a t (grants n)) (order (grants n)) k → (k ≡ 0 → ⊥)
+    why : FirstDue (reasons row F a t (grants n)) k → (k ≡ 0 → ⊥)
         → (tooLarge ≤ n) ⊎ (T (not (F .sound (length a) t)) ⊎ NoPlace row (F .view t) (classOf n))
     why (inl (_, x)) z = inr (inl x)
     why (inr (_, inl (_, x))) z = inl x

@@ -17,7 +17,7 @@ use Rattle.claims.proofs.Bench.{too-large-anywhere}
 use Rattle.claims.proofs.Demand1.{demand1}
 use Rattle.claims.proofs.Demand2.{releases-exactly, measures-exactly, grants-exactly, grants-as-said, never-shared, leaves-sound}
 use Rattle.claims.proofs.AsSaid.{never-at-zero, sets-up-as-said, sets-up-as-planned, reads-only, reports-as-said, releases-as-said}
-use Rattle.claims.proofs.Serves.{serves-ordinary}
+use Rattle.claims.proofs.StaysInPlace.{serves-ordinary}
 use Rattle.claims.proofs.Stays.{others-stay}
 use Rattle.claims.proofs.Kept.{resizes-keep-alignment}
 use Rattle.claims.proofs.Aligned.{aligned-ordinary, aligned-exactly, aligned-as-said}

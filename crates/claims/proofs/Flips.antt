@@ -19,14 +19,15 @@ use Rattle.model.specs.declared.Holder.{Holder}
 use Rattle.model.specs.declared.Holder.the-variants.{Free, First, Later}
 use Rattle.model.specs.declared.Totals.{Totals}
 use Rattle.model.specs.State.{Pool, free, group, isReady, isWaiting, size, slotSound, spanSound, wellFormed}
-use Rattle.model.specs.Plans.{Call, setsUp, grants, grantsAligned, releases, resizes, measures, reports, grantsList, totals}
+use Rattle.model.specs.Plans.{Call, setsUp, totals}
 use Rattle.model.specs.Tables.{rowAt, slotRecord, rowRecord, laterRecords, spanRecordsBy, spanRecords, encodeBy, roomBytes, byMasks, view, sound}
 use Rattle.model.specs.Calls.{KeptBytes, keptIn, engine, soundKept, unsound}
 use Rattle.model.proofs.Tables.{masks-laws, size-small, slot-length, row-length, group-few, mask-fits, encode-length, Sound, sound-facts}
 use Rattle.model.proofs.Counts.{mask-ones}
 use Rattle.model.proofs.Kept.{kept-totals}
 use Rattle.model.proofs.Calls.{Asks, call-unsound}
-use Rattle.claims.specs.Record.{flip, flipped, Counts, masks, sizes, FlipsRefused}
+use Rattle.claims.proofs.Cases.{by-call}
+use Rattle.claims.specs.Record.{flip, flipped, CountedByte, masks, sizes, FlipsRefused}
 
 -- ---- a flipped byte
 
@@ -217,7 +218,7 @@ scaled (suc zero) y z h e = omega arith
 scaled (suc (suc zero)) y z h e = omega arith
 scaled (suc (suc (suc k))) y z h e = absurd (omega arith)
 
-flip-weighs : (i p b x : ℕ) → Counts i p → weight (p - 16) (flip b x) ≡ weight (p - 16) x → ⊥
+flip-weighs : (i p b x : ℕ) → CountedByte i p → weight (p - 16) (flip b x) ≡ weight (p - 16) x → ⊥
 unfolding weight
 flip-weighs i p b x (masks k h at) e =
     let q : (p - 16) % 264 ≡ 8 + k = omega arith in
@@ -229,19 +230,12 @@ flip-weighs i p b x (sizes j k u h at) e =
     flip-ones b x (ap ones (scaled k (flip b x) x h (sym (f (flip b x)) ∙ e ∙ f x)))
 
 -- a byte that counts stands behind the head, and in its row
-counts-in : (i p : ℕ) → Counts i p → (rowAt i ≤ p) × (p < rowAt (suc i))
+counts-in : (i p : ℕ) → CountedByte i p → (rowAt i ≤ p) × (p < rowAt (suc i))
 counts-in i p (masks k h at) = (omega arith, omega arith)
 counts-in i p (sizes j k u h at) = (omega arith, omega arith)
 
 refuses : (c : Call) → (c ≡ setsUp → ⊥) → Asks c × (unsound c .number ≡ 2)
-refuses setsUp h = absurd (h refl)
-refuses (grants n) h = (tt, refl)
-refuses (grantsAligned n b) h = (tt, refl)
-refuses (releases o) h = (tt, refl)
-refuses (resizes o n) h = (tt, refl)
-refuses (measures o) h = (tt, refl)
-refuses reports h = (tt, refl)
-refuses (grantsList total cap places ns) h = (tt, refl)
+refuses = by-call (λ c. (c ≡ setsUp → ⊥) → Asks c × (unsound c .number ≡ 2)) (λ h. absurd (h refl)) (λ c k _. (k, refl))
 
 module _ (row : ℕ) (pos : 0 < row) where
   facts : (n : ℕ) (t : KeptBytes) → T (soundKept row n t) → Sound byMasks row n (t .tables)

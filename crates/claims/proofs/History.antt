@@ -25,7 +25,7 @@ use Rattle.model.proofs.Reserve.{Served, served, reserve-size}
 use Rattle.model.proofs.Formed.{any-middle, plan-formed}
 use Rattle.model.proofs.Calls.{Asks}
 use Rattle.model.proofs.Moves.{Old, old, old-released}
-use Rattle.claims.specs.History.{Entry, Ledger, opening, without, enteredGrant, enteredEach, entered, Asked, booked, kept, Counts, Tells, History}
+use Rattle.claims.specs.History.{LedgerBlock, Ledger, opening, without, enteredGrant, enteredEach, entered, Asked, booked, kept, Balances, Tells, History}
 use Rattle.model.proofs.Handles.{same-start, stays-handle}
 use Rattle.claims.proofs.Cases.{reserve-live, taken-same, refuses, by-call, Named, on-named, on-grant, on-aligned, on-resize}
 use Rattle.claims.proofs.Demand1.{demand1}
@@ -36,14 +36,14 @@ use Rattle.claims.proofs.AsSaid.{reports-as-said}
 -- in whatever order, is said so: whatever f says, they weigh the same.
 
 -- a slot that begins at b
-unfoldable weight : (Entry → ℕ) → ℕ → Slot → ℕ
+unfoldable weight : (LedgerBlock → ℕ) → ℕ → Slot → ℕ
 weight f b x = choose (isLive x) (f (record { handle = b + 16 * disp x + useBits (count x); size = size x })) 0
 
 -- a live block
-abbrev entry : ℕ → Place → Entry
+abbrev entry : ℕ → Place → LedgerBlock
 entry row p = record { handle = handle row p; size = size (p .state) }
 
-ready-weight : (f : Entry → ℕ) (b : ℕ) (x : Slot) → T (isReady x) → weight f b x ≡ 0
+ready-weight : (f : LedgerBlock → ℕ) (b : ℕ) (x : Slot) → T (isReady x) → weight f b x ≡ 0
 unfolding weight choose
 ready-weight f b Fresh t = refl
 ready-weight f b (Idle r k d) t = refl
@@ -53,7 +53,7 @@ fresh-idle : (n : ℕ) → any isLive (replicate n Fresh) ≡ false
 fresh-idle zero = refl
 fresh-idle (suc n) = fresh-idle n
 
-module _ (row : ℕ) (f : Entry → ℕ) where
+module _ (row : ℕ) (f : LedgerBlock → ℕ) where
   -- slots of a group of class c whose first row is r, from number i on
   abbrev weighSlots : ℕ → ℕ → ℕ → List Slot → ℕ
   weighSlots r c i [] = 0
@@ -206,15 +206,15 @@ module _ (row : ℕ) (f : Entry → ℕ) where
 
 -- ---- a block struck from a ledger
 
-module _ (b : Entry) where
+module _ (b : LedgerBlock) where
   -- a block of the same handle, and one of another size
-  abbrev meets : Entry → ℕ
+  abbrev meets : LedgerBlock → ℕ
   meets e = bit (eqb (e .handle) (b .handle))
 
-  abbrev strays : Entry → ℕ
+  abbrev strays : LedgerBlock → ℕ
   strays e = bit (eqb (e .handle) (b .handle) && not (eqb (e .size) (b .size)))
 
-  without-sum : (f : Entry → ℕ) (es : List Entry) → sum strays es ≡ 0 → 1 ≤ sum meets es → sum f (without (b .handle) es) + f b ≡ sum f es
+  without-sum : (f : LedgerBlock → ℕ) (es : List LedgerBlock) → sum strays es ≡ 0 → 1 ≤ sum meets es → sum f (without (b .handle) es) + f b ≡ sum f es
   without-sum f [] h k = absurd (omega arith)
   without-sum f (e ∷ es) h k =
       choose-case (λ l. sum f l + f b ≡ f e + sum f es) (eqb (e .handle) (b .handle)) es (e ∷ without (b .handle) es)
@@ -233,7 +233,7 @@ module _ (b : Entry) where
 module _ (row : ℕ) where
   -- the ledger's blocks are the pool's live ones, and they are as many as its grants less its releases
   record Tallies (l : Ledger) (P : Pool) : Type 0 where
-    sums : (f : Entry → ℕ) → sum f (l .blocks) ≡ weigh row f 0 P
+    sums : (f : LedgerBlock → ℕ) → sum f (l .blocks) ≡ weigh row f 0 P
     count : sum (λ e. 1) (l .blocks) + l .released ≡ l .granted
 
   fresh-tallies : (n : ℕ) → Tallies opening (freshPool n)
@@ -253,7 +253,7 @@ module _ (row : ℕ) where
 
   module _ (pos : 0 < row) (u : row % 16 ≡ 0) (P : Pool) (w : T (wellFormed P)) (l : Ledger) (t : Tallies l P) where
     -- the ledger's block that has the handle of a live block of the pool is that one
-    struck : (p : Place) (h : ℕ) → Named row P h p → (f : Entry → ℕ) → sum f (without h (l .blocks)) + f (entry row p) ≡ sum f (l .blocks)
+    struck : (p : Place) (h : ℕ) → Named row P h p → (f : LedgerBlock → ℕ) → sum f (without h (l .blocks)) + f (entry row p) ≡ sum f (l .blocks)
     struck p h n f =
         subst (λ k. sum f (without k (l .blocks)) + f b ≡ sum f (l .blocks)) (n .present)
         (without-sum b f (l .blocks) (t .sums (strays b) ∙ weigh-zero row (strays b) [] P (λ q i _. one q i (eqb (handle row q) (handle row p)) refl))
@@ -265,7 +265,7 @@ module _ (row : ℕ) where
           ap bit (T-true (eqb (handle row p) (handle row p)) (eqb-refl (handle row p))),
         )))
       where
-        b : Entry
+        b : LedgerBlock
         b = entry row p
 
         one : (q : Place) → poolOf q ≡ P → (c : Bool) → eqb (handle row q) (handle row p) ≡ c → bit (c && not (eqb (size (q .state)) (size (p .state)))) ≡ 0
@@ -345,7 +345,7 @@ module _ (row : ℕ) where
 -- ---- what report counts
 
 -- a sum over slots of which only the live ones count
-total-weigh : (row : ℕ) (g : Slot → ℕ) (f : Entry → ℕ) → ((b : ℕ) (x : Slot) → g x ≡ weight f b x)
+total-weigh : (row : ℕ) (g : Slot → ℕ) (f : LedgerBlock → ℕ) → ((b : ℕ) (x : Slot) → g x ≡ weight f b x)
     → (r : ℕ) (P : Pool) → sum (slotSum g) P ≡ weigh row f r P
 total-weigh row g f h r [] = refl
 total-weigh row g f h r (free ∷ P) = ap (λ k. 0 + k) (total-weigh row g f h (r + 1) P)
@@ -363,7 +363,7 @@ module _ (row : ℕ) (pos : 0 < row) (F : Form) (L : FormLaws row F) (n : ℕ) w
     tables : T (F .sound n t)
     tallies : Tallies row l (F .view t)
 
-  kept-counts : (l : Ledger) (t : F .Room) → Kept l t → Counts row l (totals row (F .view t)) n
+  kept-counts : (l : Ledger) (t : F .Room) → Kept l t → Balances row l (totals row (F .view t)) n
   unfolding totals weight choose
   kept-counts l t k =
       let P : Pool = F .view t in

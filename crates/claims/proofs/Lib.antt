@@ -5,7 +5,7 @@ pub mod Cases
 pub mod Meets
 pub mod Demand1
 pub mod Demand2
-pub mod Serves
+pub mod StaysInPlace
 pub mod Stays
 pub mod Slots
 pub mod Kept

@@ -24,13 +24,13 @@ use Rattle.model.proofs.Reserve.{Granted, reserve-formed, reserve-size, served}
 use Rattle.model.proofs.Formed.{resize-in-place-formed, resizable}
 use Rattle.model.proofs.Calls.{call-sound, carried-whole}
 use Rattle.model.proofs.Moves.{Old, old, old-released, old-apart, slot-owned, stays-start}
-use Rattle.claims.specs.Demand1.{order, Serves, headerDue, guardDue, Due}
+use Rattle.claims.specs.Demand1.{when, NoRoomToMove, StaysInPlace, headerDue, guardDue, reasons}
 use Rattle.claims.specs.Demand2 as demand2
 use Rattle.claims.specs.AsSaid.{Waits, Goes, sized, stay, InPlace, Moved, MovedBy, ResizesAsSaid}
 use Rattle.model.proofs.Handles.{start-cleared, stays-handle, on-present}
 use Rattle.claims.proofs.Cases.{release-parts, reserve-live}
 use Rattle.claims.proofs.Codes.{code-align}
-use Rattle.claims.proofs.Serves.{in-place-serves}
+use Rattle.claims.proofs.StaysInPlace.{in-place-serves}
 use Rattle.claims.proofs.Demand1.{demand1, starts-found, resize-large}
 use Rattle.claims.proofs.Demand2.{Accepted, accepted, none-due, found-intact}
 use Rattle.claims.proofs.AsSaid.{released-as-said, on-intact, place-formed}
@@ -72,7 +72,7 @@ module _ (row : ℕ) (pos : 0 < row) (a : List ℕ) (n : ℕ) (p : Place) (w : T
   abbrev reframed : List ℕ
   reframed = put (o + k) tail headed
 
-  serves : Serves p n
+  serves : StaysInPlace p n
   serves = in-place-serves p n (asked .some-code) .0 t
 
   -- sizes of the block's parts
@@ -398,10 +398,10 @@ resizes-as-said row pos F L a t h n z =
     let y : Accepted row pos F L a t c = accepted row pos F L a t c tt z in
     let P : Pool = F .view t in
     let w : T (wellFormed P) = L .only (length a) t (y .sound-tables) .0 .formed in
-    let (_, (n₃, m)) = none-due (Due row F a t c) (order c) _ (demand1 row pos F L a t c .number) z in
+    let (_, (n₃, m)) = none-due (reasons row F a t c) _ (demand1 row pos F L a t c .number) z in
     let x : ℕ = newSize (lookup row P o) n in
     let s : x < tooLarge = not-large x (λ g. n₃ (resize-large row pos P h n w .0 g)) in
-    let (p, i) = found-intact row pos F L a t (y .sound-tables) c (NoRoom ∷ []) m in
+    let (p, i) = found-intact row pos F L a t (y .sound-tables) h (when NoRoom (NoRoomToMove row P h n) ∷ []) m in
     let k : Askable (align (p .state)) n =
     resizable row pos P o n w p (starts-found row pos P o p w (i .live .here)) (i .live .here .slotted .pool) (i .live .live) s in
     let l : callBy row F a t c ≡ applied F a (resizeAt row P n p) =

@@ -20,7 +20,7 @@ use Rattle.model.proofs.Moves.{slot-unique, Old, old, old-released}
 use Rattle.model.proofs.Lists.{small, by-grants, on-list}
 use Rattle.model.proofs.Formed.{any-middle, vacant-sound, become-formed}
 use Rattle.model.proofs.Calls.{Asks}
-use Rattle.claims.specs.Stale.{Grants, NotGranted, Steps}
+use Rattle.claims.specs.Stale.{Grants, grants-one, grants-aligned, grants-resized, grants-list, NotGranted, Steps}
 use Rattle.claims.proofs.Cases.{Named, on-named, on-grant, on-aligned, on-resize}
 use Rattle.claims.proofs.Stays.{KeptIn, become-keeps}
 
@@ -142,7 +142,7 @@ module _ (row : ℕ) (pos : 0 < row) where
         let y : Old row pos P w (align (o .state)) n s g f o (b .pool) (b .live) = old row pos P w (align (o .state)) n s g f o (b .pool) (b .live) in
         let d : poolOf q ≡ releaseAt row (y .place) .pool =
         i ∙ ap (λ (r : Plan). r .pool) (old-released row pos P w (align (o .state)) n s g f o (b .pool) (b .live)) in
-        steps-after (resizes h n) tt (p′ .state) (q .state) go (given-back (y .place) (y .formed) (y .live) q d .others p′ (a ∙ sym (y .pool))
+        steps-after (resizes h n) grants-resized (p′ .state) (q .state) go (given-back (y .place) (y .formed) (y .live) q d .others p′ (a ∙ sym (y .pool))
         (slot-after row p′ p q (slot-back row p p′ v) u))
 
     -- in place another slot changes, or this one keeps its count
@@ -173,10 +173,10 @@ module _ (row : ℕ) (pos : 0 < row) where
   plan-steps P w p e setsUp k = absurd k
   plan-steps P w p e (grants n) k =
       on-grant row pos P (Fate P w p e (grants n)) (λ _ _. as-it-was P w p e (grants n)) ordinary n (lit≤ tt) (lit≤ tt)
-      (λ g _ f v. goes-steps P w p e (grants n) tt (poolOf g) v (reserve-goes row P ordinary n g w f p e))
+      (λ g _ f v. goes-steps P w p e (grants n) grants-one (poolOf g) v (reserve-goes row P ordinary n g w f p e))
   plan-steps P w p e (grantsAligned n b) k =
       on-aligned row pos P (Fate P w p e (grantsAligned n b)) (λ _ _. as-it-was P w p e (grantsAligned n b)) n b
-      (λ g _ f v. goes-steps P w p e (grantsAligned n b) tt (poolOf g) v (reserve-goes row P (codeOf b) n g w f p e))
+      (λ g _ f v. goes-steps P w p e (grantsAligned n b) grants-aligned (poolOf g) v (reserve-goes row P (codeOf b) n g w f p e))
   plan-steps P w p e (releases h) k =
       on-named row pos P (Fate P w p e (releases h)) (λ _ _. as-it-was P w p e (releases h)) h (releaseAt row) (release-steps P w p e h)
   plan-steps P w p e (resizes h n) k =
@@ -188,4 +188,4 @@ module _ (row : ℕ) (pos : 0 < row) where
   plan-steps P w p e (grantsList total cap places ns) k =
       let c : Call = grantsList total cap places ns in
       on-list row (Fate P w p e c) P total cap places ns (λ _ _. as-it-was P w p e c)
-      (λ qs h f v. goes-steps P w p e c tt (poolAfter P qs) v (list-goes P ns qs w h f p e))
+      (λ qs h f v. goes-steps P w p e c grants-list (poolAfter P qs) v (list-goes P ns qs w h f p e))

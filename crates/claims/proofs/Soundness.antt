@@ -24,7 +24,7 @@ use Rattle.model.proofs.Lookup.{placed, Fits, fits, disp-inside}
 use Rattle.claims.specs.Demand1.{Near}
 use Rattle.claims.specs.Soundness.{ArenasAsSaid, ArenaRules, SetsUpExactly, GroupRules, LiveRules, SlotRules, Rules, SoundByRules}
 use Rattle.claims.proofs.Codes.{enlarged-align}
-use Rattle.claims.proofs.Serves.{own-near}
+use Rattle.claims.proofs.StaysInPlace.{own-near}
 use Rattle.claims.proofs.Demand2.{set-up-accepted}
 
 -- ---- the arena's length

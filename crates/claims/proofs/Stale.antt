@@ -6,8 +6,9 @@ use Rattle.classes.specs.Classes.{slotBytes}
 use Rattle.classes.proofs.Laws.{bytes-units}
 use Rattle.model.specs.declared.Slot.{Slot}
 use Rattle.model.specs.State.{Pool, Place, isLive, count, disp, size, align, wellFormed, useBits, startOf, poolOf, start, SameSlot, handle}
+use Rattle.model.specs.Answers.{Answer}
 use Rattle.model.specs.Plans.{Plan, releaseAt, release, resizeInPlace, freshPool, plan, vacant}
-use Rattle.model.specs.Plans.{Call, setsUp, grants, grantsAligned, releases, resizes, measures, reports, grantsList}
+use Rattle.model.specs.Plans.{Call, setsUp, grants, releases, resizes}
 use Rattle.model.specs.Calls.{Form, FormLaws, Outcome, callBy}
 use Rattle.model.proofs.Fresh.{whole-units, fresh-formed}
 use Rattle.model.proofs.Tables.{count-small}
@@ -18,7 +19,7 @@ use Rattle.model.proofs.Formed.{plan-formed}
 use Rattle.model.proofs.Calls.{Asks}
 use Rattle.claims.specs.Demand2.{Intact}
 use Rattle.claims.specs.History.{Asked}
-use Rattle.claims.specs.Stale.{Uses, Ends, Steps, StartsCleared, CountsStep, Remains, RemainsAll, after, StaleRefused}
+use Rattle.claims.specs.Stale.{Uses, uses-release, uses-resize, uses-measure, Ends, ends-release, ends-move, Steps, StartsCleared, CountsStep, Remains, RemainsAll, after, StaleRefused}
 use Rattle.model.proofs.Handles.{start-cleared}
 use Rattle.claims.proofs.Cases.{refuses, by-call, Named, on-named, on-resize}
 use Rattle.claims.proofs.Demand1.{demand1}
@@ -111,41 +112,29 @@ module _ (row : ℕ) (pos : 0 < row) (F : Form) (L : FormLaws row F) where
   call-ends : (a : List ℕ) (t : F .Room) (h : ℕ) (p : Place) → Intact row a (F .view t) h p → (c : Call) → callBy row F a t c .answer .number ≡ 0
       → Ends c h (callBy row F a t c .answer) → (q : Place) → poolOf q ≡ F .view (callBy row F a t c .room) → SameSlot row p q
       → (count (q .state) ≡ count (p .state)) × (T (isLive (q .state)) → ⊥)
-  call-ends a t h p i (releases k) z n q f s =
-      let y : Accepted row pos F L a t (releases k) = accepted row pos F L a t (releases k) tt z in
+  call-ends a t h p i c z ends-release q f s =
+      let y : Accepted row pos F L a t c = accepted row pos F L a t c tt z in
       let P : Pool = F .view t in
-      release-plan-ends P (sound-formed row pos F L a t (y .sound-tables)) k p (i .live .here .slotted .pool) (i .live .here .starts ∙ ap startOf (sym n))
-      (ap (λ (r : Outcome (F .Room)). r .answer .number) (sym (y .left)) ∙ z) q (f ∙ accepted-pool row pos F L a t (releases k) y) s
-  call-ends a t h p i (resizes k m) z (n, d) q f s =
-      let y : Accepted row pos F L a t (resizes k m) = accepted row pos F L a t (resizes k m) tt z in
+      release-plan-ends P (sound-formed row pos F L a t (y .sound-tables)) h p (i .live .here .slotted .pool) (i .live .here .starts)
+      (ap (λ (r : Outcome (F .Room)). r .answer .number) (sym (y .left)) ∙ z) q (f ∙ accepted-pool row pos F L a t c y) s
+  call-ends a t h p i c z (ends-move {n = m} d) q f s =
+      let y : Accepted row pos F L a t c = accepted row pos F L a t c tt z in
       let P : Pool = F .view t in
-      resize-ends P (sound-formed row pos F L a t (y .sound-tables)) k p (i .live .here .slotted .pool) (i .live .here .starts ∙ ap startOf (sym n)) m
+      resize-ends P (sound-formed row pos F L a t (y .sound-tables)) h p (i .live .here .slotted .pool) (i .live .here .starts) m
       (ap (λ (r : Outcome (F .Room)). r .answer .number) (sym (y .left)) ∙ z)
-      (λ v. d (ap (λ (r : Outcome (F .Room)). r .answer .values) (y .left) ∙ v ∙ ap (λ j. j ∷ []) n)) q
-      (f ∙ accepted-pool row pos F L a t (resizes k m) y) s
-  call-ends a t h p i setsUp z n q f s = absurd n
-  call-ends a t h p i (grants m) z n q f s = absurd n
-  call-ends a t h p i (grantsAligned m b) z n q f s = absurd n
-  call-ends a t h p i (measures k) z n q f s = absurd n
-  call-ends a t h p i reports z n q f s = absurd n
-  call-ends a t h p i (grantsList total cap places ns) z n q f s = absurd n
+      (λ v. d (ap (λ (r : Outcome (F .Room)). r .answer .values) (y .left) ∙ v)) q (f ∙ accepted-pool row pos F L a t c y) s
 
   -- a call that is done on a handle has found its block
   call-finds : (b : List ℕ) (t : F .Room) (h : ℕ) (c : Call) → Uses c h → callBy row F b t c .answer .number ≡ 0
       → (p : Place) × Intact row b (F .view t) h p
-  call-finds b t h setsUp u z = absurd u
-  call-finds b t h (grants m) u z = absurd u
-  call-finds b t h (grantsAligned m d) u z = absurd u
-  call-finds b t h (releases k) u z =
-      let (p, r) = releases-as-said row pos F L b t k z in (p, subst (λ j. Intact row b (F .view t) j p) u (r .block))
-  call-finds b t h (resizes k m) u z =
-      let (p, r) = resizes-as-said row pos F L b t k m z in (p, subst (λ j. Intact row b (F .view t) j p) u (r .block))
-  call-finds b t h (measures k) u z =
-      let s : T (F .sound (length b) t) = accepted row pos F L b t (measures k) tt z .sound-tables in
-      let (p, r) = measures-exactly row pos F L b t k s .0 .0 z in
-      (p, subst (λ j. Intact row b (F .view t) j p) u r)
-  call-finds b t h reports u z = absurd u
-  call-finds b t h (grantsList total cap places ns) u z = absurd u
+  call-finds b t h c uses-release z = let (p, r) = releases-as-said row pos F L b t h z in (p, r .block)
+  call-finds b t h c (uses-resize {n = m}) z = let (p, r) = resizes-as-said row pos F L b t h m z in (p, r .block)
+  call-finds b t h c uses-measure z = measures-exactly row pos F L b t h (accepted row pos F L b t c tt z .sound-tables) .0 .0 z
+
+-- set up ends no block by its handle
+ends-asks : {h : ℕ} {r : Answer} (c : Call) → Ends c h r → Asks c
+ends-asks c ends-release = tt
+ends-asks c (ends-move d) = tt
 
 -- ---- how often a slot was granted since
 
@@ -213,7 +202,7 @@ stale-refused row pos F L a t h p ends i z n cs all b c u y =
   where
     first : T (wellFormed (F .view t))
     first =
-        let k : Asks ends = by-call (λ c. Ends c h (callBy row F a t c .answer) → Asks c) (λ z. z) (λ c k _. k) ends n in
+        let k : Asks ends = ends-asks ends n in
         sound-formed row pos F L a t (accepted row pos F L a t ends k z .sound-tables)
 
     formed : T (wellFormed (poolOf p))

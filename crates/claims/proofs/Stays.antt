@@ -20,7 +20,7 @@ use Rattle.model.proofs.Moves.{live-granted, stays-start}
 use Rattle.model.proofs.Lists.{small, by-grants, on-list}
 use Rattle.model.proofs.Formed.{on-block, plan-formed}
 use Rattle.claims.specs.Demand1.{LiveAt}
-use Rattle.claims.specs.Alignment.{Names, OthersStay}
+use Rattle.claims.specs.Alignment.{Names, names-all, names-release, names-resize, OthersStay}
 use Rattle.model.proofs.Handles.{stays-handle}
 use Rattle.claims.proofs.Cases.{by-call, Named, on-named, on-grant, on-aligned, on-resize}
 use Rattle.claims.proofs.Demand2.{Accepted, accepted}
@@ -206,13 +206,13 @@ module _ (row : ℕ) where
     pub plan-keeps : (P : Pool) → T (wellFormed P) → (p : Place) → poolOf p ≡ P → T (isLive (p .state)) → (c : Call) → (Names c (start row p) → ⊥)
         → KeptIn (plan row P c .pool) p
     unfolding plan measure report
-    plan-keeps P w p e l setsUp other = absurd (other tt)
+    plan-keeps P w p e l setsUp other = absurd (other names-all)
     plan-keeps P w p e l (grants n) other =
         on-grant row pos P (Keeps P w p e l) (λ _. as-it-is P p e) ordinary n (lit≤ tt) (lit≤ tt) (λ q _ f. reserve-keeps row P ordinary n q w f p e l)
     plan-keeps P w p e l (grantsAligned n b) other =
         on-aligned row pos P (Keeps P w p e l) (λ _. as-it-is P p e) n b (λ q _ f. reserve-keeps row P (codeOf b) n q w f p e l)
-    plan-keeps P w p e l (releases h) other = release-keeps P h p e l (λ z. other (sym z))
-    plan-keeps P w p e l (resizes h n) other = resize-keeps P w p e l h n (λ z. other (sym z))
+    plan-keeps P w p e l (releases h) other = release-keeps P h p e l (λ z. other (names-release (sym z)))
+    plan-keeps P w p e l (resizes h n) other = resize-keeps P w p e l h n (λ z. other (names-resize (sym z)))
     plan-keeps P w p e l (measures h) other =
         on-named row pos P (Keeps P w p e l) (λ _. as-it-is P p e) h (measureAt row P) (λ _ _. as-it-is P p e)
     plan-keeps P w p e l reports other = as-it-is P p e
@@ -258,4 +258,4 @@ pub others-stay : (row : ℕ) → 0 < row → (F : Form) → FormLaws row F → 
 others-stay row pos F L a t c o p z l other =
     by-call (λ c. callBy row F a t c .answer .number ≡ 0 → (Names c o → ⊥)
     → (q : Place) × LiveAt row (F .view (callBy row F a t c .room)) o q × (handle row q ≡ handle row p) × (q .state ≡ p .state))
-    (λ _ other. absurd (other tt)) (λ c k z other. stays row pos F L a t c k z o p l other) c z other
+    (λ _ other. absurd (other names-all)) (λ c k z other. stays row pos F L a t c k z o p l other) c z other

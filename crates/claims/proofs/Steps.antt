@@ -17,7 +17,7 @@ use Rattle.model.specs.declared.Damage.the-variants.{Intact}
 use Rattle.model.specs.State.{Pool, Place, group, isLive, disp, size, align, slotSound, wellFormed, startOf, poolOf, become, slotNumber, rows, base, start}
 use Rattle.model.specs.State.{owned, handle}
 use Rattle.model.specs.Blocks.{reserved, header, spare}
-use Rattle.model.specs.Answers.{done}
+use Rattle.model.specs.Answers.{Answer, done}
 use Rattle.model.specs.Plans.{Plan, refused, turnReady, refill, grantIn, reserve, enframe, vacant, releaseAt, release, discard, inPlace, resizeInPlace, moveTo}
 use Rattle.model.specs.Plans.{measureAt, measure, report, freshPool, Call, setsUp, grants, grantsAligned, releases, resizes, measures, reports, grantsList}
 use Rattle.model.specs.Plans.{plan, grantAt, reserveAll, poolAfter}
@@ -27,7 +27,7 @@ use Rattle.model.proofs.Lookup.{Fits, fits, disp-inside, place-unique}
 use Rattle.model.proofs.Reserve.{plain, Served, served, reserve-formed, refill-sound, reserve-size}
 use Rattle.model.proofs.Formed.{on-block, become-fits, vacant-sound}
 use Rattle.claims.specs.Demand1.{LiveAt}
-use Rattle.claims.specs.Demand3.{Gains, Cleared}
+use Rattle.claims.specs.Demand3.{Gains, gains-grant, gains-aligned, gains-resize, gains-list, given, Cleared}
 use Rattle.model.proofs.Handles.{start-cleared}
 use Rattle.claims.proofs.Cases.{release-parts, Named, on-named, on-grant, on-aligned, on-resize, reserve-live, taken-same, refuses}
 use Rattle.claims.proofs.Gathers.{framed, list-clears}
@@ -52,6 +52,11 @@ unfolding slotCells choose
 fresh-cells c i zero = ap due (sym zeros-none) ∙ ap (λ k. due (zeros k)) (sym (zero-mul (slotBytes c)))
 fresh-cells c i (suc m) =
     let e : slotBytes c + m * slotBytes c ≡ suc m * slotBytes c = omega arith in simp (fresh-cells c (suc i) m, due-zeros, e)
+
+-- the bytes that a resize gains are those of a live block at the start of its handle
+resize-gains : {row : ℕ} {P : Pool} {h n : ℕ} {r : Answer} {i : ℕ} → Gains row P (resizes h n) r i
+    → (p : Place) × LiveAt row P (startOf h) p × (given row r + min (size (p .state)) n ≤ i) × (i < given row r + n)
+resize-gains (gains-resize p l from to) = (p, l, from, to)
 
 module _ (row : ℕ) (pos : 0 < row) where
   new-cells : (c : ℕ) → spanCells row (group c (replicate (slotsOf c) Fresh)) ≡ due (zeros (row * rowsOf row c))
@@ -165,7 +170,7 @@ module _ (row : ℕ) (pos : 0 < row) where
         (λ p b. record {
           agrees = released p a (block-fits p h b) (b .live) (block-agrees p h b);
           whole = ap (damaged row a) (release-parts row p .0) ∙ block-whole p h b;
-          cleared = λ z i g. absurd g;
+          cleared = λ z i g. elim g [ ];
         })
 
     -- the bytes that a resize gains, by the block that it names
@@ -188,7 +193,7 @@ module _ (row : ℕ) (pos : 0 < row) where
           agrees = resized row pos p f (b .live) a n (omega (arith, disp-inside (p .cls) (p .state) (f .class) (f .state))) (block-agrees p h b);
           whole = block-whole p h b;
           cleared = λ z i g.
-              let (from, to) = subst (λ j. (j + k ≤ i) × (i < j + n)) s (gained p h n (startOf (handle row p)) i b g) in
+              let (from, to) = subst (λ j. (j + k ≤ i) × (i < j + n)) s (gained p h n (startOf (handle row p)) i b (resize-gains g)) in
               zeros-put (start row p + k) [] (n - k) (spare (reserved (p .cls) (disp (p .state)) n)) x i (omega (arith, from)) (omega (arith, to));
         }
 
@@ -218,7 +223,7 @@ module _ (row : ℕ) (pos : 0 < row) where
           agrees = discarded (poolOf q) p (put (start row q) bs x) w′ y;
           whole = block-whole P w a g p h b;
           cleared = λ _ i y′.
-              let (from, to) = subst (λ v. (v + k ≤ i) × (i < v + n)) (start-cleared row u q) (gained P w a g p h n (startOf (handle row q)) i b y′) in
+              let (from, to) = subst (λ v. (v + k ≤ i) × (i < v + n)) (start-cleared row u q) (gained P w a g p h n (startOf (handle row q)) i b (resize-gains y′)) in
               discard-zero (poolOf q) p (put (start row q) bs x) i
               (put-past (start row q) bs x i 0 (omega (arith, from)) ∙ framed row q a i (omega (arith, from)) (omega (arith, to)));
         }
@@ -241,23 +246,23 @@ module _ (row : ℕ) (pos : 0 < row) where
     plan-kept setsUp = record {
       agrees = subst (λ l. Agrees (cells row (freshPool (rows row P))) l) (sym (set-up-zero P w a g)) (fresh-agrees (rows row P));
       whole = refl;
-      cleared = λ z i g. absurd g;
+      cleared = λ z i g. elim g [ ];
     }
     plan-kept (grants n) =
         on-grant row pos P (Kept P (grants n) a) (refused-kept P w a g (grants n)) ordinary n (lit≤ tt) (lit≤ tt)
-        (λ q h e. granted-kept (grants n) ordinary n q h e (λ i x. x))
+        (λ q h e. granted-kept (grants n) ordinary n q h e (λ i x. elim x [ gains-grant f t ↦ (f, t) ]))
     plan-kept (grantsAligned n b) =
         on-aligned row pos P (Kept P (grantsAligned n b) a) (refused-kept P w a g (grantsAligned n b)) n b
-        (λ q h e. granted-kept (grantsAligned n b) (codeOf b) n q h e (λ i x. x))
+        (λ q h e. granted-kept (grantsAligned n b) (codeOf b) n q h e (λ i x. elim x [ gains-aligned f t ↦ (f, t) ]))
     plan-kept (releases h) = release-kept P w a g h
     plan-kept (resizes h n) =
         on-resize row pos P (Kept P (resizes h n) a) (refused-kept P w a g (resizes h n)) w h n (λ p b t. in-place-kept P w a g p h n b t)
         (λ p b. record { agrees = g; whole = block-whole P w a g p h b; cleared = λ z. absurd (omega arith) }) (λ p q b s e. moved-kept p q h n b s e)
     plan-kept (measures h) =
         on-named row pos P (Kept P (measures h) a) (refused-kept P w a g (measures h)) h (measureAt row P)
-        (λ p b. record { agrees = g; whole = block-whole P w a g p h b; cleared = λ z i g. absurd g })
-    plan-kept reports = record { agrees = g; whole = refl; cleared = λ z i g. absurd g }
+        (λ p b. record { agrees = g; whole = block-whole P w a g p h b; cleared = λ z i g. elim g [ ] })
+    plan-kept reports = record { agrees = g; whole = refl; cleared = λ z i g. elim g [ ] }
     plan-kept (grantsList total cap places ns) =
         let c : Call = grantsList total cap places ns in
         on-list row (Kept P c a) P total cap places ns (refused-kept P w a g c)
-        (λ qs h e. record { agrees = list-agrees P ns qs w h e a g; whole = refl; cleared = λ z i x. list-clears row pos u P ns qs w h e a i x })
+        (λ qs h e. record { agrees = list-agrees P ns qs w h e a g; whole = refl; cleared = λ z i x. list-clears row pos u P ns qs w h e a i (elim x [ gains-list y ↦ y ]) })

@@ -18,7 +18,7 @@ use Rattle.model.proofs.Formed.{Formed, plan-formed}
 use Rattle.trace.specs.Trace.{Operation, grant, release, resize, measure, store, report, Item, does, items, traceRight}
 use Rattle.trace.specs.Replay.{noTotals, arenaBytes, Line, Effect, effect, lineThen, performed, linesFrom, replayedOver, replayed}
 use Rattle.claims.specs.Demand3.{fed, requested, SameOutside}
-use Rattle.claims.specs.Traces.{blank, Stepped, stepped, steps, modelLines, GoesOn, Lies, StoresInside, PastAsksNothing, LinesModelled}
+use Rattle.claims.specs.Traces.{blank, Stepped, stepped, modelStep, modelLines, GoesOn, StoresRequested, StoresInside, PastAsksNothing, LinesModelled}
 use Rattle.claims.specs.Traces.{StoresSteerNothing, ReplaySteersNothing}
 use Rattle.claims.proofs.Cells.{cells, Agrees}
 use Rattle.claims.proofs.Steps.{fresh-agrees, arena-length, plan-kept}
@@ -47,7 +47,7 @@ choose-both M true x y u v p q = p
 choose-both M false x y u v p q = q
 
 -- bytes stored into requested bytes change none outside them
-stored-outside : (row : ℕ) (P : Pool) (a : List ℕ) (o : ℕ) (bs : List ℕ) → Lies row P (store o bs) → SameOutside row P a (put o bs a)
+stored-outside : (row : ℕ) (P : Pool) (a : List ℕ) (o : ℕ) (bs : List ℕ) → StoresRequested row P (store o bs) → SameOutside row P a (put o bs a)
 stored-outside row P a o bs s = record { long = put-length o bs a; bytes = λ i t. go i t (leb o i) (ltb i (o + length bs)) refl refl }
   where
     go : (i : ℕ) → T (not (requested row P i)) → (b c : Bool) → leb o i ≡ b → ltb i (o + length bs) ≡ c → getD (put o bs a) i 0 ≡ getD a i 0
@@ -81,8 +81,8 @@ module _ (row : ℕ) (pos : 0 < row) (n : ℕ) (h : T (arenaRight row n)) where
         })
 
     -- every record; a store changes no byte that the tables fix
-    acted : (x : Operation) → Lies row P x → Follows row n (performed row a t x) (steps row n P x)
-    unfolding performed steps
+    acted : (x : Operation) → StoresRequested row P x → Follows row n (performed row a t x) (modelStep row n P x)
+    unfolding performed modelStep
     acted (grant k) s = call-follows-plan (grants k)
     acted (release h) s = call-follows-plan (releases h)
     acted (resize h k) s = call-follows-plan (resizes h k)
@@ -103,10 +103,10 @@ module _ (row : ℕ) (pos : 0 < row) (n : ℕ) (h : T (arenaRight row n)) where
 
   -- a record that ends the trace, whatever is behind it
   abbrev Ends : Operation → Type 0
-  Ends x = (P : Pool) (a : List ℕ) (t : KeptBytes) → length a ≡ n → (performed row a t x .tells ≡ none) × (steps row n P x .tells ≡ none)
+  Ends x = (P : Pool) (a : List ℕ) (t : KeptBytes) → length a ≡ n → (performed row a t x .tells ≡ none) × (modelStep row n P x .tells ≡ none)
 
   on-or-ends : (x : Operation) → GoesOn n x ⊎ Ends x
-  unfolding performed steps
+  unfolding performed modelStep
   on-or-ends (grant k) = inl tt
   on-or-ends (release h) = inl tt
   on-or-ends (resize h k) = inl tt
@@ -129,7 +129,7 @@ module _ (row : ℕ) (pos : 0 < row) (n : ℕ) (h : T (arenaRight row n)) where
   lines P a t i (Item.bad ∷ xs) r s = refl
   lines P a t i (does x ∷ xs) r s =
       ⊎-elim (λ g.
-      let f : Follows row n (performed row a t x) (steps row n P x) = acted P a t r x (s g .0) in
+      let f : Follows row n (performed row a t x) (modelStep row n P x) = acted P a t r x (s g .0) in
       ap₂ (lineThen i) (f .tells) (lines _ _ _ (suc i) xs (f .holds) (s g .1)))
       (λ e. let (p, q) = e P a t (r .long) in ended i _ _ _ _ p q) (on-or-ends x)
 
@@ -138,15 +138,15 @@ module _ (row : ℕ) (pos : 0 < row) (n : ℕ) (h : T (arenaRight row n)) where
 module _ (row n : ℕ) where
   -- two records that are the same to the model, which is told only how many bytes are stored
   record Like (x y : Operation) : Type 1 where
-    steps-same : (P : Pool) → steps row n P x ≡ steps row n P y
-    lies-same : (P : Pool) → Lies row P x ≡ Lies row P y
+    steps-same : (P : Pool) → modelStep row n P x ≡ modelStep row n P y
+    lies-same : (P : Pool) → StoresRequested row P x ≡ StoresRequested row P y
     goes-same : GoesOn n x ≡ GoesOn n y
 
   itself : (x : Operation) → Like x x
   itself x = record { steps-same = λ P. refl; lies-same = λ P. refl; goes-same = refl }
 
   store-like : (o : ℕ) (bs cs : List ℕ) → length bs ≡ length cs → Like (store o bs) (store o cs)
-  unfolding steps
+  unfolding modelStep
   store-like o bs cs e = record {
     steps-same = λ P. rw e;
     lies-same = λ P. ap (λ k. (i : ℕ) → o ≤ i → i < o + k → T (requested row P i)) e;
@@ -169,14 +169,14 @@ module _ (row n : ℕ) where
   blank-lines P i [] = refl
   blank-lines P i (x ∷ xs) =
       on-blank (λ y z. modelLines row n P i (y ∷ map blank xs) ≡ modelLines row n P i (z ∷ xs))
-      (λ y z l. cc (l .steps-same P, blank-lines (steps row n P z .pool) (suc i) xs)) refl x
+      (λ y z l. cc (l .steps-same P, blank-lines (modelStep row n P z .pool) (suc i) xs)) refl x
 
   blank-inside : (P : Pool) (xs : List Item) → StoresInside row n P (map blank xs) ≡ StoresInside row n P xs
   unfolding StoresInside
   blank-inside P [] = refl
   blank-inside P (x ∷ xs) =
       on-blank (λ y z. StoresInside row n P (y ∷ map blank xs) ≡ StoresInside row n P (z ∷ xs))
-      (λ y z l. rw (l .goes-same, l .lies-same P, l .steps-same P, blank-inside (steps row n P z .pool) xs)) refl x
+      (λ y z l. rw (l .goes-same, l .lies-same P, l .steps-same P, blank-inside (modelStep row n P z .pool) xs)) refl x
 
 pub past-asks-nothing : (row : ℕ) → PastAsksNothing row
 unfolding StoresInside

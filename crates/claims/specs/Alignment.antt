@@ -4,20 +4,15 @@ use Prim.Native.Nat.{ℕ}
 use mathlib.Core.Path.{_≡_}
 use mathlib.Core.List.{List, [], _∷_}
 use Rattle.model.specs.State.{Place, align, startOf, handle}
-use Rattle.model.specs.Plans.{Call, setsUp, grants, grantsAligned, releases, resizes, measures, reports, grantsList}
+use Rattle.model.specs.Plans.{Call, setsUp, releases, resizes}
 use Rattle.model.specs.Calls.{Form, callBy}
 use Rattle.claims.specs.Demand1.{LiveAt}
 
 -- a call that ends the block at a start, or changes it: a set up ends every block
-abbrev pub Names : Call → ℕ → Type 0
-Names setsUp o = Unit {0}
-Names (grants n) o = ⊥
-Names (grantsAligned n b) o = ⊥
-Names (releases h) o = startOf h ≡ o
-Names (resizes h n) o = startOf h ≡ o
-Names (measures h) o = ⊥
-Names reports o = ⊥
-Names (grantsList total cap places ns) o = ⊥
+pub data Names : Call → ℕ → Type 0 where
+  names-all : {o : ℕ} → Names setsUp o
+  names-release : {h o : ℕ} → startOf h ≡ o → Names (releases h) o
+  names-resize : {h n o : ℕ} → startOf h ≡ o → Names (resizes h n) o
 
 module _ (row : ℕ) (F : Form) where
   -- "Resize of an aligned block keeps the boundary": the block of the handle before it, and the one of its value after it

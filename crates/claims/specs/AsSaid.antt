@@ -16,7 +16,7 @@ use Rattle.model.specs.State.{Pool, Place, isLive, count, disp, size, align, st
 use Rattle.model.specs.Answers.{done, listed}
 use Rattle.model.specs.Plans.{copies, Call, setsUp, grantsAligned, releases, resizes, measures, reports, freshPool, totals, plan}
 use Rattle.model.specs.Calls.{Form, Outcome, write, applied, callBy}
-use Rattle.claims.specs.Demand1.{Near, Serves, StartsAt, headerDue, guardDue}
+use Rattle.claims.specs.Demand1.{Near, StaysInPlace, StartsAt, headerDue, guardDue}
 use Rattle.claims.specs.Demand2.{Intact, reservedOf}
 
 -- an arena and what is left of it: the k bytes from a place on are zero, and no other byte changed
@@ -25,7 +25,7 @@ pub record ZeroedOnly (a b : List ℕ) (from k : ℕ) : Type 0 where
   pub zero : (i : ℕ) → from ≤ i → i < from + k → getD b i 0 ≡ 0
   pub others : (i : ℕ) → (i < from) ⊎ (from + k ≤ i) → getD b i 0 ≡ getD a i 0
 
--- of an ordinary block `Serves` is document 01's: "In place if n is at most s − 4 − 16d and the block's class is at most one above n's class"
+-- of an ordinary block `StaysInPlace` is document 01's: "In place if n is at most s − 4 − 16d and the block's class is at most one above n's class"
 abbrev pub ServesOrdinary : Type 0
 ServesOrdinary = (c d n : ℕ) → c < 48 → n ≤ slotBytes c - 4 - 16 * d → Near c n ↔ (c ≤ suc (classOf n))
 
@@ -127,7 +127,7 @@ module _ (row : ℕ) where
     -- RESIZE
 
     pub record InPlace (a : List ℕ) (h n : ℕ) (p : Place) (r : Outcome (F .Room)) : Type 0 where
-      pub serves : Serves p n
+      pub serves : StaysInPlace p n
       -- 02 §7: "Resize in place keeps the handle."
       pub value : r .answer .values ≡ h ∷ []
       pub pool : F .view (r .room) ≡ poolOf (sized p n)
@@ -146,7 +146,7 @@ module _ (row : ℕ) where
     -- aligned block keeps the boundary": the grant is one of the block's alignment, which for an ordinary block is a plain one. g is what it
     -- leaves, v the new handle, b the arena after the copy
     pub record Moved (a : List ℕ) (h n : ℕ) (p : Place) (g : Outcome (F .Room)) (v : ℕ) (b : List ℕ) (r : Outcome (F .Room)) : Type 0 where
-      pub serves-not : Serves p n → ⊥
+      pub serves-not : StaysInPlace p n → ⊥
       pub granted : g .answer .number ≡ 0
       pub answer : r .answer ≡ g .answer
       pub released : callBy row F b (g .room) (releases h) .answer .number ≡ 0

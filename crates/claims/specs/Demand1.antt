@@ -20,44 +20,23 @@ use Rattle.model.specs.Proposals.{entries, accepts}
 use Rattle.model.specs.Plans.{Call, setsUp, grants, grantsAligned, releases, resizes, measures, reports, grantsList, reserveAll, poolAfter, NoPlace}
 use Rattle.model.specs.Calls.{Form, callBy, setUpRightBy}
 
--- "They are tested in this order, each where it applies: grant 2, 3, 8; release and measure 2, 4, 5, 6, 7; resize all of 2 to 8;
--- report 2." 02 §3: "Order: 2, 9, 17, 8." 02 §6: "answer 13, tested between 2 and 3". 02 §7: "Order: 2, 3, 4, 5, 10, 6, 7, 8"
-abbrev pub order : Call → List Refusal
-order setsUp = BadArena ∷ []
-order (grants n) = Unsound ∷ TooLarge ∷ NoRoom ∷ []
-order (grantsAligned n b) = Unsound ∷ BadAlignment ∷ TooLarge ∷ NoRoom ∷ []
-order (releases h) = Unsound ∷ NoSuchBlock ∷ AlreadyFree ∷ Stale ∷ HeaderDamaged ∷ Overrun ∷ []
-order (resizes h n) = Unsound ∷ TooLarge ∷ NoSuchBlock ∷ AlreadyFree ∷ Stale ∷ HeaderDamaged ∷ Overrun ∷ NoRoom ∷ []
-order (measures h) = Unsound ∷ NoSuchBlock ∷ AlreadyFree ∷ Stale ∷ HeaderDamaged ∷ Overrun ∷ []
-order reports = Unsound ∷ []
-order (grantsList total cap places ns) = Unsound ∷ TooLong ∷ BadProposal ∷ NoRoom ∷ []
+-- a reason to refuse a call, and when it is due by itself
+pub record Reason : Type 1 where
+  pub refusal : Refusal
+  pub due : Type 0
 
--- the handle that a call names
-abbrev pub handleIn : Call → ℕ
-handleIn setsUp = 0
-handleIn (grants n) = 0
-handleIn (grantsAligned n b) = 0
-handleIn (releases h) = h
-handleIn (resizes h n) = h
-handleIn (measures h) = h
-handleIn reports = 0
-handleIn (grantsList total cap places ns) = 0
+abbrev pub when : Refusal → Type 0 → Reason
+when r d = record { refusal = r; due = d }
 
 -- k is the number of the first reason of a list that is due, or 0 if none is
-abbrev pub FirstDue : (Refusal → Type 0) → List Refusal → ℕ → Type 0
-FirstDue Due [] k = k ≡ 0
-FirstDue Due (r ∷ rs) k = ((k ≡ numberOf r) × Due r) ⊎ ((Due r → ⊥) × FirstDue Due rs k)
+abbrev pub FirstDue : List Reason → ℕ → Type 0
+FirstDue [] k = k ≡ 0
+FirstDue (r ∷ rs) k = ((k ≡ numberOf (r .refusal)) × r .due) ⊎ ((r .due → ⊥) × FirstDue rs k)
 
 -- "With a refusal the value is 0 (from report, six zeros)"
-abbrev pub refusedValues : Call → List ℕ
-refusedValues setsUp = 0 ∷ []
-refusedValues (grants n) = 0 ∷ []
-refusedValues (grantsAligned n b) = 0 ∷ []
-refusedValues (releases h) = 0 ∷ []
-refusedValues (resizes h n) = 0 ∷ []
-refusedValues (measures h) = 0 ∷ []
-refusedValues reports = 0 ∷ 0 ∷ 0 ∷ 0 ∷ 0 ∷ 0 ∷ []
-refusedValues (grantsList total cap places ns) = 0 ∷ []
+pub data RefusedValues : Call → List ℕ → Type 0 where
+  six-zeros : RefusedValues reports (0 ∷ 0 ∷ 0 ∷ 0 ∷ 0 ∷ 0 ∷ [])
+  one-zero : {c : Call} → (c ≡ reports → ⊥) → RefusedValues c (0 ∷ [])
 
 -- 02 §3: "Answer 9, list too long, is given exactly if L exceeds 17 times the cap, or the cap is out of its range, or the lent list has
 -- fewer than 17 places"
@@ -67,38 +46,16 @@ pub data TooLongList (total cap places : ℕ) : Type 0 where
   large-cap : tooLarge ≤ cap → TooLongList total cap places
   few-places : places < entries → TooLongList total cap places
 
--- what holds of a list call, told so; of another call it does not
-abbrev pub OfList : ((total cap places : ℕ) → List ℕ → Type 0) → Call → Type 0
-OfList M setsUp = ⊥
-OfList M (grants n) = ⊥
-OfList M (grantsAligned n b) = ⊥
-OfList M (releases h) = ⊥
-OfList M (resizes h n) = ⊥
-OfList M (measures h) = ⊥
-OfList M reports = ⊥
-OfList M (grantsList total cap places ns) = M total cap places ns
-
 -- 02 §6: "Alignments 1, 2, 4, 8 and 16 are an ordinary grant. Any other that is not a power of two up to 4,096 is answer 13"
 abbrev pub NoAlignment : ℕ → Type 0
 NoAlignment b = (j : ℕ) → j ≤ 12 → b ≡ 2 ^ j → ⊥
-
--- what holds of the alignment that a call asks for; of a call that asks for none it does not
-abbrev pub OfAlignment : (ℕ → Type 0) → Call → Type 0
-OfAlignment M setsUp = ⊥
-OfAlignment M (grants n) = ⊥
-OfAlignment M (grantsAligned n b) = M b
-OfAlignment M (releases h) = ⊥
-OfAlignment M (resizes h n) = ⊥
-OfAlignment M (measures h) = ⊥
-OfAlignment M reports = ⊥
-OfAlignment M (grantsList total cap places ns) = ⊥
 
 -- a block's class is that of a size or the next one up
 abbrev pub Near : (c n : ℕ) → Type 0
 Near c n = (c ≡ classOf n) ⊎ (c ≡ suc (classOf n))
 
 -- 02 §6: "it is in place if n itself fits as in 01 and the block's class is that of the enlarged size or the next one up"
-pub record Serves (p : Place) (n : ℕ) : Type 0 where
+pub record StaysInPlace (p : Place) (n : ℕ) : Type 0 where
   pub fits : n ≤ slotBytes (p .cls) - 4 - 16 * disp (p .state)
   pub near : Near (p .cls) (n + (alignOf (align (p .state)) - 16))
 
@@ -134,55 +91,72 @@ module _ (row : ℕ) where
     pub granted-before : reserveAll row P earlier ≡ some places
     pub no-place : NoPlace row (poolAfter P places) (classOf size)
 
-  -- "too large: n is 131,052 or more". 02 §6: "an enlarged size of 131,052 or more is 3", which is n + align − 16, or n up to an alignment of
-  -- 16; "Resize .. : answer 3 reads the enlarged new size where the offset starts such a live block"; 02 §7: "by the start, whatever the bits"
-  abbrev pub TooLargeFor : Pool → Call → Type 0
-  TooLargeFor P setsUp = ⊥
-  TooLargeFor P (grants n) = tooLarge ≤ n
-  TooLargeFor P (grantsAligned n b) = tooLarge ≤ n + (b - 16)
-  TooLargeFor P (releases h) = ⊥
-  TooLargeFor P (resizes h n) = (tooLarge ≤ n) ⊎ ((p : Place) × LiveAt P (startOf h) p × (tooLarge ≤ n + (alignOf (align (p .state)) - 16)))
-  TooLargeFor P (measures h) = ⊥
-  TooLargeFor P reports = ⊥
-  TooLargeFor P (grantsList total cap places ns) = ⊥
+  -- the block that a handle names: "no such block: the offset is neither a live start nor covered by 5", "already free: it is the last start of a
+  -- granted, not live slot of a present group"
+  module _ (a : List ℕ) (P : Pool) (h : ℕ) where
+    abbrev pub noSuchBlock : Reason
+    noSuchBlock = when NoSuchBlock ((p : Place) → StartsAt P (startOf h) p → ⊥)
 
-  -- no room: for a resize, of a block that is not changed in place
-  abbrev pub NoRoomFor : Pool → Call → Type 0
-  NoRoomFor P setsUp = ⊥
-  NoRoomFor P (grants n) = NoPlace row P (classOf n)
-  NoRoomFor P (grantsAligned n b) = NoPlace row P (classOf (n + (b - 16)))
-  NoRoomFor P (releases h) = ⊥
-  NoRoomFor P (resizes h n) =
-      (p : Place) × LiveAt P (startOf h) p × (Serves p n → ⊥) × NoPlace row P (classOf (n + (alignOf (align (p .state)) - 16)))
-  NoRoomFor P (measures h) = ⊥
-  NoRoomFor P reports = ⊥
-  NoRoomFor P (grantsList total cap places ns) = Meets P ns
+    abbrev pub alreadyFree : Reason
+    alreadyFree = when AlreadyFree ((p : Place) × StartsAt P (startOf h) p × T (not (isLive (p .state))))
+
+    -- 02 §7: "Answer 10, stale, is given exactly if the start is live and the bits differ": the handle is not the block's present one
+    abbrev pub stale : Reason
+    stale = when Stale ((p : Place) × LiveAt P (startOf h) p × (handle row p ≡ h → ⊥))
+
+    -- "live start, the 4 bytes before it are not those due", "header right, guard not that due"
+    abbrev pub headerDamaged : Reason
+    headerDamaged = when HeaderDamaged ((p : Place) × LiveAt P (startOf h) p × T (not (headerDue a p)))
+
+    abbrev pub overrun : Reason
+    overrun = when Overrun ((p : Place) × LiveAt P (startOf h) p × T (headerDue a p) × T (not (guardDue a p)))
+
+    -- all five, in this order, before the reasons rs
+    abbrev pub blockReasons : List Reason → List Reason
+    blockReasons rs = noSuchBlock ∷ alreadyFree ∷ stale ∷ headerDamaged ∷ overrun ∷ rs
+
+  -- "too large: n is 131,052 or more", and no room for n
+  abbrev pub sizeReasons : Pool → (n : ℕ) → List Reason
+  sizeReasons P n = when TooLarge (tooLarge ≤ n) ∷ when NoRoom (NoPlace row P (classOf n)) ∷ []
+
+  -- 02 §6: "Resize .. : answer 3 reads the enlarged new size where the offset starts such a live block"; 02 §7: "by the start, whatever the bits"
+  abbrev pub TooLargeAt : Pool → (h n : ℕ) → Type 0
+  TooLargeAt P h n = (tooLarge ≤ n) ⊎ ((p : Place) × LiveAt P (startOf h) p × (tooLarge ≤ n + (alignOf (align (p .state)) - 16)))
+
+  -- no room for a block that is not changed in place
+  abbrev pub NoRoomToMove : Pool → (h n : ℕ) → Type 0
+  NoRoomToMove P h n = (p : Place) × LiveAt P (startOf h) p × (StaysInPlace p n → ⊥) × NoPlace row P (classOf (n + (alignOf (align (p .state)) - 16)))
+
+  -- 02 §3: "Answer 17, bad proposal, exactly if the check refuses it."
+  abbrev pub listReasons : Pool → (total cap places : ℕ) → List ℕ → List Reason
+  listReasons P total cap places ns =
+      when TooLong (TooLongList total cap places) ∷ when BadProposal (T (not (accepts total cap ns))) ∷ when NoRoom (Meets P ns) ∷ []
 
   module _ (F : Form) where
-    -- "Given exactly when", each by itself
-    abbrev pub Due : List ℕ → F .Room → Call → Refusal → Type 0
-    Due a t c BadArena = T (not (setUpRightBy row F a t))
-    Due a t c Unsound = T (not (F .sound (length a) t))
-    Due a t c TooLarge = TooLargeFor (F .view t) c
-    Due a t c NoSuchBlock = (p : Place) → StartsAt (F .view t) (startOf (handleIn c)) p → ⊥
-    Due a t c AlreadyFree = (p : Place) × StartsAt (F .view t) (startOf (handleIn c)) p × T (not (isLive (p .state)))
-    -- 02 §7: "Answer 10, stale, is given exactly if the start is live and the bits differ": the handle is not the block's present one
-    Due a t c Stale = (p : Place) × LiveAt (F .view t) (startOf (handleIn c)) p × (handle row p ≡ handleIn c → ⊥)
-    Due a t c HeaderDamaged = (p : Place) × LiveAt (F .view t) (startOf (handleIn c)) p × T (not (headerDue a p))
-    Due a t c Overrun = (p : Place) × LiveAt (F .view t) (startOf (handleIn c)) p × T (headerDue a p) × T (not (guardDue a p))
-    Due a t c NoRoom = NoRoomFor (F .view t) c
-    Due a t c TooLong = OfList (λ total cap places ns. TooLongList total cap places) c
-    -- 02 §3: "Answer 17, bad proposal, exactly if the check refuses it."
-    Due a t c BadProposal = OfList (λ total cap places ns. T (not (accepts total cap ns))) c
-    Due a t c BadAlignment = OfAlignment NoAlignment c
+    abbrev pub unsoundReason : List ℕ → F .Room → Reason
+    unsoundReason a t = when Unsound (T (not (F .sound (length a) t)))
+
+    -- "They are tested in this order, each where it applies: grant 2, 3, 8; release and measure 2, 4, 5, 6, 7; resize all of 2 to 8;
+    -- report 2." 02 §3: "Order: 2, 9, 17, 8." 02 §6: "answer 13, tested between 2 and 3"; "an enlarged size of 131,052 or more is 3", which is
+    -- n + align − 16, or n up to an alignment of 16. 02 §7: "Order: 2, 3, 4, 5, 10, 6, 7, 8"
+    abbrev pub reasons : List ℕ → F .Room → Call → List Reason
+    reasons a t setsUp = when BadArena (T (not (setUpRightBy row F a t))) ∷ []
+    reasons a t (grants n) = unsoundReason a t ∷ sizeReasons (F .view t) n
+    reasons a t (grantsAligned n b) = unsoundReason a t ∷ when BadAlignment (NoAlignment b) ∷ sizeReasons (F .view t) (n + (b - 16))
+    reasons a t (releases h) = unsoundReason a t ∷ blockReasons a (F .view t) h []
+    reasons a t (resizes h n) =
+        unsoundReason a t ∷ when TooLarge (TooLargeAt (F .view t) h n) ∷ blockReasons a (F .view t) h (when NoRoom (NoRoomToMove (F .view t) h n) ∷ [])
+    reasons a t (measures h) = unsoundReason a t ∷ blockReasons a (F .view t) h []
+    reasons a t reports = unsoundReason a t ∷ []
+    reasons a t (grantsList total cap places ns) = unsoundReason a t ∷ listReasons (F .view t) total cap places ns
 
     -- DEMAND 1, of any bytes, any record and any call; 02 §3: "A refused list leaves arena, tables and lent list unchanged"; 02 §4: "a refusal
     -- keeps it", the record, which is lent with the tables
-    pub record Answered (a : List ℕ) (t : F .Room) (c : Call) : Type 0 where
-      pub number : FirstDue (Due a t c) (order c) (callBy row F a t c .answer .number)
+    pub record AnsweredInOrder (a : List ℕ) (t : F .Room) (c : Call) : Type 0 where
+      pub number : FirstDue (reasons a t c) (callBy row F a t c .answer .number)
       pub refused : (callBy row F a t c .answer .number ≡ 0 → ⊥)
-          → (callBy row F a t c .arena ≡ a) × (callBy row F a t c .room ≡ t) × (callBy row F a t c .answer .values ≡ refusedValues c)
+          → (callBy row F a t c .arena ≡ a) × (callBy row F a t c .room ≡ t) × RefusedValues c (callBy row F a t c .answer .values)
           × (callBy row F a t c .answer .lent ≡ [])
 
     abbrev pub Demand1 : Type 0
-    Demand1 = (a : List ℕ) (t : F .Room) (c : Call) → Answered a t c
+    Demand1 = (a : List ℕ) (t : F .Room) (c : Call) → AnsweredInOrder a t c

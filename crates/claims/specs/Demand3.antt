@@ -15,7 +15,7 @@ use lib.ListN.{length, getD, set}
 use Rattle.mem.specs.Lists.{any}
 use Rattle.model.specs.State.{Pool, Place, isLive, size, startOf, poolOf, places, start}
 use Rattle.model.specs.Answers.{Answer, done, listed}
-use Rattle.model.specs.Plans.{Call, setsUp, grants, grantsAligned, releases, resizes, measures, reports, grantsList}
+use Rattle.model.specs.Plans.{Call, setsUp, grants, grantsAligned, resizes, reports, grantsList}
 use Rattle.model.specs.Plans.{plan, totals, freshPool}
 use Rattle.model.specs.Tables.{arenaRight}
 use Rattle.model.specs.Calls.{Form, Stands, callBy}
@@ -99,15 +99,12 @@ module _ (row : ℕ) where
   GainsEach (v ∷ vs) [] i = ⊥
   GainsEach (v ∷ vs) (n ∷ ns) i = ((startOf v ≤ i) × (i < startOf v + n)) ⊎ GainsEach vs ns i
 
-  abbrev pub Gains : Pool → Call → Answer → ℕ → Type 0
-  Gains P setsUp r i = ⊥
-  Gains P (grants n) r i = (given r ≤ i) × (i < given r + n)
-  Gains P (grantsAligned n b) r i = (given r ≤ i) × (i < given r + n)
-  Gains P (releases h) r i = ⊥
-  Gains P (resizes h n) r i = (p : Place) × LiveAt row P (startOf h) p × (given r + min (size (p .state)) n ≤ i) × (i < given r + n)
-  Gains P (measures h) r i = ⊥
-  Gains P reports r i = ⊥
-  Gains P (grantsList total cap places ns) r i = GainsEach (r .lent) ns i
+  pub data Gains (P : Pool) : Call → Answer → ℕ → Type 0 where
+    gains-grant : {n : ℕ} {r : Answer} {i : ℕ} → given r ≤ i → i < given r + n → Gains P (grants n) r i
+    gains-aligned : {n b : ℕ} {r : Answer} {i : ℕ} → given r ≤ i → i < given r + n → Gains P (grantsAligned n b) r i
+    gains-resize : {h n : ℕ} {r : Answer} {i : ℕ} (p : Place) → LiveAt row P (startOf h) p → given r + min (size (p .state)) n ≤ i → i < given r + n
+        → Gains P (resizes h n) r i
+    gains-list : {total cap places : ℕ} {ns : List ℕ} {r : Answer} {i : ℕ} → GainsEach (r .lent) ns i → Gains P (grantsList total cap places ns) r i
 
   -- they are zero when the call ends
   unfoldable pub Cleared : Pool → Call → Answer → List ℕ → Type 0

@@ -18,7 +18,7 @@ pub record Asked : Type 0 where
   pub asks : Call
 
 -- a block granted and not released: its handle and its latest size
-pub record Entry : Type 0 where
+pub record LedgerBlock : Type 0 where
   pub handle : ℕ
   pub size : ℕ
 
@@ -26,15 +26,15 @@ pub record Entry : Type 0 where
 pub record Ledger : Type 0 where
   pub granted : ℕ
   pub released : ℕ
-  pub blocks : List Entry
+  pub blocks : List LedgerBlock
 
 abbrev pub opening : Ledger
 opening = record { granted = 0; released = 0; blocks = [] }
 
 -- the blocks without the one of a handle
-abbrev pub without : ℕ → List Entry → List Entry
+abbrev pub without : ℕ → List LedgerBlock → List LedgerBlock
 without h [] = []
-without h (e ∷ es) = let rest : List Entry = e ∷ without h es in choose (eqb (e .handle) h) es rest
+without h (e ∷ es) = let rest : List LedgerBlock = e ∷ without h es in choose (eqb (e .handle) h) es rest
 
 -- the ledger with one accepted grant more
 abbrev pub enteredGrant : Ledger → (handle n : ℕ) → Ledger
@@ -68,7 +68,7 @@ pub record Books (R : Type 0) : Type 0 where
   pub room : R
 
 -- the rules, of totals and the arena's length
-pub record Counts (row : ℕ) (l : Ledger) (s : Totals) (n : ℕ) : Type 0 where
+pub record Balances (row : ℕ) (l : Ledger) (s : Totals) (n : ℕ) : Type 0 where
   pub blocks : s .blocks + l .released ≡ l .granted
   pub bytes : s .bytes ≡ sum (λ e. e .size) (l .blocks)
   pub rows : s .held + s .free ≡ n / row
@@ -82,7 +82,7 @@ module _ (row : ℕ) (F : Form) where
   pub record Tells (b : List ℕ) (k : Books (F .Room)) (n : ℕ) : Type 0 where
     pub totals : Totals
     pub given : callBy row F b (k .room) reports .answer ≡ done (listed totals)
-    pub counts : Counts row (k .ledger) totals n
+    pub counts : Balances row (k .ledger) totals n
 
   -- HISTORY: from an accepted set up, for every list of calls over any arena at each, and then a report over any arena of the pool's length
   abbrev pub History : Type 0

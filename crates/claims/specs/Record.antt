@@ -23,9 +23,9 @@ flipped p b t = set t p (flip b (getD t p 0))
 
 -- byte p of the room is one of what totals are counted from in row i: of the ready mask and the waiting mask behind it, 8 bytes, or of the
 -- requested size of slot j, 3 bytes
-pub data Counts (i p : ℕ) : Type 0 where
-  masks : (k : ℕ) → k < 8 → p ≡ rowAt i + readyAt + k → Counts i p
-  sizes : (j k : ℕ) → j < mostSlots → k < 3 → p ≡ rowAt i + slotsAt + slotRecordBytes * j + sizeAt + k → Counts i p
+pub data CountedByte (i p : ℕ) : Type 0 where
+  masks : (k : ℕ) → k < 8 → p ≡ rowAt i + readyAt + k → CountedByte i p
+  sizes : (j k : ℕ) → j < mostSlots → k < 3 → p ≡ rowAt i + slotsAt + slotRecordBytes * j + sizeAt + k → CountedByte i p
 
 module _ (row : ℕ) where
   -- "Soundness gains a rule: the stored totals equal those counted from the tables": one rule more, and no other change
@@ -56,5 +56,5 @@ module _ (row : ℕ) where
   -- 1, with the record as it was, is answer 2 from every call but set up
   abbrev pub FlipsRefused : Type 0
   FlipsRefused = (a : List ℕ) (t : KeptBytes) (i p b : ℕ) (c : Call)
-      → T (soundKept row (length a) t) → getD (t .tables) (rowAt i) 0 ≡ 1 → Counts i p → b < 8 → (c ≡ setsUp → ⊥)
+      → T (soundKept row (length a) t) → getD (t .tables) (rowAt i) 0 ≡ 1 → CountedByte i p → b < 8 → (c ≡ setsUp → ⊥)
       → call row a (keptIn (flipped p b (t .tables)) (t .totals)) c .answer .number ≡ 2

@@ -11,43 +11,28 @@ use lib.ListN.{length}
 use Rattle.model.specs.declared.Slot.{Slot}
 use Rattle.model.specs.State.{Place, isLive, count, disp, startOf, poolOf, start, handle, SameSlot}
 use Rattle.model.specs.Answers.{Answer}
-use Rattle.model.specs.Plans.{Call, setsUp, grants, grantsAligned, releases, resizes, measures, reports, grantsList}
+use Rattle.model.specs.Plans.{Call, grants, grantsAligned, releases, resizes, measures, grantsList}
 use Rattle.model.specs.Calls.{Form, callBy}
 use Rattle.claims.specs.Demand2.{Intact}
 use Rattle.claims.specs.History.{Asked}
 
 -- the calls that can grant a block
-abbrev pub Grants : Call → Type 0
-Grants setsUp = ⊥
-Grants (grants n) = Unit {0}
-Grants (grantsAligned n b) = Unit {0}
-Grants (releases h) = ⊥
-Grants (resizes h n) = Unit {0}
-Grants (measures h) = ⊥
-Grants reports = ⊥
-Grants (grantsList total cap places ns) = Unit {0}
+pub data Grants : Call → Type 0 where
+  grants-one : {n : ℕ} → Grants (grants n)
+  grants-aligned : {n b : ℕ} → Grants (grantsAligned n b)
+  grants-resized : {h n : ℕ} → Grants (resizes h n)
+  grants-list : {total cap places : ℕ} {ns : List ℕ} → Grants (grantsList total cap places ns)
 
 -- the calls on a block by its handle
-abbrev pub Uses : Call → ℕ → Type 0
-Uses setsUp h = ⊥
-Uses (grants n) h = ⊥
-Uses (grantsAligned n b) h = ⊥
-Uses (releases k) h = k ≡ h
-Uses (resizes k n) h = k ≡ h
-Uses (measures k) h = k ≡ h
-Uses reports h = ⊥
-Uses (grantsList total cap places ns) h = ⊥
+pub data Uses : Call → ℕ → Type 0 where
+  uses-release : {h : ℕ} → Uses (releases h) h
+  uses-resize : {h n : ℕ} → Uses (resizes h n) h
+  uses-measure : {h : ℕ} → Uses (measures h) h
 
 -- a call that is done ends the block of a handle: its release, or a resize that moves it, and so gives another handle
-abbrev pub Ends : Call → ℕ → Answer → Type 0
-Ends setsUp h r = ⊥
-Ends (grants n) h r = ⊥
-Ends (grantsAligned n b) h r = ⊥
-Ends (releases k) h r = k ≡ h
-Ends (resizes k n) h r = (k ≡ h) × (r .values ≡ h ∷ [] → ⊥)
-Ends (measures k) h r = ⊥
-Ends reports h r = ⊥
-Ends (grantsList total cap places ns) h r = ⊥
+pub data Ends : Call → ℕ → Answer → Type 0 where
+  ends-release : {h : ℕ} {r : Answer} → Ends (releases h) h r
+  ends-move : {h n : ℕ} {r : Answer} → (r .values ≡ h ∷ [] → ⊥) → Ends (resizes h n) h r
 
 -- a slot before and after a call that does not grant it: its count and its displacement, "of its last start", are the same, and it is live only if
 -- it was

@@ -51,36 +51,36 @@ GoesOn n report = Unit {0}
 
 module _ (row : ℕ) where
   -- in an arena of n bytes; of the bytes that are stored it is told how many they are
-  unfoldable pub steps : ℕ → Pool → Operation → Stepped
-  steps n P (grant k) = stepped (plan row P (grants k))
-  steps n P (release h) = stepped (plan row P (releases h))
-  steps n P (resize h k) = stepped (plan row P (resizes h k))
-  steps n P (measure h) = stepped (plan row P (measures h))
-  steps n P (store o bs) =
+  unfoldable pub modelStep : ℕ → Pool → Operation → Stepped
+  modelStep n P (grant k) = stepped (plan row P (grants k))
+  modelStep n P (release h) = stepped (plan row P (releases h))
+  modelStep n P (resize h k) = stepped (plan row P (resizes h k))
+  modelStep n P (measure h) = stepped (plan row P (measures h))
+  modelStep n P (store o bs) =
       choose (leb (o + length bs) n) (record { tells = some (done (0 ∷ [])); pool = P }) (record { tells = none; pool = P })
-  steps n P report = stepped (plan row P reports)
+  modelStep n P report = stepped (plan row P reports)
 
   -- the model's lines, the first for record i
   unfoldable pub modelLines : ℕ → Pool → ℕ → List Item → List Line
   modelLines n P i [] = []
   modelLines n P i (Item.bad ∷ xs) = Line.bad i ∷ []
-  modelLines n P i (does x ∷ xs) = let d = steps n P x in lineThen i (d .tells) (modelLines n (d .pool) (suc i) xs)
+  modelLines n P i (does x ∷ xs) = let d = modelStep n P x in lineThen i (d .tells) (modelLines n (d .pool) (suc i) xs)
 
   -- the bytes of a store are requested bytes of live blocks
-  abbrev pub Lies : Pool → Operation → Type 0
-  Lies P (grant k) = Unit {0}
-  Lies P (release h) = Unit {0}
-  Lies P (resize h k) = Unit {0}
-  Lies P (measure h) = Unit {0}
-  Lies P (store o bs) = (i : ℕ) → o ≤ i → i < o + length bs → T (requested row P i)
-  Lies P report = Unit {0}
+  abbrev pub StoresRequested : Pool → Operation → Type 0
+  StoresRequested P (grant k) = Unit {0}
+  StoresRequested P (release h) = Unit {0}
+  StoresRequested P (resize h k) = Unit {0}
+  StoresRequested P (measure h) = Unit {0}
+  StoresRequested P (store o bs) = (i : ℕ) → o ≤ i → i < o + length bs → T (requested row P i)
+  StoresRequested P report = Unit {0}
 
   -- and so are those of every store of a trace. A store that ends past the arena stores nothing and ends the trace, so nothing is asked of it, nor
   -- of what stands behind it
   unfoldable pub StoresInside : ℕ → Pool → List Item → Type 0
   StoresInside n P [] = Unit {0}
   StoresInside n P (Item.bad ∷ xs) = Unit {0}
-  StoresInside n P (does x ∷ xs) = GoesOn n x → Lies P x × StoresInside n (steps n P x .pool) xs
+  StoresInside n P (does x ∷ xs) = GoesOn n x → StoresRequested P x × StoresInside n (modelStep n P x .pool) xs
 
   -- so it is, of a store that ends past the arena, whatever stands behind it
   abbrev pub PastAsksNothing : Type 0

@@ -44,7 +44,7 @@ fn use_bits(count: u8) -> usize
     ensures { λ r. ⌜ r ≡ useBits count ⌝ }
     ensures small { λ r. ⌜ r < 16 ⌝ }
 {
-    mem::wide(std::num::wrapping_sub_u8(count, 1)) % 16
+    (mem::wide(count) + 15) % 16
 }
 
 // The start of a handle: the low four bits cleared.

@@ -109,6 +109,17 @@ unfolding choose
 choose-false true x y e = absurd (true≢false e)
 choose-false false x y e = refl
 
+-- a choice among what f gives is what f gives of the choice
+pub choose-along : {A B : Type 0} (f : A → B) (b : Bool) {x y : A} {u v : B} → u ≡ f x → v ≡ f y → choose b u v ≡ f (choose b x y)
+unfolding choose
+choose-along f true e g = e
+choose-along f false e g = g
+
+-- what is not so is false
+pub not-so : (b : Bool) → T (not b) → b ≡ false
+not-so true k = absurd k
+not-so false k = refl
+
 -- an or is zero where both are
 pub or-none : (a b : ℕ) → eqb (bitOr a b) 0 ≡ (eqb a 0 && eqb b 0)
 or-none a b =

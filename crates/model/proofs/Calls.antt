@@ -1,38 +1,24 @@
 -- What a call is, case by case, whatever the form of the tables: unsound tables, a refusal, a grant, a block that is named.
-use Rattle.mem.proofs.Prelude.{_∙_, _≡_, sym, ap, refl, Bool, true, false, Option, some, none, List, [], ℕ, _%_, T, eqb, length}
-use Rattle.mem.proofs.Tests.{choose-true, choose-false, choose-case, T-true, true-T}
+use Rattle.mem.proofs.Prelude.{_∙_, _≡_, sym, ap, refl, Bool, true, false, Option, some, none, List, [], ℕ, _%_, T, not, eqb, length}
+use Rattle.mem.proofs.Tests.{choose-true, choose-false, choose-case, not-so, T-true, true-T}
 use Rattle.model.specs.declared.Refusal.{Refusal}
 use Rattle.model.specs.declared.Damage.{Damage}
 use Rattle.model.specs.declared.Damage.the-variants.{Intact, Damaged}
 use Rattle.model.specs.State.{Pool, Place, isLive, count, useBits, startOf}
 use Rattle.model.specs.Answers.{refusal}
-use Rattle.model.specs.Plans.{Plan, Call, setsUp, grants, grantsAligned, releases, resizes, measures, reports, grantsList}
+use Rattle.model.specs.Plans.{Plan, Call, measures, reports, isSetUp}
 use Rattle.model.specs.Plans.{plan, onBlock, byHandle, onHandle, lookup, measureAt}
 use Rattle.model.specs.Plans.{measure, report}
 use Rattle.model.specs.Calls.{Form, FormLaws, Outcome, applied, damaged, keeps, unsound, callBy, carriedBy, checkedBy, unless, written}
 
 -- the calls but set up
 abbrev pub Asks : Call → Type 0
-Asks setsUp = ⊥
-Asks (grants n) = Unit {0}
-Asks (grantsAligned n b) = Unit {0}
-Asks (releases o) = Unit {0}
-Asks (resizes o n) = Unit {0}
-Asks (measures o) = Unit {0}
-Asks reports = Unit {0}
-Asks (grantsList total cap places sizes) = Unit {0}
+Asks c = T (not (isSetUp c))
 
 module _ (row : ℕ) (F : Form) (a : List ℕ) (t : F .Room) where
   call-checked : (c : Call) → Asks c → callBy row F a t c ≡ checkedBy row F a t c
   unfolding callBy
-  call-checked setsUp k = absurd k
-  call-checked (grants n) k = refl
-  call-checked (grantsAligned n b) k = refl
-  call-checked (releases o) k = refl
-  call-checked (resizes o n) k = refl
-  call-checked (measures o) k = refl
-  call-checked reports k = refl
-  call-checked (grantsList total cap places sizes) k = refl
+  call-checked c k = choose-false (isSetUp c) _ _ (not-so (isSetUp c) k)
 
   pub call-unsound : (c : Call) → Asks c → F .sound (length a) t ≡ false → callBy row F a t c ≡ keeps (unsound c) a t
   unfolding checkedBy

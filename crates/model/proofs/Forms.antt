@@ -1,15 +1,15 @@
 -- Laws of engines: a call on the form of a state is the same step on that state, whatever the form.
 use Rattle.mem.proofs.Prelude.{_∙_, _≡_, sym, ap, refl, _&&_, List, [], _∷_, ℕ, _<_, _*_, _/_, T, length}
 use Rattle.mem.specs.Bytes.{zeros, part}
-use Rattle.mem.proofs.Tests.{and-both, T-true, choose-true}
+use Rattle.mem.specs.Lists.{choose}
+use Rattle.mem.proofs.Tests.{and-both, T-true, choose-true, choose-case, choose-along}
 use Rattle.mem.proofs.Laws.{put-length, zeros-length}
 use Rattle.model.specs.declared.Refusal.{Refusal}
 use Rattle.model.specs.declared.Damage.{Damage}
 use Rattle.model.specs.declared.Damage.the-variants.{Intact, Damaged}
 use Rattle.model.specs.State.{Pool}
 use Rattle.model.specs.Answers.{done, refusal}
-use Rattle.model.specs.Plans.{Plan, Write, writes, copies, Call, setsUp, grants, grantsAligned, releases, resizes, measures, reports}
-use Rattle.model.specs.Plans.{grantsList, plan, freshPool}
+use Rattle.model.specs.Plans.{Plan, Write, writes, copies, Call, isSetUp, plan, freshPool}
 use Rattle.model.specs.Tables.{arenaRight}
 use Rattle.model.specs.Calls.{Form, Outcome, Stands, FormLaws, keeps, written, unless, damaged, carriedBy, setUpRightBy}
 use Rattle.model.specs.Calls.{setUpBy, checkedBy, callBy}
@@ -41,21 +41,17 @@ module _ (row : ℕ) where
       unless (damaged row a (p .checks)) yes (λ r. keeps (refusal r) a P)
 
   abbrev pub step : List ℕ → Pool → Call → Outcome Pool
-  step a P setsUp = record { answer = done (0 ∷ []); arena = zeros (length a); room = freshPool (length a / row) }
-  step a P (grants n) = stepped a P (plan row P (grants n))
-  step a P (grantsAligned n b) = stepped a P (plan row P (grantsAligned n b))
-  step a P (releases o) = stepped a P (plan row P (releases o))
-  step a P (resizes o n) = stepped a P (plan row P (resizes o n))
-  step a P (measures o) = stepped a P (plan row P (measures o))
-  step a P reports = stepped a P (plan row P reports)
-  step a P (grantsList total cap places sizes) = stepped a P (plan row P (grantsList total cap places sizes))
+  step a P c =
+      let made : Outcome Pool = record { answer = done (0 ∷ []); arena = zeros (length a); room = freshPool (length a / row) } in
+      choose (isSetUp c) made (stepped a P (plan row P c))
 
   -- an outcome with its state in the room
   abbrev pub inRoom : (F : Form) → Outcome Pool → Outcome (F .Room)
   inRoom F o = record { answer = o .answer; arena = o .arena; room = F .encode (o .room) }
 
   module _ (F : Form) (L : FormLaws row F) (a : List ℕ) (P : Pool) (s : Stands row (length a) P) where
-    set-up-step : setUpBy row F a (F .encode P) ≡ inRoom F (step a P setsUp)
+    set-up-step : setUpBy row F a (F .encode P)
+        ≡ record { answer = done (0 ∷ []); arena = zeros (length a); room = F .encode (freshPool (length a / row)) }
     unfolding setUpBy setUpRightBy
     set-up-step =
         choose-true (arenaRight row (length a) && F .fits (length a) (F .encode P)) _ _
@@ -70,14 +66,7 @@ module _ (row : ℕ) where
 
     pub call-step : (c : Call) → callBy row F a (F .encode P) c ≡ inRoom F (step a P c)
     unfolding callBy
-    call-step setsUp = set-up-step
-    call-step (grants n) = checked-step (grants n)
-    call-step (grantsAligned n b) = checked-step (grantsAligned n b)
-    call-step (releases o) = checked-step (releases o)
-    call-step (resizes o n) = checked-step (resizes o n)
-    call-step (measures o) = checked-step (measures o)
-    call-step reports = checked-step reports
-    call-step (grantsList total cap places sizes) = checked-step (grantsList total cap places sizes)
+    call-step c = choose-along (inRoom F) (isSetUp c) set-up-step (checked-step c)
 
   -- the state after a step stands under the arena after it
   pub fresh-stands : (n : ℕ) → T (arenaRight row n) → Stands row n (freshPool (n / row))
@@ -110,14 +99,6 @@ module _ (row : ℕ) where
         (record { long = written-length a (plan row P c .changes) ∙ e; stands = plan-stands pos n P s c }) (λ r. record { long = e; stands = s })
 
     pub step-stands : (c : Call) → Standing (step a P c)
-    step-stands setsUp = record {
-      long = zeros-length (length a) ∙ e;
-      stands = rw e (fresh-stands n (s .lawful));
-    }
-    step-stands (grants n) = stepped-stands (grants n)
-    step-stands (grantsAligned n b) = stepped-stands (grantsAligned n b)
-    step-stands (releases o) = stepped-stands (releases o)
-    step-stands (resizes o n) = stepped-stands (resizes o n)
-    step-stands (measures o) = stepped-stands (measures o)
-    step-stands reports = stepped-stands reports
-    step-stands (grantsList total cap places sizes) = stepped-stands (grantsList total cap places sizes)
+    step-stands c =
+        choose-case Standing (isSetUp c) _ _ (λ _. record { long = zeros-length (length a) ∙ e; stands = rw e (fresh-stands n (s .lawful)) })
+        (λ _. stepped-stands c)

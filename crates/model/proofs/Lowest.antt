@@ -3,7 +3,7 @@ use Rattle.mem.proofs.Prelude.{_∙_, _≡_, sym, ap, refl, subst, true, Bool, 
 use Rattle.mem.proofs.Prelude.{List, [], _∷_, _++_, append-assoc, append-nil, _+_, ℕ, _<_, _≤_, suc, zero, arith, T, eqb, eqb-refl, length, drop}
 use Rattle.mem.proofs.Prelude.{replicate}
 use Rattle.mem.specs.Lists.{choose, every, any, first}
-use Rattle.mem.proofs.Tests.{T-true, and-left, and-right, and-both, every-left, choose-false}
+use Rattle.mem.proofs.Tests.{T-true, and-left, and-right, and-both, every-left, choose-false, not-so}
 use Rattle.classes.specs.Classes.{classOf, slotsOf, rowsOf}
 use Rattle.classes.specs.Alignments.{enlarged}
 use Rattle.classes.proofs.Laws.{rows-pos}
@@ -41,16 +41,12 @@ full-cons c y Y h f (w ∷ W) Z ss e = let q : Y ≡ W ++ (group c ss ∷ Z) = c
 abbrev pub Shut : ℕ → Pool → Type 0
 Shut c R = T (every (λ s. not (opens c s)) R)
 
-not-opens : (b : Bool) → T (not b) → b ≡ false
-not-opens true t = absurd t
-not-opens false t = refl
-
 module _ (c : ℕ) where
   -- a search passes them by
   pub pass-shut : (X R Y : Pool) → Shut c R → openFrom X c (R ++ Y) ≡ openFrom (X ++ R) c Y
   pass-shut X [] Y h = ap (λ Z. openFrom Z c Y) (sym (append-nil X))
   pass-shut X (s ∷ R) Y h =
-      choose-false (opens c s) _ _ (not-opens (opens c s) (and-left (not (opens c s)) (every (λ s. not (opens c s)) R) h))
+      choose-false (opens c s) _ _ (not-so (opens c s) (and-left (not (opens c s)) (every (λ s. not (opens c s)) R) h))
       ∙ pass-shut (X ++ (s ∷ [])) R Y (and-right (not (opens c s)) (every (λ s. not (opens c s)) R) h)
       ∙ ap (λ Z. openFrom Z c Y) (append-assoc X (s ∷ []) R)
 
@@ -84,7 +80,7 @@ module _ (c : ℕ) where
   shut-full : (R : Pool) → Shut c R → AllLive R c
   shut-full [] h = full-nil c
   shut-full (s ∷ R) h =
-      full-cons c s R (not-opens (opens c s) (and-left (not (opens c s)) (every (λ s. not (opens c s)) R) h))
+      full-cons c s R (not-so (opens c s) (and-left (not (opens c s)) (every (λ s. not (opens c s)) R) h))
       (shut-full R (and-right (not (opens c s)) (every (λ s. not (opens c s)) R) h))
 
 pub open-none : (X Y : Pool) (c : ℕ) → openFrom X c Y ≡ none → AllLive Y c

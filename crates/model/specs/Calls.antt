@@ -5,7 +5,7 @@ use mathlib.Core.Bool.{Bool, _&&_}
 use mathlib.Core.Option.{Option, none, some}
 use mathlib.Core.List.{List, [], _∷_}
 use lib.Dec.{T, eqb}
-use lib.ListN.{length}
+use lib.ListN.{length, replicate}
 use Rattle.mem.specs.Lists.{choose}
 use Rattle.mem.specs.Bytes.{zeros, same, part, put}
 use Rattle.model.specs.declared.Refusal.{Refusal}
@@ -15,9 +15,8 @@ use Rattle.model.specs.declared.Damage.the-variants.{Intact, Damaged}
 use Rattle.model.specs.declared.Totals.{Totals}
 use Rattle.model.specs.State.{Pool, Place, wellFormed, aligned, rows}
 use Rattle.model.specs.Blocks.{damage}
-use Rattle.model.specs.Answers.{Answer, done, refusal, reportRefusal, listed}
-use Rattle.model.specs.Plans.{Plan, Write, writes, copies, Call, setsUp, grants, grantsAligned, releases, resizes, measures, reports, grantsList}
-use Rattle.model.specs.Plans.{plan, freshPool, totals}
+use Rattle.model.specs.Answers.{Answer, numberOf, done, refusal, listed}
+use Rattle.model.specs.Plans.{Plan, Write, writes, copies, Call, isSetUp, valuesOf, plan, freshPool, totals}
 use Rattle.model.specs.Tables.{Layout, byMasks, encodeBy, viewBy, soundBy, arenaRight, roomBytes}
 
 -- A form of the tables: what stands in the room for a state, what a room says, whether a room is sound under an arena of n bytes,
@@ -74,16 +73,9 @@ written a (w ∷ ws) = written (write a w) ws
 abbrev pub applied : (F : Form) → List ℕ → Plan → Outcome (F .Room)
 applied F a p = record { answer = p .answer; arena = written a (p .changes); room = F .encode (p .pool) }
 
--- "unsound: arena or table room length wrong, or a soundness rule is broken"; set up does not ask
+-- "unsound: arena or table room length wrong, or a soundness rule is broken". "With a refusal the value is 0 (from report, six zeros)"
 abbrev pub unsound : Call → Answer
-unsound setsUp = refusal BadArena
-unsound (grants n) = refusal Unsound
-unsound (grantsAligned n a) = refusal Unsound
-unsound (releases h) = refusal Unsound
-unsound (resizes h n) = refusal Unsound
-unsound (measures h) = refusal Unsound
-unsound reports = reportRefusal Unsound
-unsound (grantsList total cap places sizes) = refusal Unsound
+unsound c = record { number = numberOf Unsound; values = replicate (valuesOf c) 0; lent = [] }
 
 -- what is done with a block that is intact, or else with the reason
 unfoldable pub unless : {A : Type 0} → Damage → A → (Refusal → A) → A
@@ -117,14 +109,8 @@ module _ (row : ℕ) where
     checkedBy a t c = let yes = carriedBy a t (plan row (F .view t) c) in choose (F .sound (length a) t) yes (keeps (unsound c) a t)
 
     unfoldable pub callBy : List ℕ → F .Room → Call → Outcome (F .Room)
-    callBy a t setsUp = setUpBy a t
-    callBy a t (grants n) = checkedBy a t (grants n)
-    callBy a t (grantsAligned n b) = checkedBy a t (grantsAligned n b)
-    callBy a t (releases h) = checkedBy a t (releases h)
-    callBy a t (resizes h n) = checkedBy a t (resizes h n)
-    callBy a t (measures h) = checkedBy a t (measures h)
-    callBy a t reports = checkedBy a t reports
-    callBy a t (grantsList total cap places sizes) = checkedBy a t (grantsList total cap places sizes)
+    unfolding choose
+    callBy a t c = choose (isSetUp c) (setUpBy a t) (checkedBy a t c)
 
   -- a state that an arena of n bytes can have
   pub record Stands (n : ℕ) (P : Pool) : Type 0 where

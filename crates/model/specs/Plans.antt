@@ -24,7 +24,7 @@ use Rattle.model.specs.Proposals.{entries, accepts, plannable}
 -- bytes written from a place on, or some bytes copied from one place to another
 pub data Write : Type 0 where
   writes : (at : ℕ) (bytes : List ℕ) → Write
-  copies : (from to length : ℕ) → Write
+  copies : (from to count : ℕ) → Write
 
 -- what a call does: the live block whose header and guard must be those due, if it names one; then answer, state and writes
 pub record Plan : Type 0 where
@@ -356,6 +356,28 @@ pub data Call : Type 0 where
   reports : Call
   -- of the list that it is lent, a list call is told the number of places
   grantsList : (total cap places : ℕ) (sizes : List ℕ) → Call
+
+-- set up alone does not ask for sound tables
+abbrev pub isSetUp : Call → Bool
+isSetUp setsUp = true
+isSetUp (grants n) = false
+isSetUp (grantsAligned n b) = false
+isSetUp (releases h) = false
+isSetUp (resizes h n) = false
+isSetUp (measures h) = false
+isSetUp reports = false
+isSetUp (grantsList total cap places sizes) = false
+
+-- how many values a call gives: report "in this order: live blocks, their requested bytes, rows held, rows free, ready slots, waiting slots"
+abbrev pub valuesOf : Call → ℕ
+valuesOf setsUp = 1
+valuesOf (grants n) = 1
+valuesOf (grantsAligned n b) = 1
+valuesOf (releases h) = 1
+valuesOf (resizes h n) = 1
+valuesOf (measures h) = 1
+valuesOf reports = 6
+valuesOf (grantsList total cap places sizes) = 1
 
 module _ (row : ℕ) where
   -- "Every call steps on that state and its arguments alone"

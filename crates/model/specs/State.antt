@@ -93,10 +93,10 @@ abbrev pub slotsAligned : (c b : ℕ) → List Slot → Bool
 slotsAligned c b [] = true
 slotsAligned c b (x ∷ xs) = slotAligned b x && slotsAligned c (b + slotBytes c) xs
 
--- 02 §7: a handle "carries in its low four bits the slot's use count before that grant, modulo 16". The kept count is the one after it, modulo
--- 256, so it is one less that counts: 0 gives 15
+-- 02 §7: a handle "carries in its low four bits the slot's use count before that grant, modulo 16". The kept count is the one after it, so it is
+-- one less that counts: 0 gives 15
 abbrev pub useBits : (count : ℕ) → ℕ
-useBits k = (k + 255) % 256 % 16
+useBits k = (k + 15) % 16
 
 -- "starts are handles with the low four bits cleared"
 abbrev pub startOf : ℕ → ℕ

@@ -9,7 +9,7 @@ use Rattle.classes.specs.Alignments.{alignOf, enlarged}
 use Rattle.classes.proofs.Laws.{bytes-least, class-least}
 use Rattle.model.specs.State.{Place, disp, align}
 use Rattle.model.specs.Plans.{inPlace}
-use Rattle.claims.specs.Demand1.{Near, Serves}
+use Rattle.claims.specs.Demand1.{Near, StaysInPlace}
 use Rattle.claims.specs.AsSaid.{ServesOrdinary}
 use Rattle.claims.proofs.Codes.{enlarged-align}
 
@@ -29,7 +29,7 @@ own-near c m = (
     back false t = t
 
 -- the test is what is said, of a live block
-pub in-place-serves : (p : Place) (n : ℕ) → 1 ≤ align (p .state) → T (inPlace p n) ↔ Serves p n
+pub in-place-serves : (p : Place) (n : ℕ) → 1 ≤ align (p .state) → T (inPlace p n) ↔ StaysInPlace p n
 unfolding inPlace
 in-place-serves p n h = (
   λ t. record {
