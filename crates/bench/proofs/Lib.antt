@@ -1,2 +1,3 @@
 pub mod Bench
 pub mod PlainBench
+pub mod Traces

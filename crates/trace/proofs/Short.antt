@@ -1,4 +1,4 @@
--- The lines of the sheet are those due: computed over arena and table room.
+-- The lines of the short sheet are those due: computed over arena and table room.
 use Rattle.mem.proofs.Prelude.{refl}
 use Rattle.mem.specs.Lists.{choose}
 use Rattle.mem.specs.Bytes.{zeros}
@@ -12,13 +12,13 @@ use Rattle.model.specs.Tables.{viewRowsBy, viewBy, arenaRight, soundBy}
 use Rattle.model.specs.Calls.{sameTotals, callBy, carriedBy, checkedBy, setUpBy, setUpRightBy, unless}
 use Rattle.trace.specs.Trace.{body, encodeRecord, encodeTrace, fits, opAt, recordAt, stepAt, operationOf, itemsFrom, items, traceRight}
 use Rattle.trace.specs.Replay.{performed, linesFrom, replayedOver, replayed}
-use Rattle.trace.specs.Sheet.{sheet, LinesDue}
+use Rattle.trace.specs.Sheet.{sheetShort, ShortDue}
 
-pub lines-due : LinesDue
-unfolding sheet body encodeRecord encodeTrace fits opAt recordAt stepAt operationOf itemsFrom items traceRight performed linesFrom replayedOver replayed
+short-lines : ShortDue
+unfolding sheetShort body encodeRecord encodeTrace fits opAt recordAt stepAt operationOf itemsFrom items traceRight performed linesFrom replayedOver replayed
     choose zeros rowBytes tooLarge unitsOf slotBytes slotsOf rowsOf classOf slotSound spanSound places header guard firstSpare spare
     frame headerRight guardRight damageIn
     opens refill displaced grantSlot inPlace alignOf roundUp aligned plan slotRecord rowRecord laterRecords spanRecordsBy roomBytes viewSlot viewSlots
     viewGroup viewHolder viewRowsBy
     encodeBy viewBy arenaRight soundBy callBy setUpBy setUpRightBy checkedBy carriedBy unless sameTotals
-lines-due = refl
+short-lines = refl
