@@ -29,7 +29,7 @@ pub fn take_slot(row: usize, room: &mut [u8], i: usize, c: usize, code: u8, n: u
 {
     let j = ready_slot(room, i, c);
     let begin = row * i + 16 + j * (16 * classes::units(c));
-    let a = blocks::grant_slot(c, code, n, begin, plain_slots::slot_at(room, i, j));
+    let a = placing::grant_slot(c, code, n, begin, plain_slots::slot_at(room, i, j));
     plain_slots::store(room, i, j, Slot::Live(a));
     Block {
         first: i,
