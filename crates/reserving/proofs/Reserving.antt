@@ -21,11 +21,11 @@ use Rattle.frames.proofs.Sites.{site-at, site-nowhere, site-run, run-inside}
 use Rattle.frames.proofs.Sites as any
 use Rattle.totals.specs.Changes.{refills, Small, Makes, Takes}
 use Rattle.totals.proofs.Laws.{totals-small, made-small, made-totals, taken-totals}
-use Rattle.ops.specs.declared.Opened.{Opened}
-use Rattle.ops.specs.declared.Opened.the-variants.{In, Nowhere}
-use Rattle.ops.specs.declared.Reserved.{Reserved}
-use Rattle.ops.specs.declared.Reserved.the-variants.{Taken, NoRoom}
-use Rattle.ops.specs.Blocks.{opened, siteRoom, reservedAs, roomAfter}
+use Rattle.reserving.specs.declared.Opened.{Opened}
+use Rattle.reserving.specs.declared.Opened.the-variants.{In, Nowhere}
+use Rattle.reserving.specs.declared.Reserved.{Reserved}
+use Rattle.reserving.specs.declared.Reserved.the-variants.{Taken, NoRoom}
+use Rattle.reserving.specs.Reserves.{opened, siteRoom, reservedAs, roomAfter}
 
 opened-at : (row c : ℕ) (o : Option Site) (i : ℕ) (s : Totals) → opened row c o ≡ In i s
     → (g : Site) × (o ≡ some g) × (rows row (g .before) ≡ i) × (s ≡ totals row (g .before ++ (group c (g .slots) ∷ g .after)))

@@ -8,12 +8,12 @@ use Rattle.rows.specs.declared.Found.the-variants.{At, Nothing}
 use Rattle.rows.specs.Rows.{Lent, siteFound}
 use Rattle.rows.proofs.Rooms.{by-masks}
 use Rattle.totals.specs.Changes.{Small, Makes}
-use Rattle.ops.specs.declared.Opened.the-variants.{In}
-use Rattle.ops.specs.Blocks.{opened}
+use Rattle.reserving.specs.declared.Opened.the-variants.{In}
+use Rattle.reserving.specs.Reserves.{opened}
 use Rattle.frames.proofs.Sites.{run-inside}
-use Rattle.ops.proofs.Reserving.{site-open, site-none, site-counts, site-made}
-use Rattle.ops.proofs.site_for.Statement.{statement}
-use Rattle.ops.proofs.site_for.Tie as tie
+use Rattle.reserving.proofs.Reserving.{site-open, site-none, site-counts, site-made}
+use Rattle.reserving.proofs.site_for.Statement.{statement}
+use Rattle.reserving.proofs.site_for.Tie as tie
 
 room : (s : tie.Start) → Lent byMasks (s .args .row) (s .args .len) (now (s .args .room))
 room s = by-masks (s .pre .0) (s .pre .1 .1)

@@ -10,9 +10,9 @@ use Rattle.model.specs.Tables.{byMasks, view}
 use Rattle.rows.specs.Rows.{Lent, Offers}
 use Rattle.rows.proofs.Rooms.{by-masks}
 use Rattle.totals.specs.Changes.{Small, Takes}
-use Rattle.ops.proofs.Reserving.{site-offers, reserved-nothing, reserved-counts, reserved-slot}
-use Rattle.ops.proofs.reserve_in.Statement.{statement}
-use Rattle.ops.proofs.reserve_in.Tie as tie
+use Rattle.reserving.proofs.Reserving.{site-offers, reserved-nothing, reserved-counts, reserved-slot}
+use Rattle.reserving.proofs.reserve_in.Statement.{statement}
+use Rattle.reserving.proofs.reserve_in.Tie as tie
 
 room : (s : tie.Start) → Lent byMasks (s .args .row) (s .args .len) (now (s .args .room))
 room s = by-masks (s .pre .0) (s .pre .1 .1 .1)

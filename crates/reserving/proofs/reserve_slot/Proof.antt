@@ -4,8 +4,8 @@ use Rattle.classes.specs.Classes.{classOf}
 use Rattle.classes.proofs.Alignments.{enlarged-least}
 use Rattle.model.specs.Tables.{byMasks}
 use Rattle.rows.proofs.Walks.{open-start}
-use Rattle.ops.proofs.reserve_slot.Statement.{statement}
-use Rattle.ops.proofs.reserve_slot.Tie as tie
+use Rattle.reserving.proofs.reserve_slot.Statement.{statement}
+use Rattle.reserving.proofs.reserve_slot.Tie as tie
 
 enlarged-requires : tie.Need-enlarged-requires
 enlarged-requires c κs =
