@@ -1,5 +1,5 @@
 // Changes of one group of plain tables: take a slot, make a group, give a slot back, change a live one's size.
-// Read next: plain_ops.
+// Read next: plain_survey.
 ghost use mathlib.Core.Path.{_≡_};
 ghost use mathlib.Core.List.{_∷_, _++_};
 ghost use Prim.Native.Nat.{ℕ, _+_, _≤_, _<_};

@@ -1,9 +1,9 @@
-// What the calls do with a block, over arena and plain tables: reserve a slot, locate a block, give it back, change its size; then, in list.rt, a list.
-// What reads no table of either engine, as header and guard of a block, is in frames and blocks. Read next: plain.
+// What the calls do with a block, over arena and plain tables: reserve a slot, locate a block, give it back, change its size; then, in list.rt, the
+// grants of a list. What reads no table of either engine, as header and guard of a block, is in frames and blocks. Read next: plain.
 mod list;
 
-pub use list::fits;
 pub use list::grant_all;
+pub use plain_survey::fits;
 ghost use mathlib.Core.Path.{_≡_};
 ghost use mathlib.Core.Bool.{true};
 ghost use Prim.Native.Nat.{_<_};

@@ -7,8 +7,8 @@ use Rattle.rows.specs.Rows.{Lent}
 use Rattle.rows.proofs.Rooms.{row-count, few-rows}
 use Rattle.plain_tables.proofs.Opens.{by-slots}
 use Rattle.serving.proofs.Notes.{whole-map, zeros-front, told-front}
-use Rattle.plain_ops.proofs.list.fits.Statement.{statement}
-use Rattle.plain_ops.proofs.list.fits.Tie as tie
+use Rattle.plain_survey.proofs.fits.Statement.{statement}
+use Rattle.plain_survey.proofs.fits.Tie as tie
 
 -- the room as its laws take it
 lent : (s : tie.Start) → Lent bySlots (s .args .row) (s .args .len) (now (s .args .room))

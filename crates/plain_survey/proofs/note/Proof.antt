@@ -5,8 +5,8 @@ use Rattle.model.specs.Plain.{bySlots}
 use Rattle.rows.specs.Rows.{Lent}
 use Rattle.plain_tables.proofs.Opens.{by-slots}
 use Rattle.serving.proofs.Notes.{Passed, Further, begin, ahead, further, end, whole-map}
-use Rattle.plain_ops.proofs.list.note.Statement.{statement}
-use Rattle.plain_ops.proofs.list.note.Tie as tie
+use Rattle.plain_survey.proofs.note.Statement.{statement}
+use Rattle.plain_survey.proofs.note.Tie as tie
 
 abbrev Inv-loop : tie.InvT-loop
 Inv-loop row len room spare₀ map₀ n i₀ spare map i = Passed bySlots row len room i spare map

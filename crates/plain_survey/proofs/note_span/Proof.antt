@@ -2,9 +2,9 @@
 use Rattle.mem.proofs.Prelude.{_≤_, arith, now, needs, drop}
 use Rattle.model.specs.Tables.{rowAt}
 use Rattle.serving.proofs.Notes.{Countable, span-inside, span-place, free-next, countable, group-next}
-use Rattle.plain_ops.proofs.Idle.{live-inside, slots-idle}
-use Rattle.plain_ops.proofs.list.note_span.Statement.{statement}
-use Rattle.plain_ops.proofs.list.note_span.Tie as tie
+use Rattle.plain_survey.proofs.Idle.{live-inside, slots-idle}
+use Rattle.plain_survey.proofs.note_span.Statement.{statement}
+use Rattle.plain_survey.proofs.note_span.Tie as tie
 
 holder-at-requires : tie.Need-holder-at-requires
 holder-at-requires c κs = span-inside (c .before .before .before .pre .0 .4)
