@@ -37,7 +37,7 @@ pub fn take_slot(row: usize, room: &mut [u8], i: usize, c: usize, code: u8, n: u
     let m = old.refill();
     let j = m.lowest();
     let begin = row * i + 16 + j as usize * (16 * classes::units(c));
-    let a = blocks::grant_slot(c, code, n, begin, records::slot_at(room, i, m, j));
+    let a = placing::grant_slot(c, code, n, begin, records::slot_at(room, i, m, j));
     records::store(room, i, m.take(), j as usize, Slot::Live(a));
     Taken {
         block: Block {

@@ -7,9 +7,9 @@ use Rattle.model.specs.Calls.{Form, FormLaws, engine}
 use Rattle.model.specs.Plain.{bySlots, plainForm}
 use Rattle.model.proofs.Kept.{engine-lawful}
 use Rattle.model.proofs.Plain.{plain-lawful}
-use Rattle.model.proofs.Bench.{bench}
-use Rattle.model.proofs.PlainBench.{plain-bench}
-use Rattle.trace.proofs.Sheet.{lines-due}
+use Rattle.bench.proofs.Bench.{bench}
+use Rattle.bench.proofs.PlainBench.{plain-bench}
+use Rattle.bench.proofs.Traces.{lines-due}
 use Rattle.trace.proofs.Written.{reads-back, writes-back}
 use Rattle.claims.specs.Demands.{MeetsDemands, Demands}
 use Rattle.claims.proofs.Tables.{tables, plain-tables}

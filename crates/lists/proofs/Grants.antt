@@ -16,11 +16,11 @@ use Rattle.rows.specs.declared.Block.{Block}
 use Rattle.rows.specs.Rows.{Lent, NoneOpen, ownedAt, handleAt}
 use Rattle.rows.proofs.Rooms.{facts}
 use Rattle.rows.proofs.Walks.{open-start}
-use Rattle.ops.specs.declared.Reserved.the-variants.{Taken}
+use Rattle.reserving.specs.declared.Reserved.the-variants.{Taken}
 use Rattle.frames.specs.Blocks.{Standing}
-use Rattle.ops.specs.Blocks.{reservedAs}
+use Rattle.reserving.specs.Reserves.{reservedAs}
 use Rattle.frames.proofs.Moves.{reserve-leaves}
-use Rattle.ops.proofs.Moves.{reserved-place}
+use Rattle.reserving.proofs.Places.{reserved-place}
 use Rattle.frames.specs.Grants.{handleOr, arenaAfter}
 use Rattle.frames.proofs.Grants.{Further}
 use Rattle.lists.specs.Grants.{firstOr, totalsOr}

@@ -14,12 +14,12 @@ ghost use Rattle.model.specs.Plans.{reserve, enframe, reserveAll, poolAfter, to
 ghost use Rattle.model.specs.Tables.{byMasks, sound, view, encode};
 ghost use Rattle.model.specs.Calls.{written};
 ghost use Rattle.rows.specs.Rows.{NoneOpen};
-ghost use Rattle.ops.specs.Blocks.{roomAfter};
+ghost use Rattle.reserving.specs.Reserves.{roomAfter};
 ghost use Rattle.frames.specs.Grants.{granted, handleOr, arenaAfter};
 ghost use Rattle.lists.specs.Grants.{firstOr, totalsOr};
 use classes::Sized;
 use model::Totals;
-use ops::Reserved;
+use reserving::Reserved;
 
 // Where a granted block is: its handle, and the first row of its group; and the totals with it.
 pub struct Placed {
@@ -47,7 +47,7 @@ fn grant_one(
     ensures { λ r. ⌜ now (arena .exit) ≡ arenaAfter row (now (arena .entry)) (reserve row (view row (now (room .entry))) ordinary (s .size)) ⌝ }
     ensures { λ r. ⌜ now (room .exit) ≡ roomAfter row (now (room .entry)) (reserve row (view row (now (room .entry))) ordinary (s .size)) ⌝ }
 {
-    let Reserved::Taken(b, taken) = ops::reserve_in(
+    let Reserved::Taken(b, taken) = reserving::reserve_in(
         row,
         arena.len(),
         room,

@@ -1,5 +1,4 @@
-pub mod Bench
-pub mod PlainBench
+pub mod Short
 pub mod Tables
 pub mod Rooms
 pub mod Kept

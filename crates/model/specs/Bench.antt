@@ -294,6 +294,35 @@ sheetSound =
     ∷ sets 1024 544 0 ∷ rooms 512 280 ∷ rooms 262144 135184 ∷ rooms 262145 0 ∷ rooms 262656 0 ∷ rooms 0 0
     ∷ []
 
+-- lines that refuse a wrong definition soonest, over arenas as short as can be: proved beside the definitions, so that an edit of these is
+-- refused in seconds. They are of the kinds that the whole sheet has, which is proved in `bench`.
+unfoldable pub sheetShort : List Entry
+sheetShort =
+    -- slots of 16 bytes: what is refused, frames and totals, marks and handles, a record that does not agree, a release, sizes in place, a list
+    fresh 512 (refuses (grants 131052) 3 ∷ leaves (grantsAligned 131052 4095) 13 ∷ leaves (grantsList 1 1 16 (1 ∷ [])) 9
+    ∷ gives (grants 12) 16 ∷ gives (grants 0) 32 ∷ asks reports 0 (2 ∷ 12 ∷ 1 ∷ 0 ∷ 29 ∷ 0 ∷ []) ∷ leaves (measures 17) 10
+    ∷ leaves (grantsList 14 13 17 (1 ∷ 13 ∷ [])) 8 ∷ stores 28 1 ∷ gives (measures 16) 12 ∷ stores 28 0
+    ∷ writes (six 2 13 1 0 29 0) ∷ leaves (measures 16) 2 ∷ writes (six 2 12 1 0 29 0)
+    ∷ gives (releases 32) 0 ∷ shows 40 (bytes4 0 0 0 0) ∷ gives (grants 0) 48 ∷ gives (resizes 48 12) 48 ∷ shows 56 (bytes4 0 0 0 0)
+    ∷ stores 16 7 ∷ gives (resizes 16 1) 16 ∷ shows 16 (7 ∷ [])
+    ∷ lists (grantsList 1 1 17 (1 ∷ [])) 1 (replicate 17 7) (64 ∷ replicate 16 7) ∷ stores 13 1 ∷ leaves (measures 17) 10 ∷ [])
+    -- one spare byte; no live slot in a group
+    ∷ fresh 512 (gives (grants 11) 16 ∷ shows 12 (bytes4 0 32 0 0) ∷ [])
+    ∷ fresh 512 (gives (grants 0) 16 ∷ spoils 28 1 ∷ writes (six 0 0 1 0 30 1) ∷ leaves (grants 0) 2 ∷ [])
+    -- an aligned block, and its group's later row; a size two classes down; a move
+    ∷ fresh 1536 (gives (grantsAligned 1 32) 32 ∷ tables 280 (2 ∷ 1 ∷ []) ∷ leaves (resizes 33 131036) 3 ∷ [])
+    ∷ fresh 1536 (gives (grants 30) 16 ∷ spoils 36 12 ∷ writes (six 1 12 3 0 30 0) ∷ leaves (measures 16) 2 ∷ [])
+    ∷ fresh 1536 (gives (grants 1) 16 ∷ stores 16 7 ∷ gives (resizes 16 13) 528 ∷ shows 528 (7 ∷ []) ∷ [])
+    -- four slots, of which two wait, are granted again and wait again: displaced, then not; a last start stays
+    ∷ fresh 4096 (gives (grants 980) 16 ∷ gives (grants 980) 1024 ∷ gives (grants 980) 2032 ∷ gives (grants 980) 3040 ∷ gives (releases 16) 0
+    ∷ gives (releases 1024) 0 ∷ gives (grants 980) 33 ∷ shows 12 (zeros 16) ∷ gives (grants 980) 1041 ∷ gives (releases 33) 0
+    ∷ gives (releases 1041) 0 ∷ gives (grants 980) 18 ∷ refuses (releases 1041) 5 ∷ [])
+    -- a displacement of 256 units
+    ∷ fresh 16384 (gives (grants 13100) 16 ∷ spoils 35 1 ∷ spoils 37 44 ∷ writes (six 1 11308 32 0 0 0) ∷ stores 4109 160 ∷ stores 4111 1
+    ∷ refuses (measures 4112) 7 ∷ [])
+    ∷ rooms 262144 135184 ∷ checks 40 40 (40 ∷ 0 ∷ []) 0
+    ∷ []
+
 unfoldable pub sheet : List Entry
 unfolding sheet01 sheetAligned sheetHandles sheetSound
 sheet = sheet01 ++ (sheetAligned ++ (sheetHandles ++ sheetSound))

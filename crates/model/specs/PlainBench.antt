@@ -58,6 +58,12 @@ plainSheet =
     ∷ shows 16 (zeros 792) ∷ [])
     ∷ []
 
+-- lines that refuse another form of a record soonest, proved beside the definitions; the whole sheet is proved in `bench`
+unfoldable pub plainShort : List PlainEntry
+plainShort =
+    keeps (Idle true 5 258) (bytes8 1 5 2 1 0 0 0 0) ∷ keeps (Idle false 5 258) (bytes8 2 5 2 1 0 0 0 0)
+    ∷ keeps (Live (record { count = 7; disp = 258; size = 66051; align = 1 })) (bytes8 3 7 2 1 3 2 1 0) ∷ []
+
 -- the lines that are so, over an arena and a table room
 unfoldable pub plainPasses : List ℕ → List ℕ → List PlainLine → Bool
 plainPasses a t [] = true

@@ -22,9 +22,10 @@ use Rattle.frames.specs.declared.Located.the-variants.{At, Refused}
 use Rattle.frames.specs.Blocks.{Standing, codeFound, located, CarriedOutBy}
 use Rattle.frames.proofs.Places.{found-holds, reserved-stands}
 use Rattle.frames.proofs.Calls as any
-use Rattle.ops.specs.declared.Reserved.the-variants as reserved
-use Rattle.ops.specs.Blocks.{reservedAs, roomAfter, CarriedOut}
-use Rattle.ops.proofs.Moves.{reserved-place, reserved-none}
+use Rattle.reserving.specs.declared.Reserved.the-variants as reserved
+use Rattle.reserving.specs.Reserves.{reservedAs, roomAfter}
+use Rattle.ops.specs.Blocks.{CarriedOut}
+use Rattle.reserving.proofs.Places.{reserved-place, reserved-none}
 pub use Rattle.frames.proofs.Calls.{release-names, release-done, resize-names}
 
 -- what is lent passed the check

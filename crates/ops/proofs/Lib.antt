@@ -1,4 +1,3 @@
 pub mod Counts
-pub mod Reserving
 pub mod Moves
 pub mod Calls

@@ -1,5 +1,5 @@
--- What is reserved, as a place; and a block that moves, with the totals.
-use Rattle.mem.proofs.Prelude.{_∙_, _≡_, sym, ap, refl, some, none, Option, List, ℕ, min, arith}
+-- A block that moves, with the totals.
+use Rattle.mem.proofs.Prelude.{_∙_, _≡_, sym, ap, some, none, List, ℕ, min}
 use Rattle.mem.specs.Bytes.{put, part}
 use Rattle.classes.specs.Alignments.{Askable}
 use Rattle.model.specs.declared.Refusal.the-variants as refusals
@@ -15,21 +15,8 @@ use Rattle.rows.specs.Rows.{Lent, blockOf, ownedAt, startAt, handleAt, Holds}
 use Rattle.frames.proofs.Places.{held-pool}
 use Rattle.frames.proofs.Moves.{beside, moved-pool, unmoved-pool}
 use Rattle.frames.proofs.Moves as frames
-use Rattle.ops.specs.declared.Reserved.the-variants.{Taken, NoRoom}
-use Rattle.ops.specs.Blocks.{reservedAs, CarriedOut}
-
-module _ (row : ℕ) where
-  pub reserved-place : (o : Option Place) (b : Block) (s : Totals) → reservedAs row o ≡ Taken b s
-      → (q : Place) × (o ≡ some q) × (blockOf row q ≡ b) × (totals row (poolOf q) ≡ s)
-  reserved-place none b s e = let z : _≡_ {A = ℕ} 0 1 = cc in absurd (omega arith)
-  reserved-place (some q) b s e =
-      let h : blockOf row q ≡ b = cc in
-      let k : totals row (poolOf q) ≡ s = cc in
-      (q, refl, h, k)
-
-  pub reserved-none : (o : Option Place) → reservedAs row o ≡ NoRoom → o ≡ none
-  reserved-none none e = refl
-  reserved-none (some q) e = let z : _≡_ {A = ℕ} 0 1 = cc in absurd (omega arith)
+use Rattle.reserving.specs.declared.Reserved.the-variants.{NoRoom}
+use Rattle.ops.specs.Blocks.{CarriedOut}
 
 module _ {row len : ℕ} {t : List ℕ} (r : Lent byMasks row len t) (v n : ℕ) (small : Askable v n) (q : Place)
     (found : reserve row (view row t) v n ≡ some q) {b : Block} {p : Place} (h : Holds byMasks row t b p) where

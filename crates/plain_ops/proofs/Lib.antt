@@ -1,2 +1,1 @@
 pub mod Reserves
-pub mod Idle

@@ -1,9 +1,9 @@
-// What the calls do with a block, over arena and plain tables: reserve a slot, locate a block, give it back, change its size; then, in list.rt, a list.
-// What reads no table of either engine, as header and guard of a block, is in frames and blocks. Read next: plain.
+// What the calls do with a block, over arena and plain tables: reserve a slot, locate a block, give it back, change its size; then, in list.rt, the
+// grants of a list. What reads no table of either engine, as header and guard of a block, is in frames and blocks. Read next: plain.
 mod list;
 
-pub use list::fits;
 pub use list::grant_all;
+pub use plain_survey::fits;
 ghost use mathlib.Core.Path.{_≡_};
 ghost use mathlib.Core.Bool.{true};
 ghost use Prim.Native.Nat.{_<_};
@@ -41,7 +41,7 @@ pub fn reserve_slot(row: usize, len: usize, room: &mut [u8], code: u8, n: usize)
     let Found::At(i) = site_for(row, len, room, c) else {
         return Reserved::NoRoom;
     };
-    Reserved::Taken(plain_tables::take_slot(row, room, i, c, code, n))
+    Reserved::Taken(plain_changes::take_slot(row, room, i, c, code, n))
 }
 
 // "Of the groups of n's class with a slot not live, take the one with the lowest first row."
@@ -59,7 +59,7 @@ fn site_for(row: usize, len: usize, room: &mut [u8], c: usize) -> Found
     let Found::At(i) = rows::find_run(row, len, room, c) else {
         return Found::Nothing;
     };
-    plain_tables::make_group(row, room, i, c);
+    plain_changes::make_group(row, room, i, c);
     Found::At(i)
 }
 
@@ -85,7 +85,7 @@ pub fn discard(row: usize, arena: &mut [u8], room: &mut [u8], b: Block)
     ensures { λ _. ⌜ ((p : Place) → Holds bySlots row (now (room .entry)) b p
         → (now (arena .exit) ≡ written (now (arena .entry)) (releaseAt row p .changes)) × (now (room .exit) ≡ encodeBy bySlots row (releaseAt row p .pool))) ⌝ }
 {
-    if plain_tables::give_slot(row, room, b) {
+    if plain_changes::give_slot(row, room, b) {
         frames::clear_slot(row, arena, b);
         return;
     }
@@ -129,7 +129,7 @@ fn resize_in_place(row: usize, arena: &mut [u8], room: &mut [u8], b: Block, n: u
         kept,
         n,
     );
-    plain_tables::resize_slot(room, b, n);
+    plain_changes::resize_slot(room, b, n);
 }
 
 // "Otherwise a grant of n is made while the old block is live, that many bytes are copied, then the old is released."

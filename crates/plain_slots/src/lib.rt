@@ -1,6 +1,6 @@
 // The second engine, 02 §8: "with a plain record per slot, walked one by one, without masks or stored totals". Here: that record, read and written.
 // It has eight bytes: the slot's condition, its use count, the displacement in two bytes, the requested size in three, 0.
-// In each crate a function stands above those that it calls. Read next: plain_sound.
+// In each crate a function stands above those that it calls. Read next: plain_rules.
 ghost use mathlib.Core.Path.{_≡_};
 ghost use Prim.Native.Nat.{_+_, _*_, _≤_, _<_};
 ghost use lib.ListN.{length, drop};

@@ -1,4 +1,3 @@
 pub mod Laws
 pub mod Turns
 pub mod Lines
-pub mod Sheet

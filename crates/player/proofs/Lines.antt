@@ -16,7 +16,7 @@ use Rattle.model.proofs.Calls.{call-unsound, call-sound, carried-whole}
 use Rattle.text.specs.Decimal.{decimalIn, decimal}
 use Rattle.text.proofs.Laws.{decimal-short}
 use Rattle.trace.specs.Replay.{Line}
-use Rattle.player.specs.Printed.{field, lineText}
+use Rattle.line_text.specs.Lines.{field, lineText}
 
 -- five digits each, and ten of the bytes
 few-short : (s : Totals) → Few s → length (lineText (Line.told (done (listed s)))) ≤ 45

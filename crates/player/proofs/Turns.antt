@@ -11,7 +11,8 @@ use Rattle.trace.specs.declared.Op.{Op}
 use Rattle.trace.specs.declared.Step.{Step}
 use Rattle.trace.specs.Trace.{Item, stepAt, operationOf, itemsBy, itemsFrom, items, traceRight}
 use Rattle.trace.specs.Replay.{Line, performed, lineOf, goOn, linesFrom, replayedOver}
-use Rattle.player.specs.Printed.{lineText, linesText, printed, playedText, isBad}
+use Rattle.line_text.specs.Lines.{lineText, isBad}
+use Rattle.player.specs.Printed.{linesText, printed, playedText}
 
 -- the text of the records from a place on, the first of which is record i
 abbrev pub Rest : List ℕ → KeptBytes → List ℕ → ℕ → ℕ → List ℕ

@@ -1,18 +1,19 @@
-// What the records of a trace do over a lent pool, and the text of their lines (02 §2).
+// What the records of a trace do over a lent pool, and all that a replay prints (02 §2).
 ghost use mathlib.Core.Path.{_≡_};
-ghost use mathlib.Core.List.{[]};
-ghost use Prim.Native.Nat.{_+_, _*_, _≤_};
+ghost use Prim.Native.Nat.{_+_, _≤_};
 ghost use lib.Dec.{leb};
 ghost use lib.ListN.{length};
 ghost use Rattle.io.specs.Counts.{Counts};
-ghost use Rattle.mem.specs.Lists.{choose, join};
+ghost use Rattle.mem.specs.Lists.{choose};
 ghost use Rattle.mem.specs.Bytes.{put};
 ghost use Rattle.classes.specs.Classes.{rowBytes};
 ghost use Rattle.model.specs.Calls.{keptIn};
 ghost use Rattle.trace.specs.Trace.{Within, operationOf};
-ghost use Rattle.trace.specs.Replay.{Line, performed, lineOf};
-ghost use Rattle.player.specs.declared.Told.{Told};
-ghost use Rattle.player.specs.Printed.{field, lineText, printed, playedText, answerOf, isBad, Short};
+ghost use Rattle.trace.specs.Replay.{performed};
+ghost use Rattle.line_text.specs.declared.Told.{Told};
+ghost use Rattle.line_text.specs.Lines.{answerOf, Short};
+ghost use Rattle.player.specs.Printed.{printed, playedText};
+use line_text::Told;
 use model::Answered;
 use model::Reply;
 use model::Report;
@@ -22,13 +23,6 @@ use trace::Step;
 
 // Room for all lines of a trace: a record has three bytes or more, and its line at most 45.
 pub const TEXT: usize = 1048576;
-
-// What a record tells: an answer with one value, a report, or that the record is bad.
-enum Told {
-    One(Reply),
-    Six(Report),
-    Bad,
-}
 
 // What a record tells, and the totals after it.
 struct Played {
@@ -106,90 +100,6 @@ fn perform(arena: &mut [u8], room: &mut [u8], t: Totals, trace: &[u8], op: Op) -
     }
 }
 
-// Writes a space and a number at a place, and gives the place after them.
-fn put_field(out: &mut [u8], at: usize, n: usize) -> usize
-    requires { ⌜ at + 21 ≤ length (now out) ⌝ }
-    ensures { λ r. ⌜ r ≡ at + length (field n) ⌝ }
-    ensures { λ r. ⌜ now (out .exit) ≡ put at (field n) (now (out .entry)) ⌝ }
-    ensures small { λ r. ⌜ r ≤ at + 21 ⌝ }
-{
-    out[at] = b' ';
-    text::put_decimal(out, at + 1, n as u64)
-}
-
-fn put_fields(out: &mut [u8], at: usize, values: &[usize]) -> usize
-    requires { ⌜ at + 21 * length (now values) ≤ length (now out) ⌝ }
-    ensures { λ r. ⌜ r ≡ at + length (join field (now (values .entry))) ⌝ }
-    ensures { λ r. ⌜ now (out .exit) ≡ put at (join field (now (values .entry))) (now (out .entry)) ⌝ }
-    ensures small { λ r. ⌜ r ≤ at + 21 * length (now (values .entry)) ⌝ }
-{
-    let mut end = at;
-    let mut i = 0;
-    while i < values.len() {
-        end = put_field(out, end, values[i]);
-        i += 1;
-    }
-    end
-}
-
-// Writes the line of an answer's number and values.
-fn put_answer(out: &mut [u8], at: usize, number: u32, values: &[usize]) -> usize
-    requires { ⌜ at + (21 + 21 * length (now values)) ≤ length (now out) ⌝ }
-    ensures { λ r. ⌜ r ≡ at + length (lineText (Line.told (record { number = number; values = now (values .entry); lent = [] }))) ⌝ }
-    ensures { λ r. ⌜ now (out .exit)
-        ≡ put at (lineText (Line.told (record { number = number; values = now (values .entry); lent = [] }))) (now (out .entry)) ⌝ }
-    ensures small { λ r. ⌜ r ≤ at + (21 + 21 * length (now (values .entry))) ⌝ }
-{
-    let told = text::put_decimal(out, at, number as u64);
-    let end = put_fields(out, told, values);
-    out[end] = b'\n';
-    end + 1
-}
-
-// Writes the line of a bad record.
-fn put_bad(out: &mut [u8], at: usize, count: usize) -> usize
-    requires { ⌜ at + 25 ≤ length (now out) ⌝ }
-    ensures { λ r. ⌜ r ≡ at + length (lineText (Line.bad count)) ⌝ }
-    ensures { λ r. ⌜ now (out .exit) ≡ put at (lineText (Line.bad count)) (now (out .entry)) ⌝ }
-    ensures small { λ r. ⌜ r ≤ at + 25 ⌝ }
-{
-    mem::copy_in(out, at, b"bad");
-    let end = put_field(out, at + 3, count);
-    out[end] = b'\n';
-    end + 1
-}
-
-// Writes the line of a record at a place, and gives the place after it.
-fn put_line(out: &mut [u8], at: usize, count: usize, told: Told) -> usize
-    requires { ⌜ (at + 150 ≤ length (now out)) × Short told ⌝ }
-    ensures { λ r. ⌜ r ≡ at + length (lineText (lineOf count (answerOf told))) ⌝ }
-    ensures { λ r. ⌜ now (out .exit) ≡ put at (lineText (lineOf count (answerOf told))) (now (out .entry)) ⌝ }
-    ensures small { λ r. ⌜ r ≤ at + 45 ⌝ }
-{
-    match told {
-        Told::One(r) => {
-            let values = [answers::value_of(r)];
-            put_answer(out, at, answers::number_of(r), &values)
-        }
-        Told::Six(r) => {
-            let values = answers::report_values(r);
-            put_answer(out, at, answers::report_number(r), &values)
-        }
-        Told::Bad => put_bad(out, at, count),
-    }
-}
-
-// Whether a record is bad, and so the last.
-fn is_bad(told: Told) -> bool
-    ensures { λ r. ⌜ r ≡ isBad (answerOf told) ⌝ }
-{
-    match told {
-        Told::One(_) => false,
-        Told::Six(_) => false,
-        Told::Bad => true,
-    }
-}
-
 // Performs the records behind the version byte, one after the other, and writes their lines.
 fn play(arena: &mut [u8], room: &mut [u8], t: Totals, trace: &[u8], out: &mut [u8]) -> usize
     requires { ⌜ (1 ≤ length (now trace)) × (length (now trace) ≤ 65535) × (1048576 ≤ length (now out)) ⌝ }
@@ -206,15 +116,15 @@ fn play(arena: &mut [u8], room: &mut [u8], t: Totals, trace: &[u8], out: &mut [u
             Step::Record(op, next) => {
                 let p = perform(arena, room, kept, trace, op);
                 let told = p.told;
-                end = put_line(out, end, count, told);
-                if is_bad(told) {
+                end = line_text::put_line(out, end, count, told);
+                if line_text::is_bad(told) {
                     return end;
                 }
                 kept = p.totals;
                 at = next;
                 count += 1;
             }
-            Step::Bad => return put_bad(out, end, count),
+            Step::Bad => return line_text::put_bad(out, end, count),
             Step::End => return end,
         }
     }
@@ -233,7 +143,7 @@ pub fn replay(
     ensures { λ r. ⌜ Counts r (now (out .exit)) ⌝ }
 {
     if !trace::readable(trace) {
-        return put_bad(out, 0, 0);
+        return line_text::put_bad(out, 0, 0);
     }
     let made = pool::set_up(arena, room, t);
     let totals = made.totals;

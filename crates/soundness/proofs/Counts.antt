@@ -21,7 +21,7 @@ use Rattle.rows.specs.Counts.{countedIf, groupTotals}
 use Rattle.rows.proofs.Counts.{counted-if, not-counted}
 use Rattle.soundness.specs.Checks.{membersChecked}
 use Rattle.soundness.specs.Counts.{masksTotals}
-use Rattle.soundness.proofs.Laws.{group-length}
+use Rattle.soundness.proofs.Groups.{group-length}
 
 -- ---- the slots of a group
 

@@ -1,3 +1,3 @@
+pub mod Short
 pub mod Laws
-pub mod Sheet
 pub mod Written

@@ -73,6 +73,17 @@ sheet =
     (gives 16 ∷ told (done (1 ∷ 0 ∷ 1 ∷ 31 ∷ 30 ∷ 0 ∷ [])) ∷ bad 3 ∷ [])
     ∷ []
 
+-- one trace that refuses a wrong definition soonest: a store up to the arena's end, a resize of 131,072 bytes, a store one byte past the end. It
+-- is proved beside the definitions; the whole sheet is proved in `bench`
+unfoldable pub sheetShort : List Entry
+sheetShort =
+    bytes (1 ∷ 0 ∷ 6 ∷ 5 ∷ 0 ∷ 0 ∷ 63 ∷ 255 ∷ 7 ∷ 0 ∷ 9 ∷ 3 ∷ 0 ∷ 0 ∷ 0 ∷ 0 ∷ 0 ∷ 2 ∷ 0 ∷ 0 ∷ 0 ∷ 7 ∷ 5 ∷ 0 ∷ 0 ∷ 63 ∷ 255 ∷ 7 ∷ 8 ∷ [])
+    (gives 0 ∷ refuses 3 ∷ bad 3 ∷ [])
+    ∷ []
+
 -- the lines of every trace are those due
 abbrev pub LinesDue : Type 0
 LinesDue = map (λ e. replayed (e .trace)) sheet ≡ map (λ e. e .due) sheet
+
+abbrev pub ShortDue : Type 0
+ShortDue = map (λ e. replayed (e .trace)) sheetShort ≡ map (λ e. e .due) sheetShort

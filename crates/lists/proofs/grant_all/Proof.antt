@@ -12,7 +12,7 @@ use Rattle.model.proofs.Lists.{small-at}
 use Rattle.rows.proofs.Rooms.{by-masks}
 use Rattle.rows.specs.Rows.{NoneOpen}
 use Rattle.rows.proofs.Walks.{open-start}
-use Rattle.ops.specs.Blocks.{roomAfter}
+use Rattle.reserving.specs.Reserves.{roomAfter}
 use Rattle.frames.specs.Grants.{granted, handleOr, arenaAfter}
 use Rattle.lists.specs.Grants.{firstOr, totalsOr}
 use Rattle.frames.proofs.Grants.{ToGo, one-further, all-done}

@@ -6,7 +6,7 @@ use Rattle.model.proofs.Reserve.{plain}
 use Rattle.model.specs.Tables.{byMasks, view}
 use Rattle.rows.specs.Rows.{Lent}
 use Rattle.rows.proofs.Rooms.{by-masks}
-use Rattle.ops.proofs.Moves.{reserved-none}
+use Rattle.reserving.proofs.Places.{reserved-none}
 use Rattle.frames.specs.Grants.{handleOr, arenaAfter}
 use Rattle.lists.specs.Grants.{firstOr, totalsOr}
 use Rattle.lists.proofs.Grants.{GrantedOne, granted-one}

@@ -8,10 +8,11 @@ use Rattle.model.specs.Tables.{byMasks, view, sound, encode}
 use Rattle.rows.specs.Rows.{Lent, blockOf, startAt, Holds}
 use Rattle.rows.proofs.Rooms.{by-masks}
 use Rattle.frames.specs.Blocks.{Standing}
-use Rattle.ops.specs.Blocks.{roomAfter}
+use Rattle.reserving.specs.Reserves.{roomAfter}
 use Rattle.frames.proofs.Places.{held-stands}
 use Rattle.frames.proofs.Moves.{reserve-leaves, beside, beside-holds, copy-apart, taken-size}
-use Rattle.ops.proofs.Moves.{reserved-place, reserved-none, moved, moved-nowhere}
+use Rattle.reserving.proofs.Places.{reserved-place, reserved-none}
+use Rattle.ops.proofs.Moves.{moved, moved-nowhere}
 use Rattle.ops.proofs.resize_by_move.Statement.{statement}
 use Rattle.ops.proofs.resize_by_move.Tie as tie
 

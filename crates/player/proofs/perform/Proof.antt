@@ -15,9 +15,9 @@ use Rattle.model.proofs.Calls.{LeftAsIs, measure-keeps, report-keeps}
 use Rattle.trace.specs.declared.Op.{Op}
 use Rattle.trace.specs.Trace.{Within, operationOf}
 use Rattle.trace.specs.Replay.{Line, Effect, effect, performed}
-use Rattle.player.specs.declared.Told.{Told}
+use Rattle.line_text.specs.declared.Told.{Told}
 use Rattle.player.specs.declared.Played.{Played}
-use Rattle.player.specs.Printed.{lineText, answerOf, Short}
+use Rattle.line_text.specs.Lines.{lineText, answerOf, Short}
 use Rattle.player.proofs.Laws.{Parts, of-call, of-store}
 use Rattle.player.proofs.Lines.{report-short}
 use Rattle.player.proofs.perform.Statement.{statement}

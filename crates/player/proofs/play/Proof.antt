@@ -5,8 +5,9 @@ use Rattle.model.specs.Calls.{keptIn}
 use Rattle.trace.specs.Trace.{Within}
 use Rattle.trace.specs.Replay.{Line, lineOf}
 use Rattle.trace.proofs.Laws.{step-within}
-use Rattle.player.specs.Printed.{lineText, playedText, answerOf}
-use Rattle.player.proofs.Laws.{Left, left-all, left-step, left-none}
+use Rattle.line_text.specs.Lines.{lineText, answerOf}
+use Rattle.player.specs.Printed.{playedText}
+use Rattle.line_text.proofs.Laws.{Left, left-all, left-step, left-none}
 use Rattle.player.proofs.Turns.{Rest, Behind, all-left, last-one, goes-on, turn-end, turn-bad, turn}
 use Rattle.player.proofs.play.Statement.{statement}
 use Rattle.player.proofs.play.Tie as tie

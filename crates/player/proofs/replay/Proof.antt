@@ -5,7 +5,8 @@ use Rattle.mem.proofs.Laws.{put-length}
 use Rattle.io.proofs.Counting.{counts}
 use Rattle.model.specs.Calls.{keptIn}
 use Rattle.trace.specs.Replay.{Line}
-use Rattle.player.specs.Printed.{lineText, printed, playedText}
+use Rattle.line_text.specs.Lines.{lineText}
+use Rattle.player.specs.Printed.{printed, playedText}
 use Rattle.trace.proofs.Laws.{right-length}
 use Rattle.player.proofs.Turns.{printed-bad, printed-played}
 use Rattle.player.proofs.replay.Statement.{statement}

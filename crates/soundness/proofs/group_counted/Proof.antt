@@ -8,7 +8,7 @@ use Rattle.classes.proofs.Laws.{few-bytes}
 use Rattle.model.specs.Tables.{rowAt, byMasks}
 use Rattle.rows.specs.Checks.{groupChecked}
 use Rattle.soundness.specs.Checks.{membersChecked}
-use Rattle.soundness.proofs.Laws.{group-law}
+use Rattle.soundness.proofs.Groups.{group-law}
 use Rattle.soundness.proofs.group_counted.Statement.{statement}
 use Rattle.soundness.proofs.group_counted.Tie as tie
 

@@ -6,7 +6,7 @@ use Rattle.model.specs.Tables.{viewGroup}
 use Rattle.rows.specs.declared.Counted.the-variants.{Sound, Unsound}
 use Rattle.soundness.specs.Checks.{membersChecked}
 use Rattle.rows.specs.Counts.{groupTotals}
-use Rattle.soundness.proofs.Laws.{members-law, slots-few}
+use Rattle.soundness.proofs.Groups.{members-law, slots-few}
 use Rattle.soundness.proofs.Counts.{members-totals}
 use Rattle.soundness.proofs.members_counted.Statement.{statement}
 use Rattle.soundness.proofs.members_counted.Tie as tie

@@ -3,7 +3,7 @@ use Rattle.mem.proofs.Prelude.{_∙_, _≡_, sym, ap, Bool, _&&_, and-assoc, an
 use lib.Bits.{bitOr}
 use Rattle.mem.specs.Bytes.{zeros, same, part}
 use Rattle.mem.proofs.Tests.{or-none}
-use Rattle.soundness.proofs.Records.{rest-turn, rest-end}
+use Rattle.soundness.proofs.Groups.{rest-turn, rest-end}
 use Rattle.soundness.proofs.rest_zero.Statement.{statement}
 use Rattle.soundness.proofs.rest_zero.Tie as tie
 

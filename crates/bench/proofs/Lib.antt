@@ -1,0 +1,3 @@
+pub mod Bench
+pub mod PlainBench
+pub mod Traces
