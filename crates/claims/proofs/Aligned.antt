@@ -111,7 +111,7 @@ pub aligned-as-said : (row : ℕ) → 0 < row → (F : Form) → FormLaws row F 
 unfolding plan
 aligned-as-said row pos F L a t n b z =
     on-aligned row pos P (λ p. p .answer .number ≡ 0 → callBy row F a t asks ≡ applied F a p → (q : Place) × GrantedAligned row F a t n b q)
-    (λ r z. absurd (refuses r z)) n b (λ q h e _ l. (q, said q h e l)) (ap (λ (r : Outcome (F .Room)). r .answer .number) (sym (y .left)) ∙ z) (y .left)
+    (λ r z. absurd (refuses r z)) n b (λ q h e _ l. (q, said q h e l)) (ap (λ (r : Outcome (F .Kept)). r .answer .number) (sym (y .left)) ∙ z) (y .left)
   where
     P : Pool
     P = F .view t

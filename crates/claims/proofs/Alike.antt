@@ -33,7 +33,7 @@ module _ (row : ℕ) (pos : 0 < row) where
   watched a P [] = []
   watched a P (u ∷ us) =
       let o = step row (stored a (u .stores)) P (u .asks) in
-      record { answer = o .answer; arena = o .arena } ∷ watched (o .arena) (o .room) us
+      record { answer = o .answer; arena = o .arena } ∷ watched (o .arena) (o .kept) us
 
   run-watched : (F : Form) → FormLaws row F → (n : ℕ) (a : List ℕ) (P : Pool) (us : List Round) → length a ≡ n → Stands row n P
       → seen row F a (F .encode P) us ≡ watched a P us
@@ -45,21 +45,21 @@ module _ (row : ℕ) (pos : 0 < row) where
       let k : Standing row pos n b l P s (step row b P (u .asks)) = step-stands row pos n b l P s (u .asks) in
       let c : callBy row F b (F .encode P) (u .asks) ≡ inRoom row F (step row b P (u .asks)) =
       call-step row F L b P (subst (λ m. Stands row m P) (sym l) s) (u .asks) in
-      ap (λ (r : Outcome (F .Room)). record { answer = r .answer; arena = r .arena } ∷ seen row F (r .arena) (r .room) us) c
+      ap (λ (r : Outcome (F .Kept)). record { answer = r .answer; arena = r .arena } ∷ seen row F (r .arena) (r .kept) us) c
       ∙ ap (λ (vs : List Seen). record { answer = step row b P (u .asks) .answer; arena = step row b P (u .asks) .arena } ∷ vs)
-      (run-watched F L n (step row b P (u .asks) .arena) (step row b P (u .asks) .room) us (k .long) (k .stands))
+      (run-watched F L n (step row b P (u .asks) .arena) (step row b P (u .asks) .kept) us (k .long) (k .stands))
 
   -- from a set up of an arena of n bytes on
   abbrev watchedFresh : ℕ → List Round → List Seen
   watchedFresh n us = record { answer = done (0 ∷ []); arena = zeros n } ∷ watched (zeros n) (freshPool (n / row)) us
 
-  set-up-watched : (F : Form) → FormLaws row F → (a : List ℕ) (t : F .Room) (us : List Round) → callBy row F a t setsUp .answer .number ≡ 0
+  set-up-watched : (F : Form) → FormLaws row F → (a : List ℕ) (t : F .Kept) (us : List Round) → callBy row F a t setsUp .answer .number ≡ 0
       → seenFresh row F a t us ≡ watchedFresh (length a) us
   unfolding callBy
   set-up-watched F L a t us z =
       let h : T (setUpRightBy row F a t) = set-up-accepted row pos F L a t z in
       let s : Stands row (length a) (freshPool (length a / row)) = fresh-stands row (length a) (set-up-lawful row F a t h) in
-      ap (λ (r : Outcome (F .Room)). record { answer = r .answer; arena = r .arena } ∷ seen row F (r .arena) (r .room) us) (set-up-done row F a t h)
+      ap (λ (r : Outcome (F .Kept)). record { answer = r .answer; arena = r .arena } ∷ seen row F (r .arena) (r .kept) us) (set-up-done row F a t h)
       ∙ ap (λ (vs : List Seen). record { answer = done (0 ∷ []); arena = zeros (length a) } ∷ vs)
       (run-watched F L (length a) (zeros (length a)) (freshPool (length a / row)) us (zeros-length (length a)) s)
 

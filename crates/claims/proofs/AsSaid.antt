@@ -53,37 +53,37 @@ sets-up-as-planned row pos F L a t s =
     ap zeros (w .long) ∙ sym (put-all (zeros (row * rows row P)) a (zeros-length (row * rows row P) ∙ sym (w .long))) in
     let q : length a / row ≡ rows row P = ap (λ n. n / row) (w .long) ∙ mul-div-cancel-left (rows row P) pos in
     set-up-done row F a t (and-both (arenaRight row (length a)) _ (w .lawful) f)
-    ∙ ap₂ (λ b n. record { answer = done (0 ∷ []); arena = b; room = F .encode (freshPool n) }) z q
+    ∙ ap₂ (λ b n. record { answer = done (0 ∷ []); arena = b; kept = F .encode (freshPool n) }) z q
 
 -- ---- measure and report
 
 pub reads-only : (row : ℕ) → 0 < row → (F : Form) → FormLaws row F → ReadsOnly row F
 reads-only row pos F L = record {
-  measured = λ a t h. let k = measure-keeps row F L a t h in record { arena = k .arena; room = k .room };
-  reported = λ a t. let k = report-keeps row F L a t in record { arena = k .arena; room = k .room };
+  measured = λ a t h. let k = measure-keeps row F L a t h in record { arena = k .arena; kept = k .kept };
+  reported = λ a t. let k = report-keeps row F L a t in record { arena = k .arena; kept = k .kept };
 }
 
 pub reports-as-said : (row : ℕ) (F : Form) → ReportsAsSaid row F
 unfolding plan report
 reports-as-said row F a t s =
-    ap (λ (r : Outcome (F .Room)). r .answer)
+    ap (λ (r : Outcome (F .Kept)). r .answer)
     (call-sound row F a t (T-true (F .sound (length a) t) s) reports tt ∙ carried-whole row F a t (report row (F .view t)) refl)
 
 -- ---- release
 
 module _ (row : ℕ) (pos : 0 < row) (F : Form) (L : FormLaws row F) (a : List ℕ) (p : Place) (w : T (wellFormed (poolOf p)))
-    (l : T (isLive (p .state))) (r : Outcome (F .Room))
+    (l : T (isLive (p .state))) (r : Outcome (F .Kept))
     (done : r ≡ applied F a (releaseAt row p)) where
   -- what the plan of a live block's release leaves
   pub released-as-said : Waits row F a p r ⊎ Goes row F a p r
   unfolding releaseAt
   released-as-said =
-      choose-case (λ (q : Plan). F .view (r .room) ≡ q .pool → r .arena ≡ written a (q .changes) → Waits row F a p r ⊎ Goes row F a p r)
+      choose-case (λ (q : Plan). F .view (r .kept) ≡ q .pool → r .arena ≡ written a (q .changes) → Waits row F a p r ⊎ Goes row F a p r)
       (any isLive (p .lower ++ p .upper)) _ _
       (λ e v x. inl (record { other-live = true-T (any isLive (p .lower ++ p .upper)) e; pool = v; bytes = zeroed a (r .arena) _ _ x }))
       (λ e v x. inr (record { none-live = every-not isLive (p .lower ++ p .upper) e; pool = v; bytes = zeroed a (r .arena) _ _ x }))
-      (ap (λ (r : Outcome (F .Room)). F .view (r .room)) done ∙ L .says (releaseAt row p .pool) (release-formed row p w l .formed))
-      (ap (λ (r : Outcome (F .Room)). r .arena) done)
+      (ap (λ (r : Outcome (F .Kept)). F .view (r .kept)) done ∙ L .says (releaseAt row p .pool) (release-formed row p w l .formed))
+      (ap (λ (r : Outcome (F .Kept)). r .arena) done)
 
 -- the plan of a call on the live block of a handle
 module _ (row : ℕ) (pos : 0 < row) (P : Pool) (w : T (wellFormed P)) (a : List ℕ) (h : ℕ) (p : Place) (i : demand2.Intact row a P h p) where
@@ -104,7 +104,7 @@ releases-as-said row pos F L a t h z =
       p,
       record {
         block = i;
-        value = ap (λ (r : Outcome (F .Room)). r .answer .values) l ∙ ap (λ r. r .values) (release-parts row p .1);
+        value = ap (λ (r : Outcome (F .Kept)). r .answer .values) l ∙ ap (λ r. r .values) (release-parts row p .1);
         left = released-as-said row pos F L a p (place-formed row pos (F .view t) w a h p i) (i .live .live) (callBy row F a t (releases h)) l;
       },
     )

@@ -14,7 +14,7 @@ use Rattle.model.proofs.Calls.{call-sound, same-room}
 use Rattle.claims.specs.Bench.{TooLargeAnywhere}
 
 -- on sound tables
-too-large : (row : ℕ) (F : Form) → FormLaws row F → (a : List ℕ) (t : F .Room) → F .sound (length a) t ≡ true
+too-large : (row : ℕ) (F : Form) → FormLaws row F → (a : List ℕ) (t : F .Kept) → F .sound (length a) t ≡ true
     → callBy row F a t (grants 131052) ≡ keeps (refusal TooLarge) a t
 unfolding carriedBy unless plan grantAs tooLarge choose
 too-large row F L a t s = call-sound row F a t s (grants 131052) tt ∙ ap (keeps (refusal TooLarge) a) (same-room row F a t s L)

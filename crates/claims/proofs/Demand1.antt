@@ -107,11 +107,11 @@ module _ (row : ℕ) (pos : 0 < row) (P : Pool) (h : ℕ) where
 gives-one : (c : Call) → valuesOf c ≡ 1 → RefusedValues c (0 ∷ [])
 gives-one c v = one-zero {c = c} (λ e. omega (arith, v, ap valuesOf e))
 
-module _ (row : ℕ) (pos : 0 < row) (F : Form) (L : FormLaws row F) (a : List ℕ) (t : F .Room) where
+module _ (row : ℕ) (pos : 0 < row) (F : Form) (L : FormLaws row F) (a : List ℕ) (t : F .Kept) where
   -- what is claimed of a call, of the reasons that are left to test and a result
-  record Right (c : Call) (rs : List Reason) (r : Outcome (F .Room)) : Type 0 where
+  record Right (c : Call) (rs : List Reason) (r : Outcome (F .Kept)) : Type 0 where
     number : FirstDue rs (r .answer .number)
-    refused : (r .answer .number ≡ 0 → ⊥) → (r .arena ≡ a) × (r .room ≡ t) × RefusedValues c (r .answer .values) × (r .answer .lent ≡ [])
+    refused : (r .answer .number ≡ 0 → ⊥) → (r .arena ≡ a) × (r .kept ≡ t) × RefusedValues c (r .answer .values) × (r .answer .lent ≡ [])
 
   abbrev P : Pool
   P = F .view t
@@ -122,15 +122,15 @@ module _ (row : ℕ) (pos : 0 < row) (F : Form) (L : FormLaws row F) (a : List �
 
   module _ (c : Call) where
     -- no reason is left
-    done-right : (r : Outcome (F .Room)) → r .answer .number ≡ 0 → Right c [] r
+    done-right : (r : Outcome (F .Kept)) → r .answer .number ≡ 0 → Right c [] r
     done-right r e = record { number = e; refused = λ n. absurd (n e) }
 
     -- a reason that is not due is passed by
-    later-right : {d : Reason} {rs : List Reason} {r : Outcome (F .Room)} → (d .due → ⊥) → Right c rs r → Right c (d ∷ rs) r
+    later-right : {d : Reason} {rs : List Reason} {r : Outcome (F .Kept)} → (d .due → ⊥) → Right c rs r → Right c (d ∷ rs) r
     later-right n s = record { number = inr (n, s .number); refused = s .refused }
 
     -- one that is due is given
-    due-right : {d : Reason} {rs : List Reason} {vs : List ℕ} {u : F .Room} → RefusedValues c vs → u ≡ t → d .due
+    due-right : {d : Reason} {rs : List Reason} {vs : List ℕ} {u : F .Kept} → RefusedValues c vs → u ≡ t → d .due
         → Right c (d ∷ rs) (keeps (record { number = numberOf (d .refusal); values = vs; lent = [] }) a u)
     due-right v e x = record { number = inl (refl, x); refused = λ n. (refl, e, v, refl) }
 

@@ -65,7 +65,7 @@ due-none (r ∷ rs) k (inr (_, d)) n = due-none rs k d (n .1)
 
 -- ---- accepted calls
 
-module _ (row : ℕ) (pos : 0 < row) (F : Form) (L : FormLaws row F) (a : List ℕ) (t : F .Room) where
+module _ (row : ℕ) (pos : 0 < row) (F : Form) (L : FormLaws row F) (a : List ℕ) (t : F .Kept) where
   -- an accepted call but set up: its plan is carried out on sound tables
   pub record Accepted (c : Call) : Type 0 where
     pub sound-tables : T (F .sound (length a) t)
@@ -98,8 +98,8 @@ module _ (row : ℕ) (pos : 0 < row) (F : Form) (L : FormLaws row F) (a : List �
   set-up-accepted z = unrefuted (setUpRightBy row F a t) (none-due (reasons row F a t setsUp) _ (demand1 row pos F L a t setsUp .number) z .0)
 
   -- its tables are sound for the arena that it was given, and it leaves one of the same length
-  pub record Leaves (r : Outcome (F .Room)) : Type 0 where
-    pub tables : T (F .sound (length a) (r .room))
+  pub record Leaves (r : Outcome (F .Kept)) : Type 0 where
+    pub tables : T (F .sound (length a) (r .kept))
     pub long : length (r .arena) ≡ length a
 
   -- on sound tables, whether it is accepted or not
@@ -109,7 +109,7 @@ module _ (row : ℕ) (pos : 0 < row) (F : Form) (L : FormLaws row F) (a : List �
       let (s, e) = L .only (length a) t h in
       let k : Standing row pos (length a) a refl P s (step row a P c) = step-stands row pos (length a) a refl P s c in
       subst Leaves (sym (ap (λ u. callBy row F a u c) e ∙ call-step row F L a P s c))
-      (record { tables = L .right (length a) (step row a P c .room) (k .stands); long = k .long })
+      (record { tables = L .right (length a) (step row a P c .kept) (k .stands); long = k .long })
 
   leaves : (c : Call) → callBy row F a t c .answer .number ≡ 0 → Leaves (callBy row F a t c)
   unfolding callBy
@@ -123,11 +123,11 @@ module _ (row : ℕ) (pos : 0 < row) (F : Form) (L : FormLaws row F) (a : List �
 pub leaves-sound : (row : ℕ) → 0 < row → (F : Form) → FormLaws row F → LeavesSound row F
 leaves-sound row pos F L a t c z =
     let l : Leaves row pos F L a t (callBy row F a t c) = leaves row pos F L a t c z in
-    subst (λ n. T (F .sound n (callBy row F a t c .room))) (sym (l .long)) (l .tables)
+    subst (λ n. T (F .sound n (callBy row F a t c .kept))) (sym (l .long)) (l .tables)
 
 -- ---- the blocks that release and measure accept
 
-module _ (row : ℕ) (pos : 0 < row) (F : Form) (L : FormLaws row F) (a : List ℕ) (t : F .Room) (s : T (F .sound (length a) t)) where
+module _ (row : ℕ) (pos : 0 < row) (F : Form) (L : FormLaws row F) (a : List ℕ) (t : F .Kept) (s : T (F .sound (length a) t)) where
   abbrev P : Pool
   P = F .view t
 
@@ -248,7 +248,7 @@ refilled ss = record {
 -- ---- what a grant leaves
 
 -- a block that a call grants with the code k is where and what document 01 says
-module _ (row : ℕ) (pos : 0 < row) (F : Form) (L : FormLaws row F) (a : List ℕ) (t : F .Room) (asks : Call) (k n : ℕ) where
+module _ (row : ℕ) (pos : 0 < row) (F : Form) (L : FormLaws row F) (a : List ℕ) (t : F .Kept) (asks : Call) (k n : ℕ) where
   abbrev S : Pool
   S = F .view t
 
@@ -297,7 +297,7 @@ module _ (row : ℕ) (pos : 0 < row) (F : Form) (L : FormLaws row F) (a : List �
           live = record {
             here = record {
               slotted = record {
-                pool = sym (ap (λ r. F .view (r .room)) l ∙ L .says (poolOf q) (made .formed));
+                pool = sym (ap (λ r. F .view (r .kept)) l ∙ L .says (poolOf q) (made .formed));
                 granted-once = live-granted (q .state) live;
               };
               starts = sym (start-cleared row (whole-units row (length a) (y .lawful)) q);
@@ -319,7 +319,7 @@ grants-as-said row pos F L a t n z =
     (λ p. p .answer .number ≡ 0 → callBy row F a t (grants n) ≡ applied F a p → (q : Place) × GrantedBy row F a t (grants n) ordinary n (classOf n) q)
     (λ r z. absurd (refuses r z)) ordinary n (lit≤ tt) (lit≤ tt)
     (λ q h e _ l. (q, granted-by row pos F L a t (grants n) ordinary n (L .only (length a) t (y .sound-tables) .0) q h e l))
-    (ap (λ (r : Outcome (F .Room)). r .answer .number) (sym (y .left)) ∙ z) (y .left)
+    (ap (λ (r : Outcome (F .Kept)). r .answer .number) (sym (y .left)) ∙ z) (y .left)
 
 -- ---- live blocks never share a byte
 

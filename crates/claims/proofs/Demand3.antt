@@ -49,9 +49,9 @@ module _ (row : ℕ) (pos : 0 < row) (F : Form) (L : FormLaws row F) where
   -- ---- one run
 
   -- it shows what the model shows, and leaves an arena that agrees with the model's tables
-  record Follows (P : Pool) (a : List ℕ) (t : F .Room) (us : List Turn) : Type 0 where
+  record Follows (P : Pool) (a : List ℕ) (t : F .Kept) (us : List Turn) : Type 0 where
     answers : ran row F a t us .answers ≡ model row P (calls us) .answers
-    tables : ran row F a t us .room ≡ F .encode (model row P (calls us) .pool)
+    tables : ran row F a t us .kept ≡ F .encode (model row P (calls us) .pool)
     counted : reported row F (ran row F a t us) ≡ done (listed (totals row (model row P (calls us) .pool)))
     cleared : AllCleared row F P a t us
     formed : T (wellFormed (model row P (calls us) .pool))
@@ -63,7 +63,7 @@ module _ (row : ℕ) (pos : 0 < row) (F : Form) (L : FormLaws row F) where
   follows P a [] w k h g t = record {
     answers = refl;
     tables = refl;
-    counted = ap (λ (r : Outcome (F .Room)). r .answer) (call-follows P w k a h g reports);
+    counted = ap (λ (r : Outcome (F .Kept)). r .answer) (call-follows P w k a h g reports);
     cleared = tt;
     formed = w;
     agrees = g;
@@ -83,15 +83,15 @@ module _ (row : ℕ) (pos : 0 < row) (F : Form) (L : FormLaws row F) where
       let e : callBy row F b (F .encode P) c ≡ applied F b p = call-follows P w k b h₁ g₁ c in
       let r : Follows (p .pool) x (F .encode (p .pool)) us =
       follows (p .pool) x us (m .formed) (m .bounds (whole-units row (length a) h) k) (subst (λ n. T (arenaRight row n)) l h₁) g₂
-      (subst (λ r. EngineOnly row F (p .pool) (r .arena) (r .room) us) e (t .1)) in
+      (subst (λ r. EngineOnly row F (p .pool) (r .arena) (r .kept) us) e (t .1)) in
       record {
         answers = rw e (ap (λ l. p .answer ∷ l) (r .answers));
-        tables = ap (λ (z : Outcome (F .Room)). ran row F (z .arena) (z .room) us .room) e ∙ r .tables;
-        counted = ap (λ (z : Outcome (F .Room)). reported row F (ran row F (z .arena) (z .room) us)) e ∙ r .counted;
+        tables = ap (λ (z : Outcome (F .Kept)). ran row F (z .arena) (z .kept) us .kept) e ∙ r .tables;
+        counted = ap (λ (z : Outcome (F .Kept)). reported row F (ran row F (z .arena) (z .kept) us)) e ∙ r .counted;
         cleared = rw e (d .cleared, r .cleared);
         formed = r .formed;
         agrees =
-            subst (λ (z : Outcome (F .Room)). Agrees (cells row (model row (p .pool) (calls us) .pool)) (ran row F (z .arena) (z .room) us .arena)) (sym e)
+            subst (λ (z : Outcome (F .Kept)). Agrees (cells row (model row (p .pool) (calls us) .pool)) (ran row F (z .arena) (z .kept) us .arena)) (sym e)
             (r .agrees);
       }
 
@@ -105,37 +105,37 @@ module _ (row : ℕ) (pos : 0 < row) (F : Form) (L : FormLaws row F) where
       ap (λ k. let m = model row (freshPool k) cs in record { answers = done (0 ∷ []) ∷ m .answers; pool = m .pool }) (fresh-rows row (n / row))
 
   -- what a run shows, and that it leaves an arena that agrees with the model's tables
-  record Shows (a : List ℕ) (t : F .Room) (us : List Turn) : Type 0 where
+  record Shows (a : List ℕ) (t : F .Kept) (us : List Turn) : Type 0 where
     modelled : AsModelled row F a t us
     formed : T (wellFormed (modelFresh row (length a) (calls us) .pool))
     agrees : Agrees (cells row (modelFresh row (length a) (calls us) .pool)) (ranFresh row F a t us .arena)
 
-  run-shows : (a : List ℕ) (t : F .Room) (us : List Turn) → Run row F a t us → Shows a t us
+  run-shows : (a : List ℕ) (t : F .Kept) (us : List Turn) → Run row F a t us → Shows a t us
   unfolding callBy
   run-shows a t us r =
       let P : Pool = fed row (length a) in
       let h : T (setUpRightBy row F a t) = set-up-accepted row pos F L a t (r .set-up) in
       let k : row * (length a / row) ≡ length a = whole-rows row (length a) (set-up-lawful row F a t h) in
-      let d : callBy row F a t setsUp ≡ record { answer = done (0 ∷ []); arena = zeros (length a); room = F .encode P } = set-up-done row F a t h in
+      let d : callBy row F a t setsUp ≡ record { answer = done (0 ∷ []); arena = zeros (length a); kept = F .encode P } = set-up-done row F a t h in
       let f : Follows P (zeros (length a)) (F .encode P) us =
       follows P (zeros (length a)) us (fresh-formed (length a / row)) (all-fresh row (length a / row))
       (rw (zeros-length (length a)) (set-up-lawful row F a t h))
       (subst (λ n. Agrees (cells row P) (zeros n)) k (fresh-agrees row pos (length a / row)))
-      (subst (λ (z : Outcome (F .Room)). EngineOnly row F P (z .arena) (z .room) us) d (r .engine-only)) in
+      (subst (λ (z : Outcome (F .Kept)). EngineOnly row F P (z .arena) (z .kept) us) d (r .engine-only)) in
       let m : record { answers = done (0 ∷ []) ∷ model row P (calls us) .answers; pool = model row P (calls us) .pool } ≡ modelFresh row (length a) (calls us) =
       sym (model-fresh (length a) (calls us)) in
       record {
         modelled = record {
-          answers = ap (λ (z : Outcome (F .Room)). z .answer ∷ ran row F (z .arena) (z .room) us .answers) d
+          answers = ap (λ (z : Outcome (F .Kept)). z .answer ∷ ran row F (z .arena) (z .kept) us .answers) d
               ∙ ap (λ l. done (0 ∷ []) ∷ l) (f .answers) ∙ ap (λ m. m .answers) m;
-          tables = ap (λ (z : Outcome (F .Room)). ran row F (z .arena) (z .room) us .room) d ∙ f .tables ∙ ap (λ m. F .encode (m .pool)) m;
-          counted = ap (λ (z : Outcome (F .Room)). reported row F (ran row F (z .arena) (z .room) us)) d ∙ f .counted
+          tables = ap (λ (z : Outcome (F .Kept)). ran row F (z .arena) (z .kept) us .kept) d ∙ f .tables ∙ ap (λ m. F .encode (m .pool)) m;
+          counted = ap (λ (z : Outcome (F .Kept)). reported row F (ran row F (z .arena) (z .kept) us)) d ∙ f .counted
               ∙ ap (λ m. done (listed (totals row (m .pool)))) m;
-          cleared = subst (λ (z : Outcome (F .Room)). AllCleared row F P (z .arena) (z .room) us) (sym d) (f .cleared);
+          cleared = subst (λ (z : Outcome (F .Kept)). AllCleared row F P (z .arena) (z .kept) us) (sym d) (f .cleared);
         };
         formed = subst (λ m. T (wellFormed (m .pool))) m (f .formed);
         agrees = subst (λ m. Agrees (cells row (m .pool)) (ranFresh row F a t us .arena)) m
-            (subst (λ (z : Outcome (F .Room)). Agrees (cells row (model row P (calls us) .pool)) (ran row F (z .arena) (z .room) us .arena)) (sym d)
+            (subst (λ (z : Outcome (F .Kept)). Agrees (cells row (model row P (calls us) .pool)) (ran row F (z .arena) (z .kept) us .arena)) (sym d)
             (f .agrees));
       }
 

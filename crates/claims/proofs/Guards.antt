@@ -103,7 +103,7 @@ module _ (row : ℕ) (pos : 0 < row) (a : List ℕ) (p : Place) (w : T (wellForm
   )
 
 -- a place in sound tables
-module _ (row : ℕ) (F : Form) (L : FormLaws row F) (a : List ℕ) (t : F .Room) (p : Place) (s : T (F .sound (length a) t)) (e : poolOf p ≡ F .view t) where
+module _ (row : ℕ) (F : Form) (L : FormLaws row F) (a : List ℕ) (t : F .Kept) (p : Place) (s : T (F .sound (length a) t)) (e : poolOf p ≡ F .view t) where
   formed : T (wellFormed (poolOf p))
   formed = subst (λ P. T (wellFormed P)) (sym e) (L .only (length a) t s .0 .formed)
 

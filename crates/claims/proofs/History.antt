@@ -25,7 +25,7 @@ use Rattle.model.proofs.Reserve.{Served, served, reserve-size}
 use Rattle.model.proofs.Formed.{any-middle, plan-formed}
 use Rattle.model.proofs.Calls.{Asks}
 use Rattle.model.proofs.Moves.{Old, old, old-released}
-use Rattle.claims.specs.History.{LedgerBlock, Ledger, opening, without, enteredGrant, enteredEach, entered, Asked, booked, kept, Balances, Tells, History}
+use Rattle.claims.specs.History.{LedgerBlock, Ledger, opening, without, enteredGrant, enteredEach, entered, Asked, booked, booksAfter, Balances, Tells, History}
 use Rattle.model.proofs.Handles.{same-start, stays-handle}
 use Rattle.claims.proofs.Cases.{reserve-live, taken-same, refuses, by-call, Named, on-named, on-grant, on-aligned, on-resize}
 use Rattle.claims.proofs.Demand1.{demand1}
@@ -359,11 +359,11 @@ total-weigh row g f h r (group c ss ∷ P) = ap₂ (λ j k. j + k) (slots 0 ss) 
 
 module _ (row : ℕ) (pos : 0 < row) (F : Form) (L : FormLaws row F) (n : ℕ) where
   -- tables that are sound for an arena of n bytes, with the blocks of a ledger
-  record Kept (l : Ledger) (t : F .Room) : Type 0 where
+  record Kept (l : Ledger) (t : F .Kept) : Type 0 where
     tables : T (F .sound n t)
     tallies : Tallies row l (F .view t)
 
-  kept-counts : (l : Ledger) (t : F .Room) → Kept l t → Balances row l (totals row (F .view t)) n
+  kept-counts : (l : Ledger) (t : F .Kept) → Kept l t → Balances row l (totals row (F .view t)) n
   unfolding totals weight choose
   kept-counts l t k =
       let P : Pool = F .view t in
@@ -382,21 +382,21 @@ module _ (row : ℕ) (pos : 0 < row) (F : Form) (L : FormLaws row F) (n : ℕ) w
       live-size b (Live a) = refl
 
   -- an accepted set up
-  fresh-kept : (a : List ℕ) (t : F .Room) → T (setUpRightBy row F a t) → length a ≡ n → Kept opening (setUpBy row F a t .room)
+  fresh-kept : (a : List ℕ) (t : F .Kept) → T (setUpRightBy row F a t) → length a ≡ n → Kept opening (setUpBy row F a t .kept)
   fresh-kept a t h e =
       let Q : Pool = freshPool (length a / row) in
-      subst (λ (r : Outcome (F .Room)). Kept opening (r .room)) (sym (set-up-done row F a t h)) (record {
+      subst (λ (r : Outcome (F .Kept)). Kept opening (r .kept)) (sym (set-up-done row F a t h)) (record {
         tables = subst (λ m. T (F .sound m (F .encode Q))) e (set-up-sound row F a t h L);
         tallies = subst (Tallies row opening) (sym (L .says Q (fresh-formed (length a / row)))) (fresh-tallies row (length a / row));
       })
 
   -- one call, over whatever arena
-  module _ (l : Ledger) (a : List ℕ) (t : F .Room) (k : Kept l t) where
+  module _ (l : Ledger) (a : List ℕ) (t : F .Kept) (k : Kept l t) where
     s : Stands row n (F .view t)
     s = L .only n t (k .tables) .0
 
     abbrev Keeps : Call → Type 0
-    Keeps c = callBy row F a t c .answer .number ≡ 0 → Kept (entered l c (callBy row F a t c .answer)) (callBy row F a t c .room)
+    Keeps c = callBy row F a t c .answer .number ≡ 0 → Kept (entered l c (callBy row F a t c .answer)) (callBy row F a t c .kept)
 
     -- a call but set up is accepted only over an arena of n bytes
     asks-kept : (c : Call) → Asks c → Keeps c
@@ -406,13 +406,13 @@ module _ (row : ℕ) (pos : 0 < row) (F : Form) (L : FormLaws row F) (n : ℕ) w
         let e : length a ≡ n = L .only (length a) t (y .sound-tables) .0 .long ∙ sym (s .long) in
         let p : Plan = plan row P c in
         record {
-          tables = subst (λ m. T (F .sound m (callBy row F a t c .room))) e (sound-leaves row pos F L a t (y .sound-tables) c .tables);
+          tables = subst (λ m. T (F .sound m (callBy row F a t c .kept))) e (sound-leaves row pos F L a t (y .sound-tables) c .tables);
           tallies =
-              subst (λ (r : Outcome (F .Room)). Tallies row (entered l c (r .answer)) (F .view (r .room))) (sym (y .left))
+              subst (λ (r : Outcome (F .Kept)). Tallies row (entered l c (r .answer)) (F .view (r .kept))) (sym (y .left))
               (subst (Tallies row (entered l c (p .answer)))
               (sym (L .says (p .pool) (plan-formed row pos P c (s .formed) .formed)))
               (plan-enters row pos (whole-units row n (s .lawful)) P (s .formed) l (k .tallies) c
-              (ap (λ (r : Outcome (F .Room)). r .answer .number) (sym (y .left)) ∙ z)));
+              (ap (λ (r : Outcome (F .Kept)). r .answer .number) (sym (y .left)) ∙ z)));
         }
 
     -- a set up too, since what is lent tells the arena's length
@@ -424,19 +424,19 @@ module _ (row : ℕ) (pos : 0 < row) (F : Form) (L : FormLaws row F) (n : ℕ) w
         let f : T (F .fits (length a) (F .encode (F .view t))) = subst (λ u. T (F .fits (length a) u)) e (search and-right) in
         fresh-kept a t h (L .sized n (length a) (F .view t) s (set-up-lawful row F a t h) f)
 
-    call-kept : (c : Call) → Kept (booked l c (callBy row F a t c .answer)) (callBy row F a t c .room)
+    call-kept : (c : Call) → Kept (booked l c (callBy row F a t c .answer)) (callBy row F a t c .kept)
     call-kept c =
-        choose-case (λ m. Kept m (callBy row F a t c .room)) (eqb (callBy row F a t c .answer .number) 0) _ _
+        choose-case (λ m. Kept m (callBy row F a t c .kept)) (eqb (callBy row F a t c .answer .number) 0) _ _
         (λ e. by-call Keeps set-up-kept asks-kept c (eqb-true (callBy row F a t c .answer .number) 0 e))
         (λ e. subst (Kept l) (sym (demand1 row pos F L a t c .refused (eqb-false (callBy row F a t c .answer .number) 0 e) .1)) k)
 
-  calls-kept : (l : Ledger) (t : F .Room) (cs : List Asked) → Kept l t → Kept (kept row F l t cs .ledger) (kept row F l t cs .room)
-  unfolding kept
+  calls-kept : (l : Ledger) (t : F .Kept) (cs : List Asked) → Kept l t → Kept (booksAfter row F l t cs .ledger) (booksAfter row F l t cs .kept)
+  unfolding booksAfter
   calls-kept l t [] k = k
-  calls-kept l t (c ∷ cs) k = calls-kept _ (callBy row F (c .arena) t (c .asks) .room) cs (call-kept l (c .arena) t k (c .asks))
+  calls-kept l t (c ∷ cs) k = calls-kept _ (callBy row F (c .arena) t (c .asks) .kept) cs (call-kept l (c .arena) t k (c .asks))
 
   -- what report gives over an arena of n bytes
-  kept-told : (b : List ℕ) → length b ≡ n → (l : Ledger) (t : F .Room) → Kept l t → Tells row F b (record { ledger = l; room = t }) n
+  kept-told : (b : List ℕ) → length b ≡ n → (l : Ledger) (t : F .Kept) → Kept l t → Tells row F b (record { ledger = l; kept = t }) n
   kept-told b e l t k = record {
     totals = totals row (F .view t);
     given = reports-as-said row F b t (subst (λ m. T (F .sound m t)) (sym e) (k .tables));
@@ -445,12 +445,12 @@ module _ (row : ℕ) (pos : 0 < row) (F : Form) (L : FormLaws row F) (n : ℕ) w
 
 -- what is lent after any calls from an accepted set up on
 module _ (row : ℕ) (pos : 0 < row) (F : Form) (L : FormLaws row F) where
-  run-kept : (a : List ℕ) (t : F .Room) (cs : List Asked) → T (setUpRightBy row F a t) → (let k = kept row F opening (setUpBy row F a t .room) cs in
-      Kept row pos F L (length a) (k .ledger) (k .room))
-  run-kept a t cs h = calls-kept row pos F L (length a) opening (setUpBy row F a t .room) cs (fresh-kept row pos F L (length a) a t h refl)
+  run-kept : (a : List ℕ) (t : F .Kept) (cs : List Asked) → T (setUpRightBy row F a t) → (let k = booksAfter row F opening (setUpBy row F a t .kept) cs in
+      Kept row pos F L (length a) (k .ledger) (k .kept))
+  run-kept a t cs h = calls-kept row pos F L (length a) opening (setUpBy row F a t .kept) cs (fresh-kept row pos F L (length a) a t h refl)
 
-  pub history-sound : (a : List ℕ) (t : F .Room) (cs : List Asked) → T (setUpRightBy row F a t)
-      → T (F .sound (length a) (kept row F opening (setUpBy row F a t .room) cs .room))
+  pub history-sound : (a : List ℕ) (t : F .Kept) (cs : List Asked) → T (setUpRightBy row F a t)
+      → T (F .sound (length a) (booksAfter row F opening (setUpBy row F a t .kept) cs .kept))
   history-sound a t cs h = run-kept a t cs h .tables
 
   pub history : History row F

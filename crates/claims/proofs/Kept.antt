@@ -76,13 +76,13 @@ resizes-keep-alignment row pos F L a t h n z =
     let P : Pool = F .view t in
     let s : Stands row (length a) P = L .only (length a) t (y .sound-tables) .0 in
     let k : Keeps row P h (resize row P h n) =
-    resize-aligns row pos P (s .formed) (whole-units row (length a) (s .lawful)) h n (ap (λ (r : Outcome (F .Room)). r .answer .number) (sym (y .left)) ∙ z) in
+    resize-aligns row pos P (s .formed) (whole-units row (length a) (s .lawful)) h n (ap (λ (r : Outcome (F .Kept)). r .answer .number) (sym (y .left)) ∙ z) in
     record {
       old = k .old;
       was = k .was;
       new = k .new;
       given = k .given;
-      value = ap (λ (r : Outcome (F .Room)). r .answer .values) (y .left) ∙ k .value;
+      value = ap (λ (r : Outcome (F .Kept)). r .answer .values) (y .left) ∙ k .value;
       is = subst (λ Q. LiveAt row Q (startOf (k .given)) (k .new)) (sym (accepted-pool row pos F L a t (resizes h n) y)) (k .is);
       same = k .same;
     }

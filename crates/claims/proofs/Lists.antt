@@ -108,13 +108,13 @@ none-eight (v ∷ vs) t = none-eight vs t
 
 module _ (row : ℕ) (F : Form) where
   -- what grants one after the other come to from a pool P, by the places that they take
-  abbrev Granting : Pool → List ℕ → F .Room → List ℕ → Option (List Place) → Type 0
+  abbrev Granting : Pool → List ℕ → F .Kept → List ℕ → Option (List Place) → Type 0
   Granting P a t ns none = T (any eight (granting row F a t ns .answers))
   Granting P a t ns (some qs) =
       (granting row F a t ns .answers ≡ map (λ h. done (h ∷ [])) (map (handle row) qs))
-      × (granting row F a t ns .arena ≡ written a (map (enframe row) qs)) × (granting row F a t ns .room ≡ F .encode (poolAfter P qs))
+      × (granting row F a t ns .arena ≡ written a (map (enframe row) qs)) × (granting row F a t ns .kept ≡ F .encode (poolAfter P qs))
 
-  module _ (a : List ℕ) (t : F .Room) (n : ℕ) (s : F .sound (length a) t ≡ true) (h : n < tooLarge) where
+  module _ (a : List ℕ) (t : F .Kept) (n : ℕ) (s : F .sound (length a) t ≡ true) (h : n < tooLarge) where
     granted-call : (o : Option Place) → reserve row (F .view t) ordinary n ≡ o
         → callBy row F a t (grants n) ≡ carriedBy row F a t (grantAt row (F .view t) o)
     unfolding plan grantAs
@@ -127,10 +127,10 @@ module _ (row : ℕ) (F : Form) where
     taken-call q e = granted-call (some q) e ∙ carried-whole row F a t (grantAt row (F .view t) (some q)) refl
 
     full-call : reserve row (F .view t) ordinary n ≡ none → callBy row F a t (grants n) .answer ≡ refusal NoRoom
-    full-call e = ap (λ (r : Outcome (F .Room)). r .answer) (granted-call none e ∙ carried-whole row F a t (grantAt row (F .view t) none) refl)
+    full-call e = ap (λ (r : Outcome (F .Kept)). r .answer) (granted-call none e ∙ carried-whole row F a t (grantAt row (F .view t) none) refl)
 
   module _ (pos : 0 < row) (L : FormLaws row F) where
-    grantings : (P : Pool) (a : List ℕ) (t : F .Room) (ns : List ℕ) → F .view t ≡ P → F .sound (length a) t ≡ true → T (small ns)
+    grantings : (P : Pool) (a : List ℕ) (t : F .Kept) (ns : List ℕ) → F .view t ≡ P → F .sound (length a) t ≡ true → T (small ns)
         → Granting P a t ns (reserveAll row P ns)
     unfolding granting reserveAll enframe
     grantings P a t [] v s h = (refl, refl, sym (same-room row F a t s L) ∙ ap (F .encode) v)
@@ -140,18 +140,18 @@ module _ (row : ℕ) (F : Form) where
         small-n = small-first n ns h
 
         Later : Type 0
-        Later = (Q : Pool) (b : List ℕ) (u : F .Room) → F .view u ≡ Q → F .sound (length b) u ≡ true → T (small ns)
+        Later = (Q : Pool) (b : List ℕ) (u : F .Kept) → F .view u ≡ Q → F .sound (length b) u ≡ true → T (small ns)
             → Granting Q b u ns (reserveAll row Q ns)
 
         lift : (q : Place) → callBy row F a t (grants n) ≡ applied F a (grantAt row (F .view t) (some q))
             → (o : Option (List Place)) → Granting (poolOf q) (write a (enframe row q)) (F .encode (poolOf q)) ns o
             → Granting P a t (n ∷ ns) (placed q o)
         lift q c none k =
-            subst (λ (r : Outcome (F .Room)). T (eight (r .answer) || any eight (granting row F (r .arena) (r .room) ns .answers))) (sym c) k
+            subst (λ (r : Outcome (F .Kept)). T (eight (r .answer) || any eight (granting row F (r .arena) (r .kept) ns .answers))) (sym c) k
         lift q c (some qs) k = (
-          ap (λ (r : Outcome (F .Room)). r .answer ∷ granting row F (r .arena) (r .room) ns .answers) c ∙ ap (λ l. done (handle row q ∷ []) ∷ l) (k .0),
-          ap (λ (r : Outcome (F .Room)). granting row F (r .arena) (r .room) ns .arena) c ∙ k .1,
-          ap (λ (r : Outcome (F .Room)). granting row F (r .arena) (r .room) ns .room) c ∙ k .2,
+          ap (λ (r : Outcome (F .Kept)). r .answer ∷ granting row F (r .arena) (r .kept) ns .answers) c ∙ ap (λ l. done (handle row q ∷ []) ∷ l) (k .0),
+          ap (λ (r : Outcome (F .Kept)). granting row F (r .arena) (r .kept) ns .arena) c ∙ k .1,
+          ap (λ (r : Outcome (F .Kept)). granting row F (r .arena) (r .kept) ns .kept) c ∙ k .2,
         )
 
         next : (q : Place) → reserve row P ordinary n ≡ some q → Later → Granting P a t (n ∷ ns) (placed q (reserveAll row (poolOf q) ns))
@@ -175,8 +175,8 @@ module _ (row : ℕ) (F : Form) where
 
         go : (o : Option Place) → reserve row P ordinary n ≡ o → Later → Granting P a t (n ∷ ns) (placedBy o (λ q. reserveAll row (poolOf q) ns))
         go none e k =
-            let o : Outcome (F .Room) = callBy row F a t (grants n) in
-            subst (λ (r : Answer). T (eight r || any eight (granting row F (o .arena) (o .room) ns .answers)))
+            let o : Outcome (F .Kept) = callBy row F a t (grants n) in
+            subst (λ (r : Answer). T (eight r || any eight (granting row F (o .arena) (o .kept) ns .answers)))
             (sym (full-call a t n s small-n (ap (λ P. reserve row P ordinary n) v ∙ e))) tt
         go (some q) e k = next q e k
 
@@ -186,7 +186,7 @@ module _ (row : ℕ) (F : Form) where
         let c = grantsList total cap places ns in
         let y : Accepted row pos F L a t c = accepted row pos F L a t c tt z in
         let M : Plan → Type 0 = λ p. p .answer .number ≡ 0 → AsGrants row F ns (applied F a p) (granting row F a t ns) in
-        subst (λ (r : Outcome (F .Room)). AsGrants row F ns r (granting row F a t ns)) (sym (y .left))
+        subst (λ (r : Outcome (F .Kept)). AsGrants row F ns r (granting row F a t ns)) (sym (y .left))
         (on-list row M (F .view t) total cap places ns (λ r e. absurd (refuses r e))
         (λ qs h e _.
         let s = T-true (F .sound (length a) t) (y .sound-tables) in
@@ -196,9 +196,9 @@ module _ (row : ℕ) (F : Form) where
           entries = ap (λ k. k ∷ []) (places-counted row (F .view t) ns qs w h e);
           handles = g .0;
           arena = sym (g .1);
-          room = sym (g .2);
+          kept = sym (g .2);
         })
-        (ap (λ (r : Outcome (F .Room)). r .answer .number) (sym (y .left)) ∙ z))
+        (ap (λ (r : Outcome (F .Kept)). r .answer .number) (sym (y .left)) ∙ z))
 
     pub lists-exactly : ListsExactly row F
     unfolding plan grantList entries
@@ -219,10 +219,10 @@ module _ (row : ℕ) (F : Form) where
         by-places : (o : Option (List Place)) → reserveAll row P ns ≡ o
             → (callBy row F a t (grantsList total cap places ns) .answer .number ≡ 8) ↔ T (any eight (granting row F a t ns .answers))
         by-places none e =
-            let n = ap (λ (r : Outcome (F .Room)). r .answer .number) (whole none e ∙ carried-whole row F a t (grantAllAt row P none) refl) in
+            let n = ap (λ (r : Outcome (F .Kept)). r .answer .number) (whole none e ∙ carried-whole row F a t (grantAllAt row P none) refl) in
             let g = subst (Granting P a t ns) e (grantings P a t ns refl (T-true (F .sound (length a) t) s) (accepts-small total cap ns k)) in
             ((λ _. g), λ _. n)
         by-places (some qs) e =
-            let n = ap (λ (r : Outcome (F .Room)). r .answer .number) (whole (some qs) e ∙ carried-whole row F a t (grantAllAt row P (some qs)) refl) in
+            let n = ap (λ (r : Outcome (F .Kept)). r .answer .number) (whole (some qs) e ∙ carried-whole row F a t (grantAllAt row P (some qs)) refl) in
             let g = subst (Granting P a t ns) e (grantings P a t ns refl (T-true (F .sound (length a) t) s) (accepts-small total cap ns k)) in
             ((λ x. absurd (omega (arith, n, x))), λ x. absurd (none-eight (map (handle row) qs) (subst (λ l. T (any eight l)) (g .0) x)))

@@ -6,7 +6,7 @@ use Rattle.model.specs.Tables.{sound}
 use Rattle.model.specs.Calls.{KeptBytes, Result, engine, soundKept, setUp, call, callBy}
 use Rattle.model.proofs.Fresh.{fresh-totals, set-up-done}
 use Rattle.model.proofs.Kept.{kept-right, kept-sound, kept-totals, engine-lawful}
-use Rattle.claims.specs.History.{opening, kept}
+use Rattle.claims.specs.History.{opening, booksAfter}
 use Rattle.claims.specs.Record.{SoundExactly, RecordsFresh, ReportsRecord, HistoryRecorded, KeepsRecord}
 use Rattle.claims.proofs.Demand2.{set-up-accepted, leaves-sound}
 use Rattle.claims.proofs.AsSaid.{reports-as-said}
@@ -21,7 +21,7 @@ sound-exactly row n t = (
 pub records-fresh : (row : ℕ) → 0 < row → RecordsFresh row
 unfolding callBy
 records-fresh row pos a t z =
-    ap (λ (r : Result). r .room .totals) (set-up-done row (engine row) a t (set-up-accepted row pos (engine row) (engine-lawful row pos) a t z))
+    ap (λ (r : Result). r .kept .totals) (set-up-done row (engine row) a t (set-up-accepted row pos (engine row) (engine-lawful row pos) a t z))
     ∙ fresh-totals row _
 
 pub reports-record : (row : ℕ) → ReportsRecord row
@@ -30,11 +30,11 @@ reports-record row a t s =
 
 pub history-recorded : (row : ℕ) → 0 < row → HistoryRecorded row
 history-recorded row pos a t cs b h e =
-    let r : KeptBytes = kept row (engine row) opening (setUp row a t .room) cs .room in
+    let r : KeptBytes = booksAfter row (engine row) opening (setUp row a t .kept) cs .kept in
     reports-record row b r (subst (λ n. T (soundKept row n r)) (sym e) (history-sound row pos (engine row) (engine-lawful row pos) a t cs h))
 
 pub keeps-record : (row : ℕ) → 0 < row → KeepsRecord row
 keeps-record row pos a t c z =
     let r : Result = call row a t c in
-    kept-totals row (length (r .arena)) (r .room)
-    (T-true (soundKept row (length (r .arena)) (r .room)) (leaves-sound row pos (engine row) (engine-lawful row pos) a t c z))
+    kept-totals row (length (r .arena)) (r .kept)
+    (T-true (soundKept row (length (r .arena)) (r .kept)) (leaves-sound row pos (engine row) (engine-lawful row pos) a t c z))

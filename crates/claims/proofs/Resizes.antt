@@ -143,19 +143,19 @@ module _ (row : ℕ) (pos : 0 < row) (a : List ℕ) (n : ℕ) (p : Place) (w : T
       bare x s h o k n r m j b i e f = omega arith
 
   in-place-as-said : (F : Form) → FormLaws row F → (P : Pool) (h : ℕ) → demand2.Intact row a P h p
-      → (z : Outcome (F .Room)) → z ≡ applied F a (resizeInPlace row p n) → InPlace row F a h n p z
+      → (z : Outcome (F .Kept)) → z ≡ applied F a (resizeInPlace row p n) → InPlace row F a h n p z
   unfolding resizeInPlace
   in-place-as-said F L P h b z e =
-      let x : z .arena ≡ reframed = ap (λ (r : Outcome (F .Room)). r .arena) e in
-      let y : F .view (z .room) ≡ poolOf (sized p n) =
-      ap (λ (r : Outcome (F .Room)). F .view (r .room)) e
+      let x : z .arena ≡ reframed = ap (λ (r : Outcome (F .Kept)). r .arena) e in
+      let y : F .view (z .kept) ≡ poolOf (sized p n) =
+      ap (λ (r : Outcome (F .Kept)). F .view (r .kept)) e
       ∙ L .says (poolOf (sized p n)) (resize-in-place-formed row p n w (b .live .live) (asked .small) t .formed) in
       record {
         serves = serves;
-        value = ap (λ (r : Outcome (F .Room)). r .answer .values) e ∙ ap (λ v. v ∷ []) (b .present);
+        value = ap (λ (r : Outcome (F .Kept)). r .answer .values) e ∙ ap (λ v. v ∷ []) (b .present);
         pool = y;
         long = ap length x ∙ put-length (o + k) tail headed ∙ put-length (o - 4) head a;
-        kept = λ i b.
+        stays = λ i b.
             ap (λ b. getD b (o + i) 0) x ∙ put-before (o + k) tail headed (o + i) 0 (omega arith)
             ∙ put-past (o - 4) head a (o + i) 0 (omega (arith, header-length c (slotNumber p) d n));
         zero = λ i b u s.
@@ -288,7 +288,7 @@ module _ (row : ℕ) (pos : 0 < row) (P : Pool) (w : T (wellFormed P)) (a : List
         → callBy row F copy (F .encode (poolOf q)) (releases h) ≡ applied F copy (releaseAt row (beside .place))
     unfolding plan
     release-done m b =
-        let u : F .Room = F .encode (poolOf q) in
+        let u : F .Kept = F .encode (poolOf q) in
         let x : T (F .sound (length copy) u) =
         L .right (length copy) (poolOf q) (record {
           lawful = subst (λ m. T (arenaRight row m)) (sym copy-length) m;
@@ -302,7 +302,7 @@ module _ (row : ℕ) (pos : 0 < row) (P : Pool) (w : T (wellFormed P)) (a : List
         ∙ carried-whole row F copy u (releaseAt row (beside .place)) (ap (damaged row copy) (release-parts row (beside .place) .0) ∙ old-whole)
 
     -- no byte of the new block is cleared by it
-    new-kept : (r : Outcome (F .Room)) → Waits row F copy (beside .place) r ⊎ Goes row F copy (beside .place) r → (j : ℕ) → Owns row q j
+    new-kept : (r : Outcome (F .Kept)) → Waits row F copy (beside .place) r ⊎ Goes row F copy (beside .place) r → (j : ℕ) → Owns row q j
         → getD (r .arena) j 0 ≡ getD copy j 0
     new-kept r (inl v) j o =
         let e : owned row (beside .place) ≡ owned row p = slot-owned row p (beside .place) (beside .stays .slot) in
@@ -314,27 +314,27 @@ module _ (row : ℕ) (pos : 0 < row) (P : Pool) (w : T (wellFormed P)) (a : List
         (reserve-live row P code n q (served row P code n q w found)) o (g .none-live))
 
     -- the grant, the copy and the release make the move
-    moved : (g z : Outcome (F .Room)) → g ≡ applied F a (grantAt row P (some q)) → T (arenaRight row (length a)) → T (aligned row P)
+    moved : (g z : Outcome (F .Kept)) → g ≡ applied F a (grantAt row P (some q)) → T (arenaRight row (length a)) → T (aligned row P)
         → inPlace p n ≡ false → z ≡ applied F a (moveTo row P p n (some q)) → MovedBy row F a h n p g z
     unfolding enframe
     moved g z e m b f l =
-        let r : Outcome (F .Room) = callBy row F copy (F .encode (poolOf q)) (releases h) in
+        let r : Outcome (F .Kept) = callBy row F copy (F .encode (poolOf q)) (releases h) in
         let x : r ≡ applied F copy (releaseAt row (beside .place)) = release-done m b in
         let v : startOf (handle row q) ≡ start row q = start-cleared row (whole-units row (length a) m) q in
-        let G : Outcome (F .Room) = applied F a (grantAt row P (some q)) in
+        let G : Outcome (F .Kept) = applied F a (grantAt row P (some q)) in
         let y : z .arena ≡ r .arena =
-        ap (λ (r : Outcome (F .Room)). r .arena) l ∙ ap (λ (d : Plan). written copy (d .changes)) discarded-old
-        ∙ sym (ap (λ (r : Outcome (F .Room)). r .arena) x) in
-        subst (λ (g : Outcome (F .Room)). MovedBy row F a h n p g z) (sym e)
+        ap (λ (r : Outcome (F .Kept)). r .arena) l ∙ ap (λ (d : Plan). written copy (d .changes)) discarded-old
+        ∙ sym (ap (λ (r : Outcome (F .Kept)). r .arena) x) in
+        subst (λ (g : Outcome (F .Kept)). MovedBy row F a h n p g z) (sym e)
         (subst (λ s. Moved row F a h n p G (handle row q) (put s first laid) z) (sym v) (record {
           serves-not = λ v. subst T f (in-place-serves p n (asked .some-code) .1 v);
           granted = refl;
-          answer = ap (λ (r : Outcome (F .Room)). r .answer) l;
-          released = ap (λ (r : Outcome (F .Room)). r .answer .number) x ∙ ap (λ r. r .number) (release-parts row (beside .place) .1);
+          answer = ap (λ (r : Outcome (F .Kept)). r .answer) l;
+          released = ap (λ (r : Outcome (F .Kept)). r .answer .number) x ∙ ap (λ r. r .number) (release-parts row (beside .place) .1);
           arena = y;
-          room = ap (λ (r : Outcome (F .Room)). r .room) l ∙ ap (λ (d : Plan). F .encode (d .pool)) discarded-old
-              ∙ sym (ap (λ (r : Outcome (F .Room)). r .room) x);
-          kept = λ j k.
+          kept = ap (λ (r : Outcome (F .Kept)). r .kept) l ∙ ap (λ (d : Plan). F .encode (d .pool)) discarded-old
+              ∙ sym (ap (λ (r : Outcome (F .Kept)). r .kept) x);
+          stays = λ j k.
               ap (λ s. getD (z .arena) (s + j) 0) v ∙ ap (λ b. getD b (start row q + j) 0) y
               ∙ new-kept r (released-as-said row pos F L copy (beside .place) (beside .formed) (beside .live) r x) (start row q + j) (new-owns j k)
               ∙ copy-there j k;
@@ -349,7 +349,7 @@ aligned-as row P k n s l =
     let e : codeOf (alignOf k) ≡ k = code-align k s l in
     choose-true (ltb 0 (codeOf (alignOf k))) _ _ (lt-ltb 0 (codeOf (alignOf k)) (omega (arith, e))) ∙ ap (λ j. grantAs row P j n) e
 
-module _ (row : ℕ) (pos : 0 < row) (F : Form) (L : FormLaws row F) (a : List ℕ) (t : F .Room) (sound : T (F .sound (length a) t)) (n : ℕ) (p : Place)
+module _ (row : ℕ) (pos : 0 < row) (F : Form) (L : FormLaws row F) (a : List ℕ) (t : F .Kept) (sound : T (F .sound (length a) t)) (n : ℕ) (p : Place)
     (asked : Askable (align (p .state)) n) where
   abbrev P : Pool
   P = F .view t
@@ -372,7 +372,7 @@ module _ (row : ℕ) (pos : 0 < row) (F : Form) (L : FormLaws row F) (a : List �
       ∙ carried-whole row F a t (grantAt row P (some q)) refl
 
   -- a resize that was done, of the block p
-  resized-as-said : (h : ℕ) → demand2.Intact row a P h p → (z : Outcome (F .Room)) → z .answer .number ≡ 0
+  resized-as-said : (h : ℕ) → demand2.Intact row a P h p → (z : Outcome (F .Kept)) → z .answer .number ≡ 0
       → z ≡ applied F a (resizeAt row P n p) → InPlace row F a h n p z ⊎ MovedBy row F a h n p (callBy row F a t asks) z
   unfolding resizeAt resizeMove
   resized-as-said h i z d l =
@@ -386,7 +386,7 @@ module _ (row : ℕ) (pos : 0 < row) (F : Form) (L : FormLaws row F) (a : List �
       M = MovedBy row F a h n p (callBy row F a t asks) z
 
       go : inPlace p n ≡ false → (r : Option Place) → reserve row P (align (p .state)) n ≡ r → z ≡ applied F a (moveTo row P p n r) → M
-      go e none f l = absurd (omega (arith, d, ap (λ (r : Outcome (F .Room)). r .answer .number) l))
+      go e none f l = absurd (omega (arith, d, ap (λ (r : Outcome (F .Kept)). r .answer .number) l))
       go e (some q) f l =
           moved row pos P (s .formed) a (s .long) n p asked q f h i F L (callBy row F a t asks) z (grant-done q f) (s .lawful) (s .bounds) e l
 

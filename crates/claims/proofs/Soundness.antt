@@ -54,8 +54,8 @@ arenas-as-said n = (
 )
 
 -- set up takes a room by its length
-pub sets-up-exactly : (row : ℕ) → 0 < row → (F : Form) → FormLaws row F → (bytes : F .Room → List ℕ)
-    → ((n : ℕ) (t : F .Room) → F .fits n t ≡ eqb (length (bytes t)) (roomBytes (n / row))) → SetsUpExactly row F bytes
+pub sets-up-exactly : (row : ℕ) → 0 < row → (F : Form) → FormLaws row F → (bytes : F .Kept → List ℕ)
+    → ((n : ℕ) (t : F .Kept) → F .fits n t ≡ eqb (length (bytes t)) (roomBytes (n / row))) → SetsUpExactly row F bytes
 unfolding callBy setUpRightBy roomBytes
 sets-up-exactly row pos F L bytes fits a t = (
   λ z.
@@ -65,7 +65,7 @@ sets-up-exactly row pos F L bytes fits a t = (
       ),
   λ (r, l).
       let f : T (F .fits (length a) t) = subst T (sym (fits (length a) t)) (eq→eqb (length (bytes t)) (16 + 264 * (length a / row)) l) in
-      ap (λ (z : Outcome (F .Room)). z .answer .number)
+      ap (λ (z : Outcome (F .Kept)). z .answer .number)
       (set-up-done row F a t (and-both (arenaRight row (length a)) _ (arena-rules row (length a) .1 r) f)),
 )
 

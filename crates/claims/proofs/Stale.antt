@@ -36,27 +36,27 @@ starts-cleared row F L n t p s e = start-cleared row (whole-units row n (L .only
 
 module _ (row : ℕ) (pos : 0 < row) (F : Form) (L : FormLaws row F) where
   -- a refused call leaves it, a set up makes a fresh one, and any other leaves that of its plan
-  after-call : (a : List ℕ) (t : F .Room) (M : Call → Pool → Type 0) → ((c : Call) → M c (F .view t)) → ((n : ℕ) → M setsUp (freshPool n))
-      → ((c : Call) → Asks c → M c (plan row (F .view t) c .pool)) → (c : Call) → M c (F .view (callBy row F a t c .room))
+  after-call : (a : List ℕ) (t : F .Kept) (M : Call → Pool → Type 0) → ((c : Call) → M c (F .view t)) → ((n : ℕ) → M setsUp (freshPool n))
+      → ((c : Call) → Asks c → M c (plan row (F .view t) c .pool)) → (c : Call) → M c (F .view (callBy row F a t c .kept))
   after-call a t M as-is fresh planned c = go (eqb (callBy row F a t c .answer .number) 0) refl
     where
-      go : (b : Bool) → eqb (callBy row F a t c .answer .number) 0 ≡ b → M c (F .view (callBy row F a t c .room))
+      go : (b : Bool) → eqb (callBy row F a t c .answer .number) 0 ≡ b → M c (F .view (callBy row F a t c .kept))
       go true e =
-          by-call (λ c. callBy row F a t c .answer .number ≡ 0 → M c (F .view (callBy row F a t c .room)))
+          by-call (λ c. callBy row F a t c .answer .number ≡ 0 → M c (F .view (callBy row F a t c .kept)))
           (λ z. subst (M setsUp) (sym (sets-up-as-said row pos F L a t z .pool)) (fresh (length a / row)))
           (λ c k z. subst (M c) (sym (accepted-pool row pos F L a t c (accepted row pos F L a t c k z))) (planned c k)) c
           (eqb-true (callBy row F a t c .answer .number) 0 e)
       go false e =
-          subst (λ (u : F .Room). M c (F .view u))
+          subst (λ (u : F .Kept). M c (F .view u))
           (sym (demand1 row pos F L a t c .refused (eqb-false (callBy row F a t c .answer .number) 0 e) .1)) (as-is c)
 
-  call-formed : (a : List ℕ) (t : F .Room) (c : Call) → T (wellFormed (F .view t)) → T (wellFormed (F .view (callBy row F a t c .room)))
+  call-formed : (a : List ℕ) (t : F .Kept) (c : Call) → T (wellFormed (F .view t)) → T (wellFormed (F .view (callBy row F a t c .kept)))
   call-formed a t c w =
       after-call a t (λ _ P. T (wellFormed P)) (λ _. w) fresh-formed (λ c _. plan-formed row pos (F .view t) c w .formed) c
 
   -- a slot over a call
-  call-steps : (a : List ℕ) (t : F .Room) (c : Call) (p q : Place) → T (wellFormed (F .view t)) → poolOf p ≡ F .view t
-      → poolOf q ≡ F .view (callBy row F a t c .room) → SameSlot row p q → Steps c (p .state) (q .state)
+  call-steps : (a : List ℕ) (t : F .Kept) (c : Call) (p q : Place) → T (wellFormed (F .view t)) → poolOf p ≡ F .view t
+      → poolOf q ≡ F .view (callBy row F a t c .kept) → SameSlot row p q → Steps c (p .state) (q .state)
   call-steps a t c p q w e =
       after-call a t (λ c P. poolOf q ≡ P → SameSlot row p q → Steps c (p .state) (q .state))
       (λ c. as-it-was row pos (F .view t) w p e c q)
@@ -109,23 +109,23 @@ module _ (row : ℕ) (pos : 0 < row) (F : Form) (L : FormLaws row F) where
         (λ r z. absurd (refuses r z)) h (releaseAt row) (λ o b _. release-ends o b)
 
   -- the slot of a block in the tables that a call leaves which ends it
-  call-ends : (a : List ℕ) (t : F .Room) (h : ℕ) (p : Place) → Intact row a (F .view t) h p → (c : Call) → callBy row F a t c .answer .number ≡ 0
-      → Ends c h (callBy row F a t c .answer) → (q : Place) → poolOf q ≡ F .view (callBy row F a t c .room) → SameSlot row p q
+  call-ends : (a : List ℕ) (t : F .Kept) (h : ℕ) (p : Place) → Intact row a (F .view t) h p → (c : Call) → callBy row F a t c .answer .number ≡ 0
+      → Ends c h (callBy row F a t c .answer) → (q : Place) → poolOf q ≡ F .view (callBy row F a t c .kept) → SameSlot row p q
       → (count (q .state) ≡ count (p .state)) × (T (isLive (q .state)) → ⊥)
   call-ends a t h p i c z ends-release q f s =
       let y : Accepted row pos F L a t c = accepted row pos F L a t c tt z in
       let P : Pool = F .view t in
       release-plan-ends P (sound-formed row pos F L a t (y .sound-tables)) h p (i .live .here .slotted .pool) (i .live .here .starts)
-      (ap (λ (r : Outcome (F .Room)). r .answer .number) (sym (y .left)) ∙ z) q (f ∙ accepted-pool row pos F L a t c y) s
+      (ap (λ (r : Outcome (F .Kept)). r .answer .number) (sym (y .left)) ∙ z) q (f ∙ accepted-pool row pos F L a t c y) s
   call-ends a t h p i c z (ends-move {n = m} d) q f s =
       let y : Accepted row pos F L a t c = accepted row pos F L a t c tt z in
       let P : Pool = F .view t in
       resize-ends P (sound-formed row pos F L a t (y .sound-tables)) h p (i .live .here .slotted .pool) (i .live .here .starts) m
-      (ap (λ (r : Outcome (F .Room)). r .answer .number) (sym (y .left)) ∙ z)
-      (λ v. d (ap (λ (r : Outcome (F .Room)). r .answer .values) (y .left) ∙ v)) q (f ∙ accepted-pool row pos F L a t c y) s
+      (ap (λ (r : Outcome (F .Kept)). r .answer .number) (sym (y .left)) ∙ z)
+      (λ v. d (ap (λ (r : Outcome (F .Kept)). r .answer .values) (y .left) ∙ v)) q (f ∙ accepted-pool row pos F L a t c y) s
 
   -- a call that is done on a handle has found its block
-  call-finds : (b : List ℕ) (t : F .Room) (h : ℕ) (c : Call) → Uses c h → callBy row F b t c .answer .number ≡ 0
+  call-finds : (b : List ℕ) (t : F .Kept) (h : ℕ) (c : Call) → Uses c h → callBy row F b t c .answer .number ≡ 0
       → (p : Place) × Intact row b (F .view t) h p
   call-finds b t h c uses-release z = let (p, r) = releases-as-said row pos F L b t h z in (p, r .block)
   call-finds b t h c (uses-resize {n = m}) z = let (p, r) = resizes-as-said row pos F L b t h m z in (p, r .block)
@@ -185,7 +185,7 @@ module _ (row : ℕ) (pos : 0 < row) where
       bits-differ (count (p .state)) (n .times) (count (q .state)) (n .counts) (n .again (subst (λ p. T (isLive (p .state))) z l)) (n .few) j
 
 -- what holds after every call holds at first
-remains-first : (row : ℕ) (F : Form) (p : Place) (t : F .Room) (cs : List Asked) → RemainsAll row F p t cs → Remains row F p t
+remains-first : (row : ℕ) (F : Form) (p : Place) (t : F .Kept) (cs : List Asked) → RemainsAll row F p t cs → Remains row F p t
 unfolding RemainsAll
 remains-first row F p t [] r = r
 remains-first row F p t (c ∷ cs) r = r .0
@@ -194,7 +194,7 @@ pub stale-refused : (row : ℕ) → 0 < row → (F : Form) → FormLaws row F �
 unfolding RemainsAll after
 stale-refused row pos F L a t h p ends i z n cs all b c u y =
     let k : ℕ = count (p .state) in
-    let t₁ : F .Room = callBy row F a t ends .room in
+    let t₁ : F .Kept = callBy row F a t ends .kept in
     let r : Remains row F p t₁ = remains-first row F p t₁ cs all in
     let d = call-ends row pos F L a t h p i ends z n (r .now) (r .there) (r .slot) in
     go cs t₁ (call-formed row pos F L a t ends first) (r .now) (r .there) (r .slot)
@@ -211,14 +211,14 @@ stale-refused row pos F L a t h p ends i z n cs all b c u y =
     byte : count (p .state) < 256
     byte = count-small (p .cls) (p .state) (fits p formed .state)
 
-    go : (cs : List Asked) (t : F .Room) → T (wellFormed (F .view t)) → (q : Place) → poolOf q ≡ F .view t → SameSlot row p q
+    go : (cs : List Asked) (t : F .Kept) → T (wellFormed (F .view t)) → (q : Place) → poolOf q ≡ F .view t → SameSlot row p q
         → Since (count (p .state)) (q .state) → RemainsAll row F p t cs → callBy row F b (after row F t cs) c .answer .number ≡ 0 → ⊥
     go [] t w q e s m all y =
         let (r, x) = call-finds row pos F L b t h c u y in
         since-refused row pos (F .view t) w h p q r formed (i .live .here .starts) (i .present) e s m
         (x .live .here .slotted .pool) (x .live .live) (x .live .here .starts) (x .present)
     go (x ∷ cs) t w q e s m (_, all) y =
-        let t′ : F .Room = callBy row F (x .arena) t (x .asks) .room in
+        let t′ : F .Kept = callBy row F (x .arena) t (x .asks) .kept in
         let r : Remains row F p t′ = remains-first row F p t′ cs all in
         let d : Steps (x .asks) (q .state) (r .now .state) =
         call-steps row pos F L (x .arena) t (x .asks) q (r .now) w e (r .there) (slot-after row q p (r .now) (slot-back row p q s) (r .slot)) in

@@ -228,20 +228,20 @@ live-at row P o p e l s = record {
   live = l;
 }
 
-module _ (row : ℕ) (pos : 0 < row) (F : Form) (L : FormLaws row F) (a : List ℕ) (t : F .Room) where
+module _ (row : ℕ) (pos : 0 < row) (F : Form) (L : FormLaws row F) (a : List ℕ) (t : F .Kept) where
   -- sound tables say a well-formed pool
   pub sound-formed : T (F .sound (length a) t) → T (wellFormed (F .view t))
   sound-formed s = L .only (length a) t s .0 .formed
 
   -- the tables that an accepted call leaves say the pool of its plan
-  pub accepted-pool : (c : Call) → Accepted row pos F L a t c → F .view (callBy row F a t c .room) ≡ plan row (F .view t) c .pool
+  pub accepted-pool : (c : Call) → Accepted row pos F L a t c → F .view (callBy row F a t c .kept) ≡ plan row (F .view t) c .pool
   accepted-pool c y =
-      ap (λ (r : Outcome (F .Room)). F .view (r .room)) (y .left)
+      ap (λ (r : Outcome (F .Kept)). F .view (r .kept)) (y .left)
       ∙ L .says _ (plan-formed row pos (F .view t) c (sound-formed (y .sound-tables)) .formed)
 
   -- a live block that an accepted call does not name, in the tables that it leaves
   stays : (c : Call) → Asks c → callBy row F a t c .answer .number ≡ 0 → (o : ℕ) (p : Place) → LiveAt row (F .view t) o p → (Names c o → ⊥)
-      → (q : Place) × LiveAt row (F .view (callBy row F a t c .room)) o q × (handle row q ≡ handle row p) × (q .state ≡ p .state)
+      → (q : Place) × LiveAt row (F .view (callBy row F a t c .kept)) o q × (handle row q ≡ handle row p) × (q .state ≡ p .state)
   stays c k z o p l other =
       let y : Accepted row pos F L a t c = accepted row pos F L a t c k z in
       let (q, e, s) =
@@ -257,5 +257,5 @@ module _ (row : ℕ) (pos : 0 < row) (F : Form) (L : FormLaws row F) (a : List �
 pub others-stay : (row : ℕ) → 0 < row → (F : Form) → FormLaws row F → OthersStay row F
 others-stay row pos F L a t c o p z l other =
     by-call (λ c. callBy row F a t c .answer .number ≡ 0 → (Names c o → ⊥)
-    → (q : Place) × LiveAt row (F .view (callBy row F a t c .room)) o q × (handle row q ≡ handle row p) × (q .state ≡ p .state))
+    → (q : Place) × LiveAt row (F .view (callBy row F a t c .kept)) o q × (handle row q ≡ handle row p) × (q .state ≡ p .state))
     (λ _ other. absurd (other names-all)) (λ c k z other. stays row pos F L a t c k z o p l other) c z other

@@ -33,12 +33,12 @@ record Holds (row n : ℕ) (P : Pool) (a : List ℕ) (t : KeptBytes) : Type 0 wh
   bounds : T (aligned row P)
   long : length a ≡ n
   agrees : Agrees (cells row P) a
-  room : t ≡ engine row .encode P
+  kept : t ≡ engine row .encode P
 
 -- what a record does is what the model does with it
 record Follows (row n : ℕ) (d : Effect) (s : Stepped) : Type 0 where
   tells : d .tells ≡ s .tells
-  holds : Holds row n (s .pool) (d .arena) (d .room)
+  holds : Holds row n (s .pool) (d .arena) (d .kept)
 
 -- two choices by one test
 choose-both : {A B : Type 0} (M : A → B → Type 0) (b : Bool) (x y : A) (u v : B) → M x u → M y v → M (choose b x y) (choose b u v)
@@ -71,13 +71,13 @@ module _ (row : ℕ) (pos : 0 < row) (n : ℕ) (h : T (arenaRight row n)) where
         let l : length x ≡ n =
         arena-length row pos (p .pool) (m .formed) x g ∙ ap (λ k. row * k) (m .long) ∙ sym (arena-length row pos P (r .formed) a (r .agrees)) ∙ r .long in
         let e : call row a t c ≡ applied (engine row) a p =
-        ap (λ t. call row a t c) (r .room)
+        ap (λ t. call row a t c) (r .kept)
         ∙ call-follows row pos (engine row) (engine-lawful row pos) P (r .formed) (r .bounds) a (subst (λ m. T (arenaRight row m)) (sym (r .long)) h)
         (r .agrees) c in
         subst (λ z. Follows row n (effect z) (stepped p)) (sym e)
         (record {
           tells = refl;
-          holds = record { formed = m .formed; bounds = m .bounds (whole-units row n h) (r .bounds); long = l; agrees = g; room = refl };
+          holds = record { formed = m .formed; bounds = m .bounds (whole-units row n h) (r .bounds); long = l; agrees = g; kept = refl };
         })
 
     -- every record; a store changes no byte that the tables fix
@@ -93,7 +93,7 @@ module _ (row : ℕ) (pos : 0 < row) (n : ℕ) (h : T (arenaRight row n)) where
           bounds = r .bounds;
           long = put-length o bs a ∙ r .long;
           agrees = engine-keeps row pos P (r .formed) a (put o bs a) (stored-outside row P a o bs s) (r .agrees);
-          room = r .room;
+          kept = r .kept;
         } in
         rw (r .long)
         (choose-both (Follows row n) (leb (o + length bs) n) _ _ _ _ (record { tells = refl; holds = after }) (record { tells = refl; holds = r }))
@@ -194,10 +194,10 @@ module _ (row : ℕ) (pos : 0 < row) where
         bounds = all-fresh row (n / row);
         long = zeros-length n;
         agrees = subst (λ m. Agrees (cells row P) (zeros m)) (whole-rows row n w) (fresh-agrees row pos (n / row));
-        room = refl;
+        kept = refl;
       } in
       ap (λ (ls : List Line). choose (traceRight s) ls (Line.bad 0 ∷ []))
-      (ap (λ (z : Result). linesFrom row (z .arena) (z .room) 1 (items s)) (set-up-done row (engine row) a t h)
+      (ap (λ (z : Result). linesFrom row (z .arena) (z .kept) 1 (items s)) (set-up-done row (engine row) a t h)
       ∙ lines row pos n w P (zeros n) (engine row .encode P) 1 (items s) r k)
 
   pub stores-steer-nothing : StoresSteerNothing row

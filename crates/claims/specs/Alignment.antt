@@ -16,20 +16,20 @@ pub data Names : Call → ℕ → Type 0 where
 
 module _ (row : ℕ) (F : Form) where
   -- "Resize of an aligned block keeps the boundary": the block of the handle before it, and the one of its value after it
-  pub record KeepsBoundary (a : List ℕ) (t : F .Room) (h n : ℕ) : Type 0 where
+  pub record KeepsBoundary (a : List ℕ) (t : F .Kept) (h n : ℕ) : Type 0 where
     pub old : Place
     pub was : LiveAt row (F .view t) (startOf h) old
     pub new : Place
     pub given : ℕ
     pub value : callBy row F a t (resizes h n) .answer .values ≡ given ∷ []
-    pub is : LiveAt row (F .view (callBy row F a t (resizes h n) .room)) (startOf given) new
+    pub is : LiveAt row (F .view (callBy row F a t (resizes h n) .kept)) (startOf given) new
     pub same : align (new .state) ≡ align (old .state)
 
   abbrev pub ResizesKeepAlignment : Type 0
-  ResizesKeepAlignment = (a : List ℕ) (t : F .Room) (h n : ℕ) → callBy row F a t (resizes h n) .answer .number ≡ 0 → KeepsBoundary a t h n
+  ResizesKeepAlignment = (a : List ℕ) (t : F .Kept) (h n : ℕ) → callBy row F a t (resizes h n) .answer .number ≡ 0 → KeepsBoundary a t h n
 
   -- a block that a call does not name is where it was, with its handle, size and alignment; a refused call changes nothing (demand 1)
   abbrev pub OthersStay : Type 0
-  OthersStay = (a : List ℕ) (t : F .Room) (c : Call) (o : ℕ) (p : Place) → callBy row F a t c .answer .number ≡ 0
+  OthersStay = (a : List ℕ) (t : F .Kept) (c : Call) (o : ℕ) (p : Place) → callBy row F a t c .answer .number ≡ 0
       → LiveAt row (F .view t) o p → (Names c o → ⊥)
-      → (q : Place) × LiveAt row (F .view (callBy row F a t c .room)) o q × (handle row q ≡ handle row p) × (q .state ≡ p .state)
+      → (q : Place) × LiveAt row (F .view (callBy row F a t c .kept)) o q × (handle row q ≡ handle row p) × (q .state ≡ p .state)

@@ -31,20 +31,20 @@ pub record Seen : Type 0 where
 
 module _ (row : ℕ) where
   -- what is seen of each call of a run; the room is lent as the last call left it
-  unfoldable pub seen : (F : Form) → List ℕ → F .Room → List Round → List Seen
+  unfoldable pub seen : (F : Form) → List ℕ → F .Kept → List Round → List Seen
   seen F a t [] = []
   seen F a t (u ∷ us) =
       let r = callBy row F (stored a (u .stores)) t (u .asks) in
-      record { answer = r .answer; arena = r .arena } ∷ seen F (r .arena) (r .room) us
+      record { answer = r .answer; arena = r .arena } ∷ seen F (r .arena) (r .kept) us
 
   -- from a set up on, which is seen too
-  abbrev pub seenFresh : (F : Form) → List ℕ → F .Room → List Round → List Seen
+  abbrev pub seenFresh : (F : Form) → List ℕ → F .Kept → List Round → List Seen
   seenFresh F a t us =
-      let s = callBy row F a t setsUp in record { answer = s .answer; arena = s .arena } ∷ seen F (s .arena) (s .room) us
+      let s = callBy row F a t setsUp in record { answer = s .answer; arena = s .arena } ∷ seen F (s .arena) (s .kept) us
 
   -- two forms: each is set up over an arena and a room of its own, whatever bytes are in them
   abbrev pub Alike : Form → Form → Type 0
-  Alike F G = (a b : List ℕ) (t : F .Room) (v : G .Room) (us : List Round)
+  Alike F G = (a b : List ℕ) (t : F .Kept) (v : G .Kept) (us : List Round)
       → callBy row F a t setsUp .answer .number ≡ 0 → callBy row G b v setsUp .answer .number ≡ 0 → length a ≡ length b
       → seenFresh F a t us ≡ seenFresh G b v us
 

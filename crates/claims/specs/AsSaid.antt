@@ -64,104 +64,104 @@ module _ (row : ℕ) where
   module _ (F : Form) where
     -- of any bytes: the header of a slot's block is that due exactly if these bytes of the arena are
     abbrev pub HeadersAsSaid : Type 0
-    HeadersAsSaid = (a : List ℕ) (t : F .Room) (p : Place) → T (F .sound (length a) t) → poolOf p ≡ F .view t → T (headerDue row a p) ↔ HeaderBytes a p
+    HeadersAsSaid = (a : List ℕ) (t : F .Kept) (p : Place) → T (F .sound (length a) t) → poolOf p ≡ F .view t → T (headerDue row a p) ↔ HeaderBytes a p
 
     -- of any bytes: the guard of a slot's block is that due exactly if these bytes of the arena are
     abbrev pub GuardsAsSaid : Type 0
-    GuardsAsSaid = (a : List ℕ) (t : F .Room) (p : Place) → T (F .sound (length a) t) → poolOf p ≡ F .view t → T (guardDue row a p) ↔ GuardBytes a p
+    GuardsAsSaid = (a : List ℕ) (t : F .Kept) (p : Place) → T (F .sound (length a) t) → poolOf p ≡ F .view t → T (guardDue row a p) ↔ GuardBytes a p
 
     -- SET UP
 
     -- "Set up writes zero over the whole arena and makes tables with no groups."
-    pub record MadeFresh (a : List ℕ) (r : Outcome (F .Room)) : Type 0 where
+    pub record MadeFresh (a : List ℕ) (r : Outcome (F .Kept)) : Type 0 where
       pub value : r .answer .values ≡ 0 ∷ []
-      pub pool : F .view (r .room) ≡ freshPool (length a / row)
+      pub pool : F .view (r .kept) ≡ freshPool (length a / row)
       pub bytes : ZeroedOnly a (r .arena) 0 (length a)
 
     abbrev pub SetsUpAsSaid : Type 0
-    SetsUpAsSaid = (a : List ℕ) (t : F .Room) → callBy row F a t setsUp .answer .number ≡ 0 → MadeFresh a (callBy row F a t setsUp)
+    SetsUpAsSaid = (a : List ℕ) (t : F .Kept) → callBy row F a t setsUp .answer .number ≡ 0 → MadeFresh a (callBy row F a t setsUp)
 
     -- over a pool's own arena a set up is also a call of the model: its plan, carried out
     abbrev pub SetsUpAsPlanned : Type 0
-    SetsUpAsPlanned = (a : List ℕ) (t : F .Room) → T (F .sound (length a) t) → callBy row F a t setsUp ≡ applied F a (plan row (F .view t) setsUp)
+    SetsUpAsPlanned = (a : List ℕ) (t : F .Kept) → T (F .sound (length a) t) → callBy row F a t setsUp ≡ applied F a (plan row (F .view t) setsUp)
 
     -- MEASURE AND REPORT
 
     -- a call that leaves every byte of arena and tables, and the record where there is one
-    pub record Unchanged (a : List ℕ) (t : F .Room) (c : Call) : Type 0 where
+    pub record Unchanged (a : List ℕ) (t : F .Kept) (c : Call) : Type 0 where
       pub arena : callBy row F a t c .arena ≡ a
-      pub room : callBy row F a t c .room ≡ t
+      pub kept : callBy row F a t c .kept ≡ t
 
     -- over any bytes, refused or not
     pub record ReadsOnly : Type 0 where
-      pub measured : (a : List ℕ) (t : F .Room) (h : ℕ) → Unchanged a t (measures h)
-      pub reported : (a : List ℕ) (t : F .Room) → Unchanged a t reports
+      pub measured : (a : List ℕ) (t : F .Kept) (h : ℕ) → Unchanged a t (measures h)
+      pub reported : (a : List ℕ) (t : F .Kept) → Unchanged a t reports
 
     -- "Report gives, in this order: live blocks, their requested bytes, rows held, rows free, ready slots, waiting slots"
     abbrev pub ReportsAsSaid : Type 0
-    ReportsAsSaid = (a : List ℕ) (t : F .Room) → T (F .sound (length a) t)
+    ReportsAsSaid = (a : List ℕ) (t : F .Kept) → T (F .sound (length a) t)
         → callBy row F a t reports .answer ≡ done (listed (totals row (F .view t)))
 
     -- RELEASE
 
     -- "The slot becomes waiting", with its count and displacement, "and its s owned bytes zero."
-    pub record Waits (a : List ℕ) (p : Place) (r : Outcome (F .Room)) : Type 0 where
+    pub record Waits (a : List ℕ) (p : Place) (r : Outcome (F .Kept)) : Type 0 where
       pub other-live : T (any isLive (p .lower ++ p .upper))
-      pub pool : F .view (r .room) ≡ poolOf (become p (Idle false (count (p .state)) (disp (p .state))))
+      pub pool : F .view (r .kept) ≡ poolOf (become p (Idle false (count (p .state)) (disp (p .state))))
       pub bytes : ZeroedOnly a (r .arena) (owned row p) (slotBytes (p .cls))
 
     -- "If no slot of the group is live, the group goes, all its rows become zero and free."
-    pub record Goes (a : List ℕ) (p : Place) (r : Outcome (F .Room)) : Type 0 where
+    pub record Goes (a : List ℕ) (p : Place) (r : Outcome (F .Kept)) : Type 0 where
       pub none-live : T (every (λ x. not (isLive x)) (p .lower ++ p .upper))
-      pub pool : F .view (r .room) ≡ p .before ++ (freshPool (rowsOf row (p .cls)) ++ p .after)
+      pub pool : F .view (r .kept) ≡ p .before ++ (freshPool (rowsOf row (p .cls)) ++ p .after)
       pub bytes : ZeroedOnly a (r .arena) (base row p) (row * rowsOf row (p .cls))
 
-    pub record Released (a : List ℕ) (t : F .Room) (h : ℕ) (p : Place) : Type 0 where
+    pub record Released (a : List ℕ) (t : F .Kept) (h : ℕ) (p : Place) : Type 0 where
       pub block : Intact row a (F .view t) h p
       pub value : callBy row F a t (releases h) .answer .values ≡ 0 ∷ []
       pub left : Waits a p (callBy row F a t (releases h)) ⊎ Goes a p (callBy row F a t (releases h))
 
     abbrev pub ReleasesAsSaid : Type 0
-    ReleasesAsSaid = (a : List ℕ) (t : F .Room) (h : ℕ) → callBy row F a t (releases h) .answer .number ≡ 0 → (p : Place) × Released a t h p
+    ReleasesAsSaid = (a : List ℕ) (t : F .Kept) (h : ℕ) → callBy row F a t (releases h) .answer .number ≡ 0 → (p : Place) × Released a t h p
 
     -- RESIZE
 
-    pub record InPlace (a : List ℕ) (h n : ℕ) (p : Place) (r : Outcome (F .Room)) : Type 0 where
+    pub record InPlace (a : List ℕ) (h n : ℕ) (p : Place) (r : Outcome (F .Kept)) : Type 0 where
       pub serves : StaysInPlace p n
       -- 02 §7: "Resize in place keeps the handle."
       pub value : r .answer .values ≡ h ∷ []
-      pub pool : F .view (r .room) ≡ poolOf (sized p n)
+      pub pool : F .view (r .kept) ≡ poolOf (sized p n)
       pub long : length (r .arena) ≡ length a
       -- "the first bytes, as many as the lesser of old and new n, stay"
-      pub kept : (i : ℕ) → i < stay p n → getD (r .arena) (start row p + i) 0 ≡ getD a (start row p + i) 0
+      pub stays : (i : ℕ) → i < stay p n → getD (r .arena) (start row p + i) 0 ≡ getD a (start row p + i) 0
       -- "all from there to the end become zero", but the last four, which are the guard's, if reserved is 5 or more
       pub zero : (i : ℕ) → start row p + stay p n ≤ i → i < owned row p + slotBytes (p .cls)
           → (reservedOf (sized p n) < 5) ⊎ (i + 4 < owned row p + slotBytes (p .cls)) → getD (r .arena) i 0 ≡ 0
       -- "header and guard are written anew"
-      pub due : Intact row (r .arena) (F .view (r .room)) h (sized p n)
+      pub due : Intact row (r .arena) (F .view (r .kept)) h (sized p n)
       -- no byte before the header or behind the block changes
       pub others : (i : ℕ) → (i + 4 < start row p) ⊎ (owned row p + slotBytes (p .cls) ≤ i) → getD (r .arena) i 0 ≡ getD a i 0
 
     -- "Otherwise a grant of n is made while the old block is live, that many bytes are copied, then the old is released". 02 §6: "Resize of an
     -- aligned block keeps the boundary": the grant is one of the block's alignment, which for an ordinary block is a plain one. g is what it
     -- leaves, v the new handle, b the arena after the copy
-    pub record Moved (a : List ℕ) (h n : ℕ) (p : Place) (g : Outcome (F .Room)) (v : ℕ) (b : List ℕ) (r : Outcome (F .Room)) : Type 0 where
+    pub record Moved (a : List ℕ) (h n : ℕ) (p : Place) (g : Outcome (F .Kept)) (v : ℕ) (b : List ℕ) (r : Outcome (F .Kept)) : Type 0 where
       pub serves-not : StaysInPlace p n → ⊥
       pub granted : g .answer .number ≡ 0
       pub answer : r .answer ≡ g .answer
-      pub released : callBy row F b (g .room) (releases h) .answer .number ≡ 0
-      pub arena : r .arena ≡ callBy row F b (g .room) (releases h) .arena
-      pub room : r .room ≡ callBy row F b (g .room) (releases h) .room
+      pub released : callBy row F b (g .kept) (releases h) .answer .number ≡ 0
+      pub arena : r .arena ≡ callBy row F b (g .kept) (releases h) .arena
+      pub kept : r .kept ≡ callBy row F b (g .kept) (releases h) .kept
       -- the block has the bytes that it had
-      pub kept : (i : ℕ) → i < stay p n → getD (r .arena) (startOf v + i) 0 ≡ getD a (start row p + i) 0
+      pub stays : (i : ℕ) → i < stay p n → getD (r .arena) (startOf v + i) 0 ≡ getD a (start row p + i) 0
 
-    abbrev pub MovedBy : List ℕ → ℕ → ℕ → Place → Outcome (F .Room) → Outcome (F .Room) → Type 0
+    abbrev pub MovedBy : List ℕ → ℕ → ℕ → Place → Outcome (F .Kept) → Outcome (F .Kept) → Type 0
     MovedBy a h n p g r = let v = getD (g .answer .values) 0 0 in Moved a h n p g v (write (g .arena) (copies (start row p) (startOf v) (stay p n))) r
 
-    pub record Resized (a : List ℕ) (t : F .Room) (h n : ℕ) (p : Place) : Type 0 where
+    pub record Resized (a : List ℕ) (t : F .Kept) (h n : ℕ) (p : Place) : Type 0 where
       pub block : Intact row a (F .view t) h p
       pub done : InPlace a h n p (callBy row F a t (resizes h n)) ⊎ MovedBy a h n p (callBy row F a t (grantsAligned n (alignOf (align (p .state)))))
           (callBy row F a t (resizes h n))
 
     abbrev pub ResizesAsSaid : Type 0
-    ResizesAsSaid = (a : List ℕ) (t : F .Room) (h n : ℕ) → callBy row F a t (resizes h n) .answer .number ≡ 0 → (p : Place) × Resized a t h n p
+    ResizesAsSaid = (a : List ℕ) (t : F .Kept) (h n : ℕ) → callBy row F a t (resizes h n) .answer .number ≡ 0 → (p : Place) × Resized a t h n p

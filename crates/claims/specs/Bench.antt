@@ -10,5 +10,5 @@ use Rattle.model.specs.Calls.{Form, setUpBy, setUpRightBy, callBy, keeps}
 
 -- after a set up that was done, over whatever arena and table room
 abbrev pub TooLargeAnywhere : ℕ → Form → Type 0
-TooLargeAnywhere row F = (a : List ℕ) (t : F .Room) → T (setUpRightBy row F a t) → let r = setUpBy row F a t in
-    callBy row F (r .arena) (r .room) (grants 131052) ≡ keeps (refusal TooLarge) (r .arena) (r .room)
+TooLargeAnywhere row F = (a : List ℕ) (t : F .Kept) → T (setUpRightBy row F a t) → let r = setUpBy row F a t in
+    callBy row F (r .arena) (r .kept) (grants 131052) ≡ keeps (refusal TooLarge) (r .arena) (r .kept)

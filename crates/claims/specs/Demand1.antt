@@ -133,13 +133,13 @@ module _ (row : ℕ) where
       when TooLong (TooLongList total cap places) ∷ when BadProposal (T (not (accepts total cap ns))) ∷ when NoRoom (Meets P ns) ∷ []
 
   module _ (F : Form) where
-    abbrev pub unsoundReason : List ℕ → F .Room → Reason
+    abbrev pub unsoundReason : List ℕ → F .Kept → Reason
     unsoundReason a t = when Unsound (T (not (F .sound (length a) t)))
 
     -- "They are tested in this order, each where it applies: grant 2, 3, 8; release and measure 2, 4, 5, 6, 7; resize all of 2 to 8;
     -- report 2." 02 §3: "Order: 2, 9, 17, 8." 02 §6: "answer 13, tested between 2 and 3"; "an enlarged size of 131,052 or more is 3", which is
     -- n + align − 16, or n up to an alignment of 16. 02 §7: "Order: 2, 3, 4, 5, 10, 6, 7, 8"
-    abbrev pub reasons : List ℕ → F .Room → Call → List Reason
+    abbrev pub reasons : List ℕ → F .Kept → Call → List Reason
     reasons a t setsUp = when BadArena (T (not (setUpRightBy row F a t))) ∷ []
     reasons a t (grants n) = unsoundReason a t ∷ sizeReasons (F .view t) n
     reasons a t (grantsAligned n b) = unsoundReason a t ∷ when BadAlignment (NoAlignment b) ∷ sizeReasons (F .view t) (n + (b - 16))
@@ -152,11 +152,11 @@ module _ (row : ℕ) where
 
     -- DEMAND 1, of any bytes, any record and any call; 02 §3: "A refused list leaves arena, tables and lent list unchanged"; 02 §4: "a refusal
     -- keeps it", the record, which is lent with the tables
-    pub record AnsweredInOrder (a : List ℕ) (t : F .Room) (c : Call) : Type 0 where
+    pub record AnsweredInOrder (a : List ℕ) (t : F .Kept) (c : Call) : Type 0 where
       pub number : FirstDue (reasons a t c) (callBy row F a t c .answer .number)
       pub refused : (callBy row F a t c .answer .number ≡ 0 → ⊥)
-          → (callBy row F a t c .arena ≡ a) × (callBy row F a t c .room ≡ t) × RefusedValues c (callBy row F a t c .answer .values)
+          → (callBy row F a t c .arena ≡ a) × (callBy row F a t c .kept ≡ t) × RefusedValues c (callBy row F a t c .answer .values)
           × (callBy row F a t c .answer .lent ≡ [])
 
     abbrev pub Demand1 : Type 0
-    Demand1 = (a : List ℕ) (t : F .Room) (c : Call) → AnsweredInOrder a t c
+    Demand1 = (a : List ℕ) (t : F .Kept) (c : Call) → AnsweredInOrder a t c

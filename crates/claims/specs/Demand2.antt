@@ -46,25 +46,25 @@ module _ (row : ℕ) where
     -- "With sound tables, release accepts an offset exactly if it starts a live block whose header and guard are intact." 02 §7: "Demand 2's release
     -- takes the live block's present handle."
     abbrev pub ReleasesExactly : Type 0
-    ReleasesExactly = (a : List ℕ) (t : F .Room) (h : ℕ) → T (F .sound (length a) t)
+    ReleasesExactly = (a : List ℕ) (t : F .Kept) (h : ℕ) → T (F .sound (length a) t)
         → (callBy row F a t (releases h) .answer .number ≡ 0) ↔ ((p : Place) × Intact a (F .view t) h p)
 
     -- measure likewise, and "Measure gives n."
     abbrev pub MeasuresExactly : Type 0
-    MeasuresExactly = (a : List ℕ) (t : F .Room) (h : ℕ) → T (F .sound (length a) t)
+    MeasuresExactly = (a : List ℕ) (t : F .Kept) (h : ℕ) → T (F .sound (length a) t)
         → ((callBy row F a t (measures h) .answer .number ≡ 0) ↔ ((p : Place) × Intact a (F .view t) h p))
         × ((p : Place) → Intact a (F .view t) h p → callBy row F a t (measures h) .answer .values ≡ size (p .state) ∷ [])
 
     -- "A grant is refused exactly if .."
     abbrev pub GrantsExactly : Type 0
-    GrantsExactly = (a : List ℕ) (t : F .Room) (n : ℕ)
+    GrantsExactly = (a : List ℕ) (t : F .Kept) (n : ℕ)
         → (callBy row F a t (grants n) .answer .number ≡ 0 → ⊥) ↔
         ((tooLarge ≤ n) ⊎ (T (not (F .sound (length a) t)) ⊎ NoPlace row (F .view t) (classOf n)))
 
     -- 02 §6: "Demand 2 reads the enlarged size and adds 13": an aligned grant is refused exactly if there is no such alignment, the enlarged size is
     -- 131,052 or more, the tables are unsound, or there is no place for its class
     abbrev pub AlignedExactly : Type 0
-    AlignedExactly = (a : List ℕ) (t : F .Room) (n b : ℕ)
+    AlignedExactly = (a : List ℕ) (t : F .Kept) (n b : ℕ)
         → (callBy row F a t (grantsAligned n b) .answer .number ≡ 0 → ⊥) ↔
         (NoAlignment b ⊎ ((tooLarge ≤ n + (b - 16)) ⊎ (T (not (F .sound (length a) t)) ⊎ NoPlace row (F .view t) (classOf (n + (b - 16))))))
 
@@ -92,7 +92,7 @@ module _ (row : ℕ) where
 
   module _ (F : Form) where
     -- a block that a call grants, of n bytes with an alignment, is where and what document 01 says, c being its class
-    pub record GrantedBy (a : List ℕ) (t : F .Room) (asks : Call) (code n c : ℕ) (p : Place) : Type 0 where
+    pub record GrantedBy (a : List ℕ) (t : F .Kept) (asks : Call) (code n c : ℕ) (p : Place) : Type 0 where
       pub slots : List Slot
       pub served : Opened (F .view t) c (p .before) slots (p .after) ⊎ Made (F .view t) c (p .before) slots (p .after)
       pub old : Slot
@@ -109,16 +109,16 @@ module _ (row : ℕ) where
       -- 02 §7: "the value from a grant now carries in its low four bits the slot's use count before that grant, modulo 16"
       pub bits : handle row p ≡ start row p + count old % 16
       -- the tables have the block by its handle, whose start has the low four bits cleared, and its header and guard are those due
-      pub due : Intact (callBy row F a t asks .arena) (F .view (callBy row F a t asks .room)) (handle row p) p
+      pub due : Intact (callBy row F a t asks .arena) (F .view (callBy row F a t asks .kept)) (handle row p) p
       pub bytes : LaidOut a (callBy row F a t asks .arena) p
 
     abbrev pub GrantsAsSaid : Type 0
-    GrantsAsSaid = (a : List ℕ) (t : F .Room) (n : ℕ) → callBy row F a t (grants n) .answer .number ≡ 0
+    GrantsAsSaid = (a : List ℕ) (t : F .Kept) (n : ℕ) → callBy row F a t (grants n) .answer .number ≡ 0
         → (p : Place) × GrantedBy a t (grants n) ordinary n (classOf n) p
 
     -- 02 §6: "the class and slot are those of n + align − 16; the start is the lowest multiple of align at or after the slot's beginning." "The
     -- tables keep the alignment"
-    pub record GrantedAligned (a : List ℕ) (t : F .Room) (n b : ℕ) (p : Place) : Type 0 where
+    pub record GrantedAligned (a : List ℕ) (t : F .Kept) (n b : ℕ) (p : Place) : Type 0 where
       pub granted : GrantedBy a t (grantsAligned n b) (codeOf b) n (classOf (n + (b - 16))) p
       pub multiple : start row p % b ≡ 0
       pub after : beginning row p ≤ start row p
@@ -126,11 +126,11 @@ module _ (row : ℕ) where
       pub kept : alignOf (align (p .state)) ≡ max 16 b
 
     abbrev pub AlignedAsSaid : Type 0
-    AlignedAsSaid = (a : List ℕ) (t : F .Room) (n b : ℕ) → callBy row F a t (grantsAligned n b) .answer .number ≡ 0 → (p : Place) × GrantedAligned a t n b p
+    AlignedAsSaid = (a : List ℕ) (t : F .Kept) (n b : ℕ) → callBy row F a t (grantsAligned n b) .answer .number ≡ 0 → (p : Place) × GrantedAligned a t n b p
 
     -- "Alignments 1, 2, 4, 8 and 16 are an ordinary grant."
     abbrev pub AlignedOrdinary : Type 0
-    AlignedOrdinary = (a : List ℕ) (t : F .Room) (n j : ℕ) → j ≤ 4 → callBy row F a t (grantsAligned n (2 ^ j)) ≡ callBy row F a t (grants n)
+    AlignedOrdinary = (a : List ℕ) (t : F .Kept) (n j : ℕ) → j ≤ 4 → callBy row F a t (grantsAligned n (2 ^ j)) ≡ callBy row F a t (grants n)
 
   -- "Live blocks never share a byte": byte i is in the header, the requested bytes or the reserved bytes of a block
   pub record InBlock (p : Place) (i : ℕ) : Type 0 where
@@ -145,9 +145,9 @@ module _ (row : ℕ) where
 
   module _ (F : Form) where
     abbrev pub NeverShared : Type 0
-    NeverShared = (n : ℕ) (t : F .Room) → T (F .sound n t) → Apart (F .view t)
+    NeverShared = (n : ℕ) (t : F .Kept) → T (F .sound n t) → Apart (F .view t)
 
     -- "Every accepted call leaves sound tables." A set up makes them sound, whatever they were.
     abbrev pub LeavesSound : Type 0
-    LeavesSound = (a : List ℕ) (t : F .Room) (c : Call) → callBy row F a t c .answer .number ≡ 0 → T
-        (F .sound (length (callBy row F a t c .arena)) (callBy row F a t c .room))
+    LeavesSound = (a : List ℕ) (t : F .Kept) (c : Call) → callBy row F a t c .answer .number ≡ 0 → T
+        (F .sound (length (callBy row F a t c .arena)) (callBy row F a t c .kept))

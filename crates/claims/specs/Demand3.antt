@@ -39,7 +39,7 @@ calls us = map (λ u. u .asks) us
 pub record Ended (R : Type 0) : Type 0 where
   pub answers : List Answer
   pub arena : List ℕ
-  pub room : R
+  pub kept : R
 
 module _ (row : ℕ) where
   unfoldable pub model : Pool → List Call → Modelled
@@ -112,63 +112,63 @@ module _ (row : ℕ) where
 
   module _ (F : Form) where
     -- a run: each call is made over the arena as the engine left it, and what is lent for the tables as the last call left it
-    unfoldable pub ran : List ℕ → F .Room → List Turn → Ended (F .Room)
-    ran a t [] = record { answers = []; arena = a; room = t }
+    unfoldable pub ran : List ℕ → F .Kept → List Turn → Ended (F .Kept)
+    ran a t [] = record { answers = []; arena = a; kept = t }
     ran a t (u ∷ us) =
         let r = callBy row F (u .arena) t (u .asks) in
-        let e = ran (r .arena) (r .room) us in
-        record { answers = r .answer ∷ e .answers; arena = e .arena; room = e .room }
+        let e = ran (r .arena) (r .kept) us in
+        record { answers = r .answer ∷ e .answers; arena = e .arena; kept = e .kept }
 
     -- a run from a fresh pool: "A fresh pool is what an accepted set up leaves." The set up's answer is the first.
-    abbrev pub ranFresh : List ℕ → F .Room → List Turn → Ended (F .Room)
+    abbrev pub ranFresh : List ℕ → F .Kept → List Turn → Ended (F .Kept)
     ranFresh a t us =
         let s = callBy row F a t setsUp in
-        let e = ran (s .arena) (s .room) us in
-        record { answers = s .answer ∷ e .answers; arena = e .arena; room = e .room }
+        let e = ran (s .arena) (s .kept) us in
+        record { answers = s .answer ∷ e .answers; arena = e .arena; kept = e .kept }
 
     -- the totals after a run: what report gives over what it leaves
-    abbrev pub reported : Ended (F .Room) → Answer
-    reported e = callBy row F (e .arena) (e .room) reports .answer
+    abbrev pub reported : Ended (F .Kept) → Answer
+    reported e = callBy row F (e .arena) (e .kept) reports .answer
 
     -- "Nothing but the calls and the engine's stores writes": before each call the engine stored into requested bytes of blocks
     -- then live, and nowhere else
-    unfoldable pub EngineOnly : Pool → List ℕ → F .Room → List Turn → Type 0
+    unfoldable pub EngineOnly : Pool → List ℕ → F .Kept → List Turn → Type 0
     EngineOnly P a t [] = Unit {0}
     EngineOnly P a t (u ∷ us) =
         SameOutside P a (u .arena)
-        × EngineOnly (plan row P (u .asks) .pool) (callBy row F (u .arena) t (u .asks) .arena) (callBy row F (u .arena) t (u .asks) .room) us
+        × EngineOnly (plan row P (u .asks) .pool) (callBy row F (u .arena) t (u .asks) .arena) (callBy row F (u .arena) t (u .asks) .kept) us
 
-    unfoldable pub AllCleared : Pool → List ℕ → F .Room → List Turn → Type 0
+    unfoldable pub AllCleared : Pool → List ℕ → F .Kept → List Turn → Type 0
     unfolding Cleared
     AllCleared P a t [] = Unit {0}
     AllCleared P a t (u ∷ us) =
         Cleared P (u .asks) (callBy row F (u .arena) t (u .asks) .answer) (callBy row F (u .arena) t (u .asks) .arena)
-        × AllCleared (plan row P (u .asks) .pool) (callBy row F (u .arena) t (u .asks) .arena) (callBy row F (u .arena) t (u .asks) .room) us
+        × AllCleared (plan row P (u .asks) .pool) (callBy row F (u .arena) t (u .asks) .arena) (callBy row F (u .arena) t (u .asks) .kept) us
 
     -- what one run from a fresh pool shows: the model's answers, the one form of its state, which of the first engine is tables and record
     -- (02 §4: "demand 3 counts it with the tables"), its totals from report, and zeros where a block gains bytes
-    pub record AsModelled (a : List ℕ) (t : F .Room) (us : List Turn) : Type 0 where
+    pub record AsModelled (a : List ℕ) (t : F .Kept) (us : List Turn) : Type 0 where
       pub answers : ranFresh a t us .answers ≡ modelFresh (length a) (calls us) .answers
-      pub tables : ranFresh a t us .room ≡ F .encode (modelFresh (length a) (calls us) .pool)
+      pub tables : ranFresh a t us .kept ≡ F .encode (modelFresh (length a) (calls us) .pool)
       pub counted : reported (ranFresh a t us) ≡ done (listed (totals row (modelFresh (length a) (calls us) .pool)))
-      pub cleared : AllCleared (fed (length a)) (callBy row F a t setsUp .arena) (callBy row F a t setsUp .room) us
+      pub cleared : AllCleared (fed (length a)) (callBy row F a t setsUp .arena) (callBy row F a t setsUp .kept) us
 
     -- what two runs show beside one another: equal answers, equal tables and record, equal totals from report, and equal bytes but for the requested
     -- ones of the blocks of P
-    pub record SameRuns (P : Pool) (d e : Ended (F .Room)) : Type 0 where
+    pub record SameRuns (P : Pool) (d e : Ended (F .Kept)) : Type 0 where
       pub answers : d .answers ≡ e .answers
-      pub tables : d .room ≡ e .room
+      pub tables : d .kept ≡ e .kept
       pub totals : reported d ≡ reported e
       pub outside : SameOutside P (d .arena) (e .arena)
 
     -- a set up that is done, and then calls between which only the engine writes
-    pub record Run (a : List ℕ) (t : F .Room) (us : List Turn) : Type 0 where
+    pub record Run (a : List ℕ) (t : F .Kept) (us : List Turn) : Type 0 where
       pub set-up : callBy row F a t setsUp .answer .number ≡ 0
-      pub engine-only : EngineOnly (fed (length a)) (callBy row F a t setsUp .arena) (callBy row F a t setsUp .room) us
+      pub engine-only : EngineOnly (fed (length a)) (callBy row F a t setsUp .arena) (callBy row F a t setsUp .kept) us
 
     -- DEMAND 3. Over any arena and room bytes of the right lengths and any record, different in each run; the same list of calls, and any stores
     -- of the engine, different in each.
     abbrev pub SteersNothing : Type 0
-    SteersNothing = (a₁ : List ℕ) (t₁ : F .Room) (a₂ : List ℕ) (t₂ : F .Room) (us₁ us₂ : List Turn)
+    SteersNothing = (a₁ : List ℕ) (t₁ : F .Kept) (a₂ : List ℕ) (t₂ : F .Kept) (us₁ us₂ : List Turn)
         → length a₁ ≡ length a₂ → calls us₁ ≡ calls us₂ → Run a₁ t₁ us₁ → Run a₂ t₂ us₂
         → SameRuns (modelFresh (length a₁) (calls us₁) .pool) (ranFresh a₁ t₁ us₁) (ranFresh a₂ t₂ us₂) × AsModelled a₁ t₁ us₁ × AsModelled a₂ t₂ us₂

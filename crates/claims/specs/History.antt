@@ -65,7 +65,7 @@ booked l c r = let e = entered l c r in choose (eqb (r .number) 0) e l
 -- the ledger, and what is lent for the tables after calls; it is always lent as the last call left it
 pub record Books (R : Type 0) : Type 0 where
   pub ledger : Ledger
-  pub room : R
+  pub kept : R
 
 -- the rules, of totals and the arena's length
 pub record Balances (row : ℕ) (l : Ledger) (s : Totals) (n : ℕ) : Type 0 where
@@ -74,17 +74,17 @@ pub record Balances (row : ℕ) (l : Ledger) (s : Totals) (n : ℕ) : Type 0 whe
   pub rows : s .held + s .free ≡ n / row
 
 module _ (row : ℕ) (F : Form) where
-  unfoldable pub kept : Ledger → F .Room → List Asked → Books (F .Room)
-  kept l t [] = record { ledger = l; room = t }
-  kept l t (c ∷ cs) = let r = callBy row F (c .arena) t (c .asks) in kept (booked l (c .asks) (r .answer)) (r .room) cs
+  unfoldable pub booksAfter : Ledger → F .Kept → List Asked → Books (F .Kept)
+  booksAfter l t [] = record { ledger = l; kept = t }
+  booksAfter l t (c ∷ cs) = let r = callBy row F (c .arena) t (c .asks) in booksAfter (booked l (c .asks) (r .answer)) (r .kept) cs
 
   -- what report answers over an arena b and the tables that calls left: it is done, and its values are totals that keep the rules
-  pub record Tells (b : List ℕ) (k : Books (F .Room)) (n : ℕ) : Type 0 where
+  pub record Tells (b : List ℕ) (k : Books (F .Kept)) (n : ℕ) : Type 0 where
     pub totals : Totals
-    pub given : callBy row F b (k .room) reports .answer ≡ done (listed totals)
+    pub given : callBy row F b (k .kept) reports .answer ≡ done (listed totals)
     pub counts : Balances row (k .ledger) totals n
 
   -- HISTORY: from an accepted set up, for every list of calls over any arena at each, and then a report over any arena of the pool's length
   abbrev pub History : Type 0
-  History = (a : List ℕ) (t : F .Room) (cs : List Asked) (b : List ℕ) → T (setUpRightBy row F a t) → length b ≡ length a
-      → Tells b (kept opening (setUpBy row F a t .room) cs) (length a)
+  History = (a : List ℕ) (t : F .Kept) (cs : List Asked) (b : List ℕ) → T (setUpRightBy row F a t) → length b ≡ length a
+      → Tells b (booksAfter opening (setUpBy row F a t .kept) cs) (length a)

@@ -46,27 +46,27 @@ PlansAsSaid = (total cap : ℕ) → PlansAccepted total cap
 
 module _ (row : ℕ) (F : Form) where
   -- the same grants one after another: the answers, and the arena, the room and the record that they leave
-  unfoldable pub granting : List ℕ → F .Room → List ℕ → Ended (F .Room)
-  granting a t [] = record { answers = []; arena = a; room = t }
+  unfoldable pub granting : List ℕ → F .Kept → List ℕ → Ended (F .Kept)
+  granting a t [] = record { answers = []; arena = a; kept = t }
   granting a t (n ∷ ns) =
       let r = callBy row F a t (grants n) in
-      let g = granting (r .arena) (r .room) ns in
-      record { answers = r .answer ∷ g .answers; arena = g .arena; room = g .room }
+      let g = granting (r .arena) (r .kept) ns in
+      record { answers = r .answer ∷ g .answers; arena = g .arena; kept = g .kept }
 
   -- "grants its sizes in order, writes the starts to the front of a lent list .. and gives the number of entries": a list that is done
   -- leaves what the grants leave, and its handles are theirs
-  pub record AsGrants (ns : List ℕ) (r : Outcome (F .Room)) (g : Ended (F .Room)) : Type 0 where
+  pub record AsGrants (ns : List ℕ) (r : Outcome (F .Kept)) (g : Ended (F .Kept)) : Type 0 where
     pub entries : r .answer .values ≡ length ns ∷ []
     pub handles : g .answers ≡ map (λ h. done (h ∷ [])) (r .answer .lent)
     pub arena : r .arena ≡ g .arena
-    pub room : r .room ≡ g .room
+    pub kept : r .kept ≡ g .kept
 
   abbrev pub ListsAsGrants : Type 0
-  ListsAsGrants = (a : List ℕ) (t : F .Room) (total cap places : ℕ) (ns : List ℕ) → callBy row F a t (grantsList total cap places ns) .answer .number ≡ 0
+  ListsAsGrants = (a : List ℕ) (t : F .Kept) (total cap places : ℕ) (ns : List ℕ) → callBy row F a t (grantsList total cap places ns) .answer .number ≡ 0
       → AsGrants ns (callBy row F a t (grantsList total cap places ns)) (granting a t ns)
 
   -- "answer 8 exactly if granting the accepted sizes in order would meet it"
   abbrev pub ListsExactly : Type 0
-  ListsExactly = (a : List ℕ) (t : F .Room) (total cap places : ℕ) (ns : List ℕ)
+  ListsExactly = (a : List ℕ) (t : F .Kept) (total cap places : ℕ) (ns : List ℕ)
       → T (F .sound (length a) t) → 17 ≤ places → T (accepts total cap ns)
       → (callBy row F a t (grantsList total cap places ns) .answer .number ≡ 8) ↔ T (any (λ r. eqb (r .number) 8) (granting a t ns .answers))

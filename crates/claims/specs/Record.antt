@@ -11,7 +11,7 @@ use Rattle.model.specs.Answers.{done, listed}
 use Rattle.model.specs.Plans.{Call, setsUp, reports, totals}
 use Rattle.model.specs.Tables.{rowAt, readyAt, slotsAt, slotRecordBytes, sizeAt, mostSlots, view, sound}
 use Rattle.model.specs.Calls.{KeptBytes, keptIn, engine, soundKept, setUp, setUpRight, call}
-use Rattle.claims.specs.History.{Asked, opening, kept}
+use Rattle.claims.specs.History.{Asked, opening, booksAfter}
 
 -- a byte with bit b the other way: 2^b more where the bit is 0, less where it is 1
 unfoldable pub flip : ℕ → ℕ → ℕ
@@ -36,7 +36,7 @@ module _ (row : ℕ) where
   -- "Set up writes the record": no total but the rows, which are free
   abbrev pub RecordsFresh : Type 0
   RecordsFresh = (a : List ℕ) (t : KeptBytes) → call row a t setsUp .answer .number ≡ 0
-      → call row a t setsUp .room .totals ≡ record { blocks = 0; bytes = 0; held = 0; free = length a / row; ready = 0; waiting = 0 }
+      → call row a t setsUp .kept .totals ≡ record { blocks = 0; bytes = 0; held = 0; free = length a / row; ready = 0; waiting = 0 }
 
   -- "report reads it": what it gives is the record
   abbrev pub ReportsRecord : Type 0
@@ -45,12 +45,12 @@ module _ (row : ℕ) where
   -- the history is the record's: it holds the totals that report gives after whatever calls
   abbrev pub HistoryRecorded : Type 0
   HistoryRecorded = (a : List ℕ) (t : KeptBytes) (cs : List Asked) (b : List ℕ) → T (setUpRight row a t) → length b ≡ length a
-      → let r = kept row (engine row) opening (setUp row a t .room) cs .room in call row b r reports .answer ≡ done (listed (r .totals))
+      → let r = booksAfter row (engine row) opening (setUp row a t .kept) cs .kept in call row b r reports .answer ≡ done (listed (r .totals))
 
   -- a call that is done leaves the totals of the tables that it leaves
   abbrev pub KeepsRecord : Type 0
   KeepsRecord = (a : List ℕ) (t : KeptBytes) (c : Call) → call row a t c .answer .number ≡ 0
-      → call row a t c .room .totals ≡ totals row (view row (call row a t c .room .tables))
+      → call row a t c .kept .totals ≡ totals row (view row (call row a t c .kept .tables))
 
   -- "a flipped table bit that passed as sound": one bit of a mask or of a requested size flipped in a group's first row i, whose first byte is
   -- 1, with the record as it was, is answer 2 from every call but set up

@@ -32,8 +32,8 @@ module _ (row : ℕ) where
 
   -- "bad arena: set up only: arena length outside the rule, or table room of another size"; the room is what is lent but the record. Its one size, as
   -- docs/TABLES.md has it, is a formula of the arena's
-  abbrev pub SetsUpExactly : (F : Form) → (F .Room → List ℕ) → Type 0
-  SetsUpExactly F bytes = (a : List ℕ) (t : F .Room)
+  abbrev pub SetsUpExactly : (F : Form) → (F .Kept → List ℕ) → Type 0
+  SetsUpExactly F bytes = (a : List ℕ) (t : F .Kept)
       → (callBy row F a t setsUp .answer .number ≡ 0) ↔ (ArenaRules (length a) × (length (bytes t) ≡ 16 + 264 * (length a / row)))
 
   -- a group of class c behind the spans X

@@ -46,32 +46,32 @@ Steps c x y = NotGranted x y ⊎ (Grants c × T (not (isLive x)) × (count y ≡
 module _ (row : ℕ) (F : Form) where
   -- "starts are handles with the low four bits cleared", in sound tables
   abbrev pub StartsCleared : Type 0
-  StartsCleared = (n : ℕ) (t : F .Room) (p : Place) → T (F .sound n t) → poolOf p ≡ F .view t → startOf (handle row p) ≡ start row p
+  StartsCleared = (n : ℕ) (t : F .Kept) (p : Place) → T (F .sound n t) → poolOf p ≡ F .view t → startOf (handle row p) ≡ start row p
 
   -- a slot whose group stays, over any call
   abbrev pub CountsStep : Type 0
-  CountsStep = (a : List ℕ) (t : F .Room) (c : Call) (p q : Place) → T (F .sound (length a) t)
-      → poolOf p ≡ F .view t → poolOf q ≡ F .view (callBy row F a t c .room) → SameSlot row p q → Steps c (p .state) (q .state)
+  CountsStep = (a : List ℕ) (t : F .Kept) (c : Call) (p q : Place) → T (F .sound (length a) t)
+      → poolOf p ≡ F .view t → poolOf q ≡ F .view (callBy row F a t c .kept) → SameSlot row p q → Steps c (p .state) (q .state)
 
   -- a block's slot in later tables: its group is there, and by its count it has been granted again fewer than sixteen times
-  pub record Remains (p : Place) (t : F .Room) : Type 0 where
+  pub record Remains (p : Place) (t : F .Kept) : Type 0 where
     pub now : Place
     pub there : poolOf now ≡ F .view t
     pub slot : SameSlot row p now
     pub few : (count (now .state) + 256 - count (p .state)) % 256 < 16
 
   -- at first and after every call of a list, each over whatever arena and the tables as the last left them
-  unfoldable pub RemainsAll : Place → F .Room → List Asked → Type 0
+  unfoldable pub RemainsAll : Place → F .Kept → List Asked → Type 0
   RemainsAll p t [] = Remains p t
-  RemainsAll p t (c ∷ cs) = Remains p t × RemainsAll p (callBy row F (c .arena) t (c .asks) .room) cs
+  RemainsAll p t (c ∷ cs) = Remains p t × RemainsAll p (callBy row F (c .arena) t (c .asks) .kept) cs
 
-  unfoldable pub after : F .Room → List Asked → F .Room
+  unfoldable pub after : F .Kept → List Asked → F .Kept
   after t [] = t
-  after t (c ∷ cs) = after (callBy row F (c .arena) t (c .asks) .room) cs
+  after t (c ∷ cs) = after (callBy row F (c .arena) t (c .asks) .kept) cs
 
   -- THE CLAIM, over every list of calls: h is the handle of a block that a call has ended; then any call that uses it is refused
   abbrev pub StaleRefused : Type 0
-  StaleRefused = (a : List ℕ) (t : F .Room) (h : ℕ) (p : Place) (ends : Call) → Intact row a (F .view t) h p
+  StaleRefused = (a : List ℕ) (t : F .Kept) (h : ℕ) (p : Place) (ends : Call) → Intact row a (F .view t) h p
       → callBy row F a t ends .answer .number ≡ 0 → Ends ends h (callBy row F a t ends .answer)
-      → (cs : List Asked) → RemainsAll p (callBy row F a t ends .room) cs
-      → (b : List ℕ) (c : Call) → Uses c h → callBy row F b (after (callBy row F a t ends .room) cs) c .answer .number ≡ 0 → ⊥
+      → (cs : List Asked) → RemainsAll p (callBy row F a t ends .kept) cs
+      → (b : List ℕ) (c : Call) → Uses c h → callBy row F b (after (callBy row F a t ends .kept) cs) c .answer .number ≡ 0 → ⊥

@@ -28,11 +28,11 @@ use Rattle.frames.specs.Blocks.{codeFound, byDamage, located, CarriedOut
 use Rattle.frames.proofs.Places.{new-size}
 
 -- what is lent passed the check
-pub record Checked (row : ℕ) (F : Form) (a : List ℕ) (t : F .Room) : Type 0 where
+pub record Checked (row : ℕ) (F : Form) (a : List ℕ) (t : F .Kept) : Type 0 where
   pub laws : FormLaws row F
   pub sound : F .sound (length a) t ≡ true
 
-module _ {row : ℕ} {F : Form} {a : List ℕ} {t : F .Room} (r : Checked row F a t) where
+module _ {row : ℕ} {F : Form} {a : List ℕ} {t : F .Kept} (r : Checked row F a t) where
   pub same-room : F .encode (F .view t) ≡ t
   same-room = calls.same-room row F a t (r .sound) (r .laws)
 
@@ -70,7 +70,7 @@ module _ {row : ℕ} {F : Form} {a : List ℕ} {t : F .Room} (r : Checked row F 
       granted-none q = rw (granting, ap (grantAt row (F .view t)) q) (refused-out NoRoom)
 
       -- what a grant of a reserved block leaves
-      pub granted-at : (q : Place) → found ≡ some q → (b : Block) → b ≡ blockOf row q → (u : F .Room) → u ≡ F .encode (poolOf q)
+      pub granted-at : (q : Place) → found ≡ some q → (b : Block) → b ≡ blockOf row q → (u : F .Kept) → u ≡ F .encode (poolOf q)
           → CarriedOutBy F a asked (Reply.Done (handleAt row b)) (put (ownedAt row b) (frame (b .class) (b .slot) (b .alloc .disp) (b .alloc .size)) a) u
       unfolding enframe
       granted-at q f b e u eu = rw (granting, ap (grantAt row (F .view t)) f, e) (record { answer = refl; arena = refl; room = eu })
@@ -231,14 +231,14 @@ module _ {R : Type 0} where
   pub whole : {x : Answer} {a : List ℕ} {t : R} {o : Outcome R} → x ≡ o .answer → a ≡ o .arena → t ≡ o .room → left x a t ≡ o
   whole {x} {a} {t} {o} e f g = ap (λ x. left x a t) e ∙ ap (λ a. left (o .answer) a t) f ∙ ap (left (o .answer) (o .arena)) g
 
-module _ {F : Form} {a : List ℕ} {p : Plan} {w : Reply} {x : List ℕ} {u : F .Room} {r : Outcome (F .Room)} where
+module _ {F : Form} {a : List ℕ} {p : Plan} {w : Reply} {x : List ℕ} {u : F .Kept} {r : Outcome (F .Kept)} where
   -- what a call leaves that carries a plan out
   pub carried-as : CarriedOutBy F a p w x u → r ≡ applied F a p → left (replyAnswer w) x u ≡ r
   carried-as d e = whole (d .answer) (d .arena) (d .room) ∙ sym e
 
-module _ {row : ℕ} {F : Form} {a : List ℕ} {t : F .Room} (r : Checked row F a t) where
+module _ {row : ℕ} {F : Form} {a : List ℕ} {t : F .Kept} (r : Checked row F a t) where
   -- a call that writes nothing and keeps the state of sound tables: all stays, but for the answer
-  pub kept-as : {x y : Answer} {o : Outcome (F .Room)} → x ≡ y → o ≡ left y a (F .encode (F .view t)) → left x a t ≡ o
+  pub kept-as : {x y : Answer} {o : Outcome (F .Kept)} → x ≡ y → o ≡ left y a (F .encode (F .view t)) → left x a t ≡ o
   kept-as e h = whole e refl (sym (same-room r)) ∙ sym h
 
   -- report, by what is counted

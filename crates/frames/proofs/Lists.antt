@@ -32,17 +32,17 @@ refused-parts {R} x l e = (
   ),
 )
 
-module _ {row : ℕ} {F : Form} {a : List ℕ} {t : F .Room} (r : Checked row F a t) (total cap places : ℕ) (ns : List ℕ) where
+module _ {row : ℕ} {F : Form} {a : List ℕ} {t : F .Kept} (r : Checked row F a t) (total cap places : ℕ) (ns : List ℕ) where
   abbrev P : Pool
   P = F .view t
 
   formed : T (wellFormed P)
   formed = r .laws .only (length a) t (true-T (F .sound (length a) t) (r .sound)) .0 .formed
 
-  abbrev does : Plan → Outcome (F .Room)
+  abbrev does : Plan → Outcome (F .Kept)
   does p = carriedBy row F a t p
 
-  abbrev asked : Outcome (F .Room)
+  abbrev asked : Outcome (F .Kept)
   asked = callBy row F a t (grantsList total cap places ns)
 
   asks : asked ≡ does (grantList row P total cap places ns)
@@ -95,9 +95,9 @@ module _ {row : ℕ} {F : Form} {a : List ℕ} {t : F .Room} (r : Checked row F 
               let n : length (map (handle row) qs) ≡ length ns =
               places-counted row P ns qs formed (accepts-small total cap ns (true-T (accepts total cap ns) k)) f in
               record {
-                number = sym (ap (λ (r : Outcome (F .Room)). r .answer .number) d);
-                values = ap (λ m. m ∷ []) (sym n) ∙ sym (ap (λ (r : Outcome (F .Room)). r .answer .values) d);
-                lent = ap (λ o. map (handle row) (granted o)) f ∙ sym (ap (λ (r : Outcome (F .Room)). r .answer .lent) d);
-                arena = ap (λ o. written a (map (enframe row) (granted o))) f ∙ sym (ap (λ (r : Outcome (F .Room)). r .arena) d);
-                room = ap (λ o. F .encode (poolAfter P (granted o))) f ∙ sym (ap (λ (r : Outcome (F .Room)). r .room) d);
+                number = sym (ap (λ (r : Outcome (F .Kept)). r .answer .number) d);
+                values = ap (λ m. m ∷ []) (sym n) ∙ sym (ap (λ (r : Outcome (F .Kept)). r .answer .values) d);
+                lent = ap (λ o. map (handle row) (granted o)) f ∙ sym (ap (λ (r : Outcome (F .Kept)). r .answer .lent) d);
+                arena = ap (λ o. written a (map (enframe row) (granted o))) f ∙ sym (ap (λ (r : Outcome (F .Kept)). r .arena) d);
+                room = ap (λ o. F .encode (poolAfter P (granted o))) f ∙ sym (ap (λ (r : Outcome (F .Kept)). r .room) d);
               }

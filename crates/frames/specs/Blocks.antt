@@ -91,7 +91,7 @@ module _ (L : Layout) (row : ℕ) where
   roomAfterBy t (some q) = encodeBy L row (poolOf q)
 
 -- an answer, an arena and what is lent for the tables are those of a plan carried out on an arena
-pub record CarriedOutBy (F : Form) (a : List ℕ) (p : Plan) (r : Reply) (x : List ℕ) (u : F .Room) : Type 0 where
+pub record CarriedOutBy (F : Form) (a : List ℕ) (p : Plan) (r : Reply) (x : List ℕ) (u : F .Kept) : Type 0 where
   pub answer : replyAnswer r ≡ p .answer
   pub arena : x ≡ written a (p .changes)
   pub room : u ≡ F .encode (p .pool)

@@ -14,7 +14,7 @@ use Rattle.model.proofs.Fresh.{fresh-rows, whole-rows}
 use Rattle.rows.proofs.Spans.{free-records}
 
 -- u being the bytes of the tables that are lent: set up takes them by their length
-module _ (row : ℕ) (F : Form) (a : List ℕ) (t : F .Room) (u : List ℕ) (fits : F .fits (length a) t ≡ eqb (length u) (roomBytes (length a / row))) where
+module _ (row : ℕ) (F : Form) (a : List ℕ) (t : F .Kept) (u : List ℕ) (fits : F .fits (length a) t ≡ eqb (length u) (roomBytes (length a / row))) where
   -- a room of the right size for a lawful arena
   pub record Fitting : Type 0 where
     pub lawful : T (arenaRight row (length a))
@@ -49,7 +49,7 @@ module _ (row : ℕ) (F : Form) (a : List ℕ) (t : F .Room) (u : List ℕ) (fit
       go false e = choose-false (setUpRightBy row F a t) _ _ e
 
   pub set-up-made : Fitting → callBy row F a t setsUp
-      ≡ record { answer = done (0 ∷ []); arena = zeros (length a); room = F .encode (freshPool (length a / row)) }
+      ≡ record { answer = done (0 ∷ []); arena = zeros (length a); kept = F .encode (freshPool (length a / row)) }
   unfolding callBy setUpBy setUpRightBy
   set-up-made f =
       choose-true (arenaRight row (length a) && F .fits (length a) t) _ _

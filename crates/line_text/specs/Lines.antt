@@ -8,8 +8,8 @@ use Rattle.mem.specs.Lists.{join}
 use Rattle.model.specs.Answers.{Answer, replyAnswer, reportAnswer}
 use Rattle.text.specs.Decimal.{decimal}
 use Rattle.trace.specs.Replay.{Line, told, bad}
-use Rattle.line_text.specs.declared.Told.{Told}
-use Rattle.line_text.specs.declared.Told.the-variants.{One, Six, Bad}
+use Rattle.line_text.specs.declared.Said.{Said}
+use Rattle.line_text.specs.declared.Said.the-variants.{One, Six, Bad}
 
 -- a space and a number
 unfoldable pub field : ℕ → List ℕ
@@ -22,7 +22,7 @@ lineText (told r) = decimal (r .number) ++ (join field (r .values) ++ (10 ∷ []
 lineText (bad k) = (98 ∷ 97 ∷ 100 ∷ []) ++ (field k ++ (10 ∷ []))
 
 -- the answer that the code tells, none where the record is bad
-abbrev pub answerOf : Told → Option Answer
+abbrev pub answerOf : Said → Option Answer
 answerOf (One r) = some (replyAnswer r)
 answerOf (Six r) = some (reportAnswer r)
 answerOf Bad = none
@@ -33,7 +33,7 @@ isBad none = true
 isBad (some r) = false
 
 -- the line of what is told is no longer than the loop has room for: only a report's depends on its numbers
-abbrev pub Short : Told → Type 0
+abbrev pub Short : Said → Type 0
 Short (One r) = Unit {0}
 Short (Six r) = length (lineText (told (reportAnswer r))) ≤ 45
 Short Bad = Unit {0}

@@ -8,14 +8,14 @@ use Rattle.trace.specs.Replay.{Line, told, bad}
 use Rattle.line_text.specs.Lines.{lineText}
 
 -- a line, and its text in ASCII
-pub record Entry : Type 0 where
+pub record TextCase : Type 0 where
   pub line : Line
   pub text : List ℕ
 
-abbrev pub prints : Line → List ℕ → Entry
+abbrev pub prints : Line → List ℕ → TextCase
 prints l t = record { line = l; text = t }
 
-unfoldable pub sheet : List Entry
+unfoldable pub sheet : List TextCase
 sheet =
     -- `0 16`, and a store's `0 0`
     prints (told (done (16 ∷ []))) (48 ∷ 32 ∷ 49 ∷ 54 ∷ 10 ∷ [])

@@ -11,7 +11,7 @@ use model::Reply;
 use model::Report;
 
 // What a record tells: an answer with one value, a report, or that the record is bad.
-pub enum Told {
+pub enum Said {
     One(Reply),
     Six(Report),
     Bad,
@@ -71,32 +71,32 @@ pub fn put_bad(out: &mut [u8], at: usize, count: usize) -> usize
 }
 
 // Writes the line of a record at a place, and gives the place after it.
-pub fn put_line(out: &mut [u8], at: usize, count: usize, told: Told) -> usize
+pub fn put_line(out: &mut [u8], at: usize, count: usize, told: Said) -> usize
     requires { ⌜ (at + 150 ≤ length (now out)) × Short told ⌝ }
     ensures { λ r. ⌜ r ≡ at + length (lineText (lineOf count (answerOf told))) ⌝ }
     ensures { λ r. ⌜ now (out .exit) ≡ put at (lineText (lineOf count (answerOf told))) (now (out .entry)) ⌝ }
     ensures small { λ r. ⌜ r ≤ at + 45 ⌝ }
 {
     match told {
-        Told::One(r) => {
+        Said::One(r) => {
             let values = [answers::value_of(r)];
             put_answer(out, at, answers::number_of(r), &values)
         }
-        Told::Six(r) => {
+        Said::Six(r) => {
             let values = answers::report_values(r);
             put_answer(out, at, answers::report_number(r), &values)
         }
-        Told::Bad => put_bad(out, at, count),
+        Said::Bad => put_bad(out, at, count),
     }
 }
 
 // Whether a record is bad, and so the last.
-pub fn is_bad(told: Told) -> bool
+pub fn is_bad(told: Said) -> bool
     ensures { λ r. ⌜ r ≡ isBad (answerOf told) ⌝ }
 {
     match told {
-        Told::One(_) => false,
-        Told::Six(_) => false,
-        Told::Bad => true,
+        Said::One(_) => false,
+        Said::Six(_) => false,
+        Said::Bad => true,
     }
 }

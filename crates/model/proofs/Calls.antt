@@ -15,7 +15,7 @@ use Rattle.model.specs.Calls.{Form, FormLaws, Outcome, applied, damaged,
 abbrev pub Asks : Call → Type 0
 Asks c = T (not (isSetUp c))
 
-module _ (row : ℕ) (F : Form) (a : List ℕ) (t : F .Room) where
+module _ (row : ℕ) (F : Form) (a : List ℕ) (t : F .Kept) where
   call-checked : (c : Call) → Asks c → callBy row F a t c ≡ checkedBy row F a t c
   unfolding callBy
   call-checked c k = choose-false (isSetUp c) _ _ (not-so (isSetUp c) k)
@@ -34,7 +34,7 @@ module _ (row : ℕ) (F : Form) (a : List ℕ) (t : F .Room) where
     same-room L = sym (L .only (length a) t (true-T (F .sound (length a) t) s) .1)
 
 -- a plan that names no block, and one that names a block that is not damaged, or is
-module _ (row : ℕ) (F : Form) (a : List ℕ) (t : F .Room) (p : Plan) where
+module _ (row : ℕ) (F : Form) (a : List ℕ) (t : F .Kept) (p : Plan) where
   pub carried-whole : damaged row a (p .checks) ≡ Intact → carriedBy row F a t p ≡ applied F a p
   unfolding carriedBy unless
   carried-whole e = ap (λ d. unless d (applied F a p) (λ r. keeps (refusal r) a t)) e
@@ -52,16 +52,16 @@ on-live P f p l = choose-true (isLive (p .state)) _ _ (T-true (isLive (p .state)
 -- what a call leaves is what it was given
 pub record LeftAsIs {R : Type 0} (a : List ℕ) (t : R) (r : Outcome R) : Type 0 where
   pub arena : r .arena ≡ a
-  pub room : r .room ≡ t
+  pub kept : r .kept ≡ t
 
-module _ (row : ℕ) (F : Form) (L : FormLaws row F) (a : List ℕ) (t : F .Room) where
+module _ (row : ℕ) (F : Form) (L : FormLaws row F) (a : List ℕ) (t : F .Kept) where
   -- a call whose plan has no writes and keeps the state, refused or not
   left-as-is : (c : Call) → Asks c
       → (plan row (F .view t) c .changes ≡ []) × (plan row (F .view t) c .pool ≡ F .view t) → LeftAsIs a t (callBy row F a t c)
   left-as-is c k (e, f) = sounds (F .sound (length a) t) refl
     where
-      kept : (r : Outcome (F .Room)) → ((r .arena ≡ a) × (r .room ≡ t)) → callBy row F a t c ≡ r → LeftAsIs a t (callBy row F a t c)
-      kept r (x, y) z = record { arena = ap (λ (q : Outcome (F .Room)). q .arena) z ∙ x; room = ap (λ (q : Outcome (F .Room)). q .room) z ∙ y }
+      kept : (r : Outcome (F .Kept)) → ((r .arena ≡ a) × (r .kept ≡ t)) → callBy row F a t c ≡ r → LeftAsIs a t (callBy row F a t c)
+      kept r (x, y) z = record { arena = ap (λ (q : Outcome (F .Kept)). q .arena) z ∙ x; kept = ap (λ (q : Outcome (F .Kept)). q .kept) z ∙ y }
 
       p : Plan
       p = plan row (F .view t) c

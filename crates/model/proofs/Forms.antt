@@ -37,21 +37,21 @@ module _ (row : ℕ) where
   -- a call on a state that stands under the arena: what is answered, the arena and the state after it
   abbrev pub stepped : List ℕ → Pool → Plan → Outcome Pool
   stepped a P p =
-      let yes : Outcome Pool = record { answer = p .answer; arena = written a (p .changes); room = p .pool } in
+      let yes : Outcome Pool = record { answer = p .answer; arena = written a (p .changes); kept = p .pool } in
       unless (damaged row a (p .checks)) yes (λ r. keeps (refusal r) a P)
 
   abbrev pub step : List ℕ → Pool → Call → Outcome Pool
   step a P c =
-      let made : Outcome Pool = record { answer = done (0 ∷ []); arena = zeros (length a); room = freshPool (length a / row) } in
+      let made : Outcome Pool = record { answer = done (0 ∷ []); arena = zeros (length a); kept = freshPool (length a / row) } in
       choose (isSetUp c) made (stepped a P (plan row P c))
 
   -- an outcome with its state in the room
-  abbrev pub inRoom : (F : Form) → Outcome Pool → Outcome (F .Room)
-  inRoom F o = record { answer = o .answer; arena = o .arena; room = F .encode (o .room) }
+  abbrev pub inRoom : (F : Form) → Outcome Pool → Outcome (F .Kept)
+  inRoom F o = record { answer = o .answer; arena = o .arena; kept = F .encode (o .kept) }
 
   module _ (F : Form) (L : FormLaws row F) (a : List ℕ) (P : Pool) (s : Stands row (length a) P) where
     set-up-step : setUpBy row F a (F .encode P)
-        ≡ record { answer = done (0 ∷ []); arena = zeros (length a); room = F .encode (freshPool (length a / row)) }
+        ≡ record { answer = done (0 ∷ []); arena = zeros (length a); kept = F .encode (freshPool (length a / row)) }
     unfolding setUpBy setUpRightBy
     set-up-step =
         choose-true (arenaRight row (length a) && F .fits (length a) (F .encode P)) _ _
@@ -91,7 +91,7 @@ module _ (row : ℕ) where
     -- an outcome over an arena of n bytes
     pub record Standing (o : Outcome Pool) : Type 0 where
       pub long : length (o .arena) ≡ n
-      pub stands : Stands row n (o .room)
+      pub stands : Stands row n (o .kept)
 
     stepped-stands : (c : Call) → Standing (stepped a P (plan row P c))
     stepped-stands c =

@@ -39,13 +39,13 @@ pub whole-units : (row n : ℕ) → T (arenaRight row n) → row % 16 ≡ 0
 unfolding arenaRight
 whole-units row n t = eqb→eq (row % 16) 0 (search (and-left, and-right))
 
-module _ (row : ℕ) (F : Form) (a : List ℕ) (t : F .Room) (h : T (setUpRightBy row F a t)) where
+module _ (row : ℕ) (F : Form) (a : List ℕ) (t : F .Kept) (h : T (setUpRightBy row F a t)) where
   pub set-up-lawful : T (arenaRight row (length a))
   unfolding setUpRightBy
   set-up-lawful = search and-left
 
   pub set-up-done : setUpBy row F a t
-      ≡ record { answer = done (0 ∷ []); arena = zeros (length a); room = F .encode (freshPool (length a / row)) }
+      ≡ record { answer = done (0 ∷ []); arena = zeros (length a); kept = F .encode (freshPool (length a / row)) }
   unfolding setUpBy
   set-up-done = choose-true (setUpRightBy row F a t) _ _ (T-true (setUpRightBy row F a t) h)
 

@@ -9,7 +9,7 @@ use Rattle.model.specs.Answers.{listed}
 use Rattle.model.specs.State.{Pool, rows}
 use Rattle.model.specs.Plans.{totals}
 use Rattle.model.specs.Tables.{Layout, LayoutLaws, byMasks, encodeBy, view, sound, roomBytes}
-use Rattle.model.specs.Calls.{Kept, KeptBytes, Form, Stands, FormLaws, formOf, sameTotals, masked, counted, engine, soundKept}
+use Rattle.model.specs.Calls.{WithTotals, KeptBytes, Form, Stands, FormLaws, formOf, sameTotals, masked, counted, engine, soundKept}
 use Rattle.model.proofs.Fresh.{whole-rows}
 use Rattle.model.proofs.Tables.{masks-laws, view-encode, encode-length, encode-sound, sound-facts}
 
@@ -66,7 +66,7 @@ counted-lawful row F L = record {
   only = λ n t h.
       let k = L .only n (t .tables) (and-left (F .sound n (t .tables)) (sameTotals (t .totals) (totals row (F .view (t .tables)))) h) in (
         k .0,
-        ap₂ {C = Kept (F .Room)} (λ r z. record { tables = r; totals = z }) (k .1)
+        ap₂ {C = WithTotals (F .Kept)} (λ r z. record { tables = r; totals = z }) (k .1)
             (same-totals (t .totals) (totals row (F .view (t .tables)))
             (and-right (F .sound n (t .tables)) (sameTotals (t .totals) (totals row (F .view (t .tables)))) h)),
       );

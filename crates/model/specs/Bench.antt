@@ -332,18 +332,18 @@ unfoldable pub passes : List ℕ → KeptBytes → List Line → Bool
 passes a t [] = true
 passes a t (asks c k vs ∷ ls) =
     let r = call rowBytes a t c in
-    let rest = passes (r .arena) (r .room) ls in
+    let rest = passes (r .arena) (r .kept) ls in
     let right : Bool = eqb (r .answer .number) k && same (r .answer .values) vs in
     choose right rest false
 passes a t (lists c k l m ∷ ls) =
     let r = call rowBytes a t c in
-    let rest = passes (r .arena) (r .room) ls in
+    let rest = passes (r .arena) (r .kept) ls in
     let right : Bool = eqb (r .answer .number) 0 && same (r .answer .values) (k ∷ []) && same (put 0 (r .answer .lent) l) m in
     choose right rest false
 passes a t (leaves c k ∷ ls) =
     let r = call rowBytes a t c in
-    let rest = passes (r .arena) (r .room) ls in
-    let kept : Bool = same (r .arena) a && same (r .room .tables) (t .tables) && sameTotals (r .room .totals) (t .totals) && same (r .answer .lent) [] in
+    let rest = passes (r .arena) (r .kept) ls in
+    let kept : Bool = same (r .arena) a && same (r .kept .tables) (t .tables) && sameTotals (r .kept .totals) (t .totals) && same (r .answer .lent) [] in
     let right : Bool = eqb (r .answer .number) k && same (r .answer .values) (0 ∷ []) && kept in
     choose right rest false
 passes a t (shows p bs ∷ ls) = let rest = passes a t ls in choose (same (part p (length bs) a) bs) rest false
@@ -356,7 +356,7 @@ passes a t (spoils p b ∷ ls) = passes a (keptIn (set (t .tables) p b) (t .tota
 unfoldable pub right : Entry → Bool
 right (fresh n ls) =
     let r = setUp rowBytes (zeros n) (keptIn (zeros (roomBytes (n / rowBytes))) (six 7 7 7 7 7 7)) in
-    eqb (r .answer .number) 0 && passes (r .arena) (r .room) ls
+    eqb (r .answer .number) 0 && passes (r .arena) (r .kept) ls
 right (sets n m k) = eqb (setUp rowBytes (zeros n) (keptIn (zeros m) (six 7 7 7 7 7 7)) .answer .number) k
 right (rooms n m) = eqb (roomFor rowBytes n) m
 right (keeps x bs) = same (slotRecord x) bs

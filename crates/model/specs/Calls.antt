@@ -19,29 +19,29 @@ use Rattle.model.specs.Answers.{Answer, numberOf, done, refusal, listed}
 use Rattle.model.specs.Plans.{Plan, Write, writes, copies, Call, isSetUp, valuesOf, plan, freshPool, totals}
 use Rattle.model.specs.Tables.{Layout, byMasks, encodeBy, viewBy, soundBy, arenaRight, roomBytes}
 
--- A form of the tables: what stands in the room for a state, what a room says, whether a room is sound under an arena of n bytes,
+-- A form of the tables: what is kept for a state, the table room or that with a record; what it says, whether it is sound under an arena of n bytes,
 -- and whether set up takes it for one.
 pub record Form : Type 1 where
-  pub Room : Type 0
-  pub encode : Pool → Room
-  pub view : Room → Pool
-  pub sound : ℕ → Room → Bool
-  pub fits : ℕ → Room → Bool
+  pub Kept : Type 0
+  pub encode : Pool → Kept
+  pub view : Kept → Pool
+  pub sound : ℕ → Kept → Bool
+  pub fits : ℕ → Kept → Bool
 
--- what a call leaves
+-- what a call leaves; the kept is the table room, and in the first engine the record too
 pub record Outcome (R : Type 0) : Type 0 where
   pub answer : Answer
   pub arena : List ℕ
-  pub room : R
+  pub kept : R
 
 -- 02 §4: "The six totals are now kept in one small record beside the tables": tables, and the record
-pub record Kept (R : Type 0) : Type 0 where
+pub record WithTotals (R : Type 0) : Type 0 where
   pub tables : R
   pub totals : Totals
 
 -- where the tables are bytes
 abbrev pub KeptBytes : Type 0
-KeptBytes = Kept (List ℕ)
+KeptBytes = WithTotals (List ℕ)
 
 abbrev pub keptIn : List ℕ → Totals → KeptBytes
 keptIn t s = record { tables = t; totals = s }
@@ -54,7 +54,7 @@ sameTotals a b = same (listed a) (listed b)
 
 -- an answer, with the arena and the room that a call leaves
 abbrev pub left : {R : Type 0} → Answer → List ℕ → R → Outcome R
-left r a t = record { answer = r; arena = a; room = t }
+left r a t = record { answer = r; arena = a; kept = t }
 
 -- "With a refusal .. arena and tables keep every byte."
 abbrev pub keeps : {R : Type 0} → Answer → List ℕ → R → Outcome R
@@ -70,8 +70,8 @@ written a [] = a
 written a (w ∷ ws) = written (write a w) ws
 
 -- a plan carried out on an arena, and its state in the room
-abbrev pub applied : (F : Form) → List ℕ → Plan → Outcome (F .Room)
-applied F a p = record { answer = p .answer; arena = written a (p .changes); room = F .encode (p .pool) }
+abbrev pub applied : (F : Form) → List ℕ → Plan → Outcome (F .Kept)
+applied F a p = record { answer = p .answer; arena = written a (p .changes); kept = F .encode (p .pool) }
 
 -- "unsound: arena or table room length wrong, or a soundness rule is broken". "With a refusal the value is 0 (from report, six zeros)"
 abbrev pub unsound : Call → Answer
@@ -90,25 +90,25 @@ module _ (row : ℕ) where
 
   module _ (F : Form) where
     -- a plan carried out where the block that it names is intact; else the reason, and nothing changes
-    unfoldable pub carriedBy : List ℕ → F .Room → Plan → Outcome (F .Room)
+    unfoldable pub carriedBy : List ℕ → F .Kept → Plan → Outcome (F .Kept)
     carriedBy a t p =
         unless (damaged a (p .checks)) (applied F a p) (λ r. keeps (refusal r) a t)
 
     -- "bad arena: set up only: arena length outside the rule, or table room of another size"
-    unfoldable pub setUpRightBy : List ℕ → F .Room → Bool
+    unfoldable pub setUpRightBy : List ℕ → F .Kept → Bool
     setUpRightBy a t = arenaRight row (length a) && F .fits (length a) t
 
     -- "Set up writes zero over the whole arena and makes tables with no groups."
-    unfoldable pub setUpBy : List ℕ → F .Room → Outcome (F .Room)
+    unfoldable pub setUpBy : List ℕ → F .Kept → Outcome (F .Kept)
     setUpBy a t =
-        let yes : Outcome (F .Room) = record { answer = done (0 ∷ []); arena = zeros (length a); room = F .encode (freshPool (length a / row)) } in
+        let yes : Outcome (F .Kept) = record { answer = done (0 ∷ []); arena = zeros (length a); kept = F .encode (freshPool (length a / row)) } in
         choose (setUpRightBy a t) yes (keeps (refusal BadArena) a t)
 
     -- a call on tables that must be sound
-    unfoldable pub checkedBy : List ℕ → F .Room → Call → Outcome (F .Room)
+    unfoldable pub checkedBy : List ℕ → F .Kept → Call → Outcome (F .Kept)
     checkedBy a t c = let yes = carriedBy a t (plan row (F .view t) c) in choose (F .sound (length a) t) yes (keeps (unsound c) a t)
 
-    unfoldable pub callBy : List ℕ → F .Room → Call → Outcome (F .Room)
+    unfoldable pub callBy : List ℕ → F .Kept → Call → Outcome (F .Kept)
     unfolding choose
     callBy a t c = choose (isSetUp c) (setUpBy a t) (checkedBy a t c)
 
@@ -123,14 +123,14 @@ module _ (row : ℕ) where
   pub record FormLaws (F : Form) : Type 0 where
     pub says : (P : Pool) → T (wellFormed P) → F .view (F .encode P) ≡ P
     pub right : (n : ℕ) (P : Pool) → Stands n P → T (F .sound n (F .encode P))
-    pub only : (n : ℕ) (t : F .Room) → T (F .sound n t) → Stands n (F .view t) × (t ≡ F .encode (F .view t))
+    pub only : (n : ℕ) (t : F .Kept) → T (F .sound n t) → Stands n (F .view t) × (t ≡ F .encode (F .view t))
     pub taken : (n : ℕ) (P : Pool) → Stands n P → T (F .fits n (F .encode P))
     pub sized : (n m : ℕ) (P : Pool) → Stands n P → T (arenaRight row m) → T (F .fits m (F .encode P)) → m ≡ n
 
   -- tables in bytes, in a layout: set up takes a room of the one exact size
   abbrev pub formOf : Layout → Form
   formOf L = record {
-    Room = List ℕ;
+    Kept = List ℕ;
     encode = encodeBy L row;
     view = viewBy L row;
     sound = soundBy L row;
@@ -144,7 +144,7 @@ module _ (row : ℕ) where
   -- 02 §4: a form with the record beside it. "Soundness gains a rule: the stored totals equal those counted from the tables."
   abbrev pub counted : Form → Form
   counted F = record {
-    Room = Kept (F .Room);
+    Kept = WithTotals (F .Kept);
     encode = λ P. record { tables = F .encode P; totals = totals row P };
     view = λ t. F .view (t .tables);
     sound = λ n t. F .sound n (t .tables) && sameTotals (t .totals) (totals row (F .view (t .tables)));

@@ -69,13 +69,13 @@ unfoldable pub plainPasses : List ℕ → List ℕ → List PlainLine → Bool
 plainPasses a t [] = true
 plainPasses a t (asks c k vs ∷ ls) =
     let r = plainCall rowBytes a t c in
-    let rest = plainPasses (r .arena) (r .room) ls in
+    let rest = plainPasses (r .arena) (r .kept) ls in
     let right : Bool = eqb (r .answer .number) k && same (r .answer .values) vs in
     choose right rest false
 plainPasses a t (leaves c k ∷ ls) =
     let r = plainCall rowBytes a t c in
-    let rest = plainPasses (r .arena) (r .room) ls in
-    let right : Bool = eqb (r .answer .number) k && same (r .answer .values) (0 ∷ []) && same (r .arena) a && same (r .room) t in
+    let rest = plainPasses (r .arena) (r .kept) ls in
+    let right : Bool = eqb (r .answer .number) k && same (r .answer .values) (0 ∷ []) && same (r .arena) a && same (r .kept) t in
     choose right rest false
 plainPasses a t (shows p bs ∷ ls) = let rest = plainPasses a t ls in choose (same (part p (length bs) t) bs) rest false
 plainPasses a t (spoils p b ∷ ls) = plainPasses a (set t p b) ls

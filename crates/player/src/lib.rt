@@ -10,10 +10,10 @@ ghost use Rattle.classes.specs.Classes.{rowBytes};
 ghost use Rattle.model.specs.Calls.{keptIn};
 ghost use Rattle.trace.specs.Trace.{Within, operationOf};
 ghost use Rattle.trace.specs.Replay.{performed};
-ghost use Rattle.line_text.specs.declared.Told.{Told};
+ghost use Rattle.line_text.specs.declared.Said.{Said};
 ghost use Rattle.line_text.specs.Lines.{answerOf, Short};
 ghost use Rattle.player.specs.Printed.{printed, playedText};
-use line_text::Told;
+use line_text::Said;
 use model::Answered;
 use model::Reply;
 use model::Report;
@@ -26,18 +26,18 @@ pub const TEXT: usize = 1048576;
 
 // What a record tells, and the totals after it.
 struct Played {
-    pub told: Told,
+    pub told: Said,
     pub totals: Totals,
 }
 
 // What a call tells.
 fn tell(r: Answered) -> Played
-    ensures { λ p. ⌜ (p .told ≡ Told.One (r .reply)) × (p .totals ≡ r .totals) ⌝ }
+    ensures { λ p. ⌜ (p .told ≡ Said.One (r .reply)) × (p .totals ≡ r .totals) ⌝ }
 {
     let reply = r.reply;
     let totals = r.totals;
     Played {
-        told: Told::One(reply),
+        told: Said::One(reply),
         totals: totals,
     }
 }
@@ -77,24 +77,24 @@ fn perform(arena: &mut [u8], room: &mut [u8], t: Totals, trace: &[u8], op: Op) -
         Op::Release(handle) => tell(pool::release(arena, room, t, handle)),
         Op::Resize(handle, n) => tell(pool::resize(arena, room, t, handle, n)),
         Op::Measure(handle) => Played {
-            told: Told::One(pool::measure(arena, room, t, handle)),
+            told: Said::One(pool::measure(arena, room, t, handle)),
             totals: t,
         },
         Op::Store { offset, from, to } => {
             if store(arena, offset, &trace[from..to]) {
                 Played {
-                    told: Told::One(Reply::Done(0)),
+                    told: Said::One(Reply::Done(0)),
                     totals: t,
                 }
             } else {
                 Played {
-                    told: Told::Bad,
+                    told: Said::Bad,
                     totals: t,
                 }
             }
         }
         Op::Report => Played {
-            told: Told::Six(pool::report(arena, room, t)),
+            told: Said::Six(pool::report(arena, room, t)),
             totals: t,
         },
     }

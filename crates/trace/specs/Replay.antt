@@ -27,10 +27,10 @@ pub data Line : Type 0 where
 pub record Effect : Type 0 where
   pub tells : Option Answer
   pub arena : List ℕ
-  pub room : KeptBytes
+  pub kept : KeptBytes
 
 abbrev pub effect : Result → Effect
-effect r = record { tells = some (r .answer); arena = r .arena; room = r .room }
+effect r = record { tells = some (r .answer); arena = r .arena; kept = r .kept }
 
 -- the line of record i, by what it tells
 abbrev pub lineOf : ℕ → Option Answer → Line
@@ -53,22 +53,22 @@ module _ (row : ℕ) where
   performed a t (resize o n) = effect (call row a t (resizes o n))
   performed a t (measure o) = effect (call row a t (measures o))
   performed a t (store o bs) =
-      choose (leb (o + length bs) (length a)) (record { tells = some (done (0 ∷ [])); arena = put o bs a; room = t })
-      (record { tells = none; arena = a; room = t })
+      choose (leb (o + length bs) (length a)) (record { tells = some (done (0 ∷ [])); arena = put o bs a; kept = t })
+      (record { tells = none; arena = a; kept = t })
   performed a t report = effect (call row a t reports)
 
   -- the lines of records, the first of which is record i: "prints `bad` and the record's number from 1 .. and ends"
   unfoldable pub linesFrom : List ℕ → KeptBytes → ℕ → List Item → List Line
   linesFrom a t i [] = []
   linesFrom a t i (Item.bad ∷ xs) = Line.bad i ∷ []
-  linesFrom a t i (does x ∷ xs) = let d = performed a t x in lineThen i (d .tells) (linesFrom (d .arena) (d .room) (suc i) xs)
+  linesFrom a t i (does x ∷ xs) = let d = performed a t x in lineThen i (d .tells) (linesFrom (d .arena) (d .kept) (suc i) xs)
 
   -- a trace replayed over an arena, a table room and the record, which are set up first. "0 for the version"; "An empty trace, or one over 65,535 bytes,
   -- prints `bad 0` alone."
   unfoldable pub replayedOver : List ℕ → KeptBytes → List ℕ → List Line
   replayedOver a t s =
       let r = call row a t setsUp in
-      let ls = linesFrom (r .arena) (r .room) 1 (items s) in
+      let ls = linesFrom (r .arena) (r .kept) 1 (items s) in
       choose (traceRight s) ls (Line.bad 0 ∷ [])
 
 -- the program's record before the set up

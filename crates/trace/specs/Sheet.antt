@@ -8,15 +8,15 @@ use Rattle.trace.specs.Trace.{Operation, grant, release, resize, measure
 use Rattle.trace.specs.Replay.{Line, told, bad, replayed}
 
 -- a trace, and its lines
-pub record Entry : Type 0 where
+pub record TraceCase : Type 0 where
   pub trace : List ℕ
   pub due : List Line
 
 -- bytes, or operations as the writer puts them, with the lines due
-abbrev pub bytes : List ℕ → List Line → Entry
+abbrev pub bytes : List ℕ → List Line → TraceCase
 bytes s ls = record { trace = s; due = ls }
 
-abbrev pub written : List Operation → List Line → Entry
+abbrev pub written : List Operation → List Line → TraceCase
 written xs ls = bytes (encodeTrace xs) ls
 
 -- a value, or a refusal
@@ -26,7 +26,7 @@ gives v = told (done (v ∷ []))
 abbrev pub refuses : ℕ → Line
 refuses k = told (record { number = k; values = 0 ∷ []; lent = [] })
 
-unfoldable pub sheet : List Entry
+unfoldable pub sheet : List TraceCase
 sheet =
     -- "The trace 1 0 5 1 0 0 0 0 prints `0 16`."
     bytes (1 ∷ 0 ∷ 5 ∷ 1 ∷ 0 ∷ 0 ∷ 0 ∷ 0 ∷ []) (gives 16 ∷ [])
@@ -75,7 +75,7 @@ sheet =
 
 -- one trace that refuses a wrong definition soonest: a store up to the arena's end, a resize of 131,072 bytes, a store one byte past the end. It
 -- is proved beside the definitions; the whole sheet is proved in `bench`
-unfoldable pub sheetShort : List Entry
+unfoldable pub sheetShort : List TraceCase
 sheetShort =
     bytes (1 ∷ 0 ∷ 6 ∷ 5 ∷ 0 ∷ 0 ∷ 63 ∷ 255 ∷ 7 ∷ 0 ∷ 9 ∷ 3 ∷ 0 ∷ 0 ∷ 0 ∷ 0 ∷ 0 ∷ 2 ∷ 0 ∷ 0 ∷ 0 ∷ 7 ∷ 5 ∷ 0 ∷ 0 ∷ 63 ∷ 255 ∷ 7 ∷ 8 ∷ [])
     (gives 0 ∷ refuses 3 ∷ bad 3 ∷ [])

@@ -5,7 +5,7 @@ use Rattle.model.specs.declared.Reply.{Reply}
 use Rattle.model.specs.declared.Report.{Report}
 use Rattle.model.specs.Answers.{Answer, replyAnswer, reportAnswer}
 use Rattle.trace.specs.Replay.{Line, lineOf}
-use Rattle.line_text.specs.declared.Told.{Told}
+use Rattle.line_text.specs.declared.Said.{Said}
 use Rattle.line_text.specs.Lines.{lineText, answerOf, Short}
 use Rattle.line_text.proofs.put_line.Statement.{statement}
 use Rattle.line_text.proofs.put_line.Tie as tie
@@ -34,7 +34,7 @@ returns c =
     let e = p .put-answer .ensures in
     let o = p .before .before .before .before .before .before .told .given in
     let q = of-reply (o .0 .0) _ _ (p .before .before .number-of .ensures) (p .before .before .before .before .value-of .ensures) in
-    subst (Writes (a .at) (now (a .out)) (p .put-answer .result) _) (ap Line.told q ∙ ap (λ (t : Told). lineOf (a .count) (answerOf t)) (sym (o .1)))
+    subst (Writes (a .at) (now (a .out)) (p .put-answer .result) _) (ap Line.told q ∙ ap (λ (t : Said). lineOf (a .count) (answerOf t)) (sym (o .1)))
     (e .0, (e .1 .0, omega (arith, e .1 .1)))
 
 returns-2 : tie.Need-returns-2
@@ -46,7 +46,7 @@ returns-2 c =
     let o = p .before .before .before .before .before .before .told2 .given in
     let q = of-report (o .0 .0) _ _ (p .before .before .report-number .ensures) (p .before .before .before .before .report-values .ensures) in
     let b = subst Short (o .1) (start .pre .1) in
-    subst (Writes (a .at) (now (a .out)) (p .put-answer2 .result) _) (ap Line.told q ∙ ap (λ (t : Told). lineOf (a .count) (answerOf t)) (sym (o .1)))
+    subst (Writes (a .at) (now (a .out)) (p .put-answer2 .result) _) (ap Line.told q ∙ ap (λ (t : Said). lineOf (a .count) (answerOf t)) (sym (o .1)))
     (e .0, (e .1 .0, omega (arith, e .0, ap (λ (r : Answer). length (lineText (Line.told r))) q, b)))
 
 returns-3 : tie.Need-returns-3
@@ -55,7 +55,7 @@ returns-3 c =
     let a = p .before .before .before .before .before .args in
     let e = p .put-bad .ensures in
     subst (Writes (a .at) (now (a .out)) (p .put-bad .result) _)
-    (ap (λ (t : Told). lineOf (a .count) (answerOf t)) (sym (p .before .before .enum-told .given .1))) (e .0, (e .1 .0, omega (arith, e .1 .1)))
+    (ap (λ (t : Said). lineOf (a .count) (answerOf t)) (sym (p .before .before .enum-told .given .1))) (e .0, (e .1 .0, omega (arith, e .1 .1)))
 
 pub put-line-spec : {M : Type 1} → statement M
 put-line-spec =

@@ -15,7 +15,7 @@ use Rattle.model.proofs.Calls.{LeftAsIs, measure-keeps, report-keeps}
 use Rattle.trace.specs.declared.Op.{Op}
 use Rattle.trace.specs.Trace.{Within, operationOf}
 use Rattle.trace.specs.Replay.{Line, Effect, effect, performed}
-use Rattle.line_text.specs.declared.Told.{Told}
+use Rattle.line_text.specs.declared.Said.{Said}
 use Rattle.player.specs.declared.Played.{Played}
 use Rattle.line_text.specs.Lines.{lineText, answerOf, Short}
 use Rattle.player.proofs.Laws.{Parts, of-call, of-store}
@@ -52,7 +52,7 @@ asks s o c x b u z e d r = of-call (does s (s .args .op)) (call rowBytes (now (s
     (ap (does s) e ∙ d) r
 
 -- a call that tells one value and its totals
-tells : (s : tie.Start) (p : Played) (r : Answered) (b u : List ℕ) → (p .told ≡ Told.One (r .reply)) × (p .totals ≡ r .totals)
+tells : (s : tie.Start) (p : Played) (r : Answered) (b u : List ℕ) → (p .told ≡ Said.One (r .reply)) × (p .totals ≡ r .totals)
     → Parts (record { tells = some (replyAnswer (r .reply)); arena = b; room = keptIn u (r .totals) }) (does s (s .args .op))
     → Short (p .told) × (let d = does s (s .args .op) in
     (answerOf (p .told) ≡ d .tells) × ((b ≡ d .arena) × ((u ≡ d .room .tables) × (p .totals ≡ d .room .totals))))
