@@ -1,15 +1,10 @@
 -- What the calls reserve and change in the first engine's tables, with the totals.
 use Prim.Native.Nat.{ℕ}
-use mathlib.Core.Path.{_≡_}
 use mathlib.Core.Option.{Option, none, some}
 use mathlib.Core.List.{List, _∷_, _++_}
-use Rattle.model.specs.declared.Reply.{Reply}
-use Rattle.model.specs.declared.Totals.{Totals}
 use Rattle.model.specs.State.{Place, group, poolOf, rows}
-use Rattle.model.specs.Answers.{replyAnswer}
-use Rattle.model.specs.Plans.{Plan, Site, totals}
-use Rattle.model.specs.Tables.{byMasks, encode}
-use Rattle.model.specs.Calls.{written}
+use Rattle.model.specs.Plans.{Site, totals}
+use Rattle.model.specs.Tables.{byMasks}
 use Rattle.rows.specs.Rows.{blockOf}
 use Rattle.frames.specs.Blocks.{siteRoomBy, roomAfterBy}
 use Rattle.ops.specs.declared.Opened.{Opened}
@@ -33,10 +28,3 @@ module _ (row : ℕ) where
 
   abbrev pub roomAfter : List ℕ → Option Place → List ℕ
   roomAfter t o = roomAfterBy byMasks row t o
-
-  -- an answer, an arena, a room and totals are those of a plan carried out on an arena
-  pub record CarriedOut (a : List ℕ) (p : Plan) (r : Reply) (x t : List ℕ) (s : Totals) : Type 0 where
-    pub answer : replyAnswer r ≡ p .answer
-    pub arena : x ≡ written a (p .changes)
-    pub room : t ≡ encode row (p .pool)
-    pub counts : s ≡ totals row (p .pool)

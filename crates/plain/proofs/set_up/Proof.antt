@@ -1,11 +1,8 @@
 -- Refused by the room's size, or done: zeros, and tables with no groups.
-use Rattle.mem.proofs.Prelude.{_∙_, sym, refl, _≤_, _*_, arith, now, needs, leb→le, length}
+use Rattle.plain.proofs.Kit.{_∙_, sym, refl, _≤_, _*_, arith, now, needs, leb→le, length, rowBytes, bySlots, plainForm, whole}
 use Rattle.mem.proofs.Tests.{and-left, and-right}
-use Rattle.classes.specs.Classes.{rowBytes}
 use Rattle.model.specs.Tables.{arenaRight, roomBytes}
-use Rattle.model.specs.Plain.{bySlots, plainForm}
 use Rattle.fresh.proofs.SetUp.{Fitting, fitting, set-up-refused, set-up-made, formatted}
-use Rattle.frames.proofs.Calls.{whole}
 use Rattle.plain.proofs.set_up.Statement.{statement}
 use Rattle.plain.proofs.set_up.Tie as tie
 

@@ -12,6 +12,7 @@ use Rattle.model.specs.Plans.{Call, grants, releases, resizes, measures, report
 use Rattle.model.specs.Calls.{KeptBytes, keptIn, Result, engine, call}
 use Rattle.model.proofs.Kept.{engine-lawful}
 use Rattle.model.proofs.Calls.{LeftAsIs, measure-keeps, report-keeps}
+use Rattle.pool.proofs.Kit.{parts}
 use Rattle.trace.specs.declared.Op.{Op}
 use Rattle.trace.specs.Trace.{Within, operationOf}
 use Rattle.trace.specs.Replay.{Line, Effect, effect, performed}
@@ -69,7 +70,7 @@ returns c =
     let s = o .before .before .before .before .before in
     let x = o .op .given .0 in
     tells s (c .tell .result) (g .grant .result) _ _ (c .tell .ensures)
-    (asks s (Op.Grant (x .0)) (grants (x .0)) _ _ _ _ (o .op .given .1) refl (g .grant .ensures))
+    (asks s (Op.Grant (x .0)) (grants (x .0)) _ _ _ _ (o .op .given .1) refl (parts (g .grant .ensures)))
 
 returns-2 : tie.Need-returns-2
 unfolding performed operationOf
@@ -79,7 +80,7 @@ returns-2 c =
     let s = o .before .before .before .before .before in
     let x = o .op2 .given .0 in
     tells s (c .tell2 .result) (g .release .result) _ _ (c .tell2 .ensures)
-    (asks s (Op.Release (x .0)) (releases (x .0)) _ _ _ _ (o .op2 .given .1) refl (g .release .ensures))
+    (asks s (Op.Release (x .0)) (releases (x .0)) _ _ _ _ (o .op2 .given .1) refl (parts (g .release .ensures)))
 
 returns-3 : tie.Need-returns-3
 unfolding performed operationOf
@@ -89,7 +90,7 @@ returns-3 c =
     let s = o .before .before .before .before .before in
     let x = o .op3 .given .0 in
     tells s (c .tell3 .result) (g .resize .result) _ _ (c .tell3 .ensures)
-    (asks s (Op.Resize (x .0) (x .1 .0)) (resizes (x .0) (x .1 .0)) _ _ _ _ (o .op3 .given .1) refl (g .resize .ensures))
+    (asks s (Op.Resize (x .0) (x .1 .0)) (resizes (x .0) (x .1 .0)) _ _ _ _ (o .op3 .given .1) refl (parts (g .resize .ensures)))
 
 -- what a call leaves that only reads
 as-they-were : {a : List ℕ} {t : KeptBytes} {r : Result} → LeftAsIs a t r → (a ≡ r .arena) × ((t .tables ≡ r .room .tables) × (t .totals ≡ r .room .totals))

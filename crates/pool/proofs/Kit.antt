@@ -1,0 +1,39 @@
+-- What the proofs of the calls share: names, and what a call tells.
+pub use Rattle.mem.proofs.Prelude.{_∙_, _≡_, sym, ap, ap₂, refl, subst, [], _∷_, _<_, _≤_, _*_, _/_, arith, now, needs, lit≤, leb, leb-true, leb-false, leb→le}
+pub use Rattle.mem.proofs.Prelude.{length, List, ℕ, true, _&&_, not-true, not-false, le-leb, lt-leb, and-false}
+unfoldable pub use Rattle.classes.specs.Classes.{rowBytes, tooLarge}
+pub use Rattle.classes.specs.Alignments.{enlarged, Askable}
+pub use Rattle.classes.proofs.Laws.{card-row}
+pub use Rattle.model.specs.Answers.{done}
+pub use Rattle.model.specs.Tables.{view}
+pub use Rattle.model.specs.Calls.{keptIn, engine}
+pub use Rattle.frames.specs.Blocks.{CarriedOutBy}
+pub use Rattle.frames.proofs.Calls.{Called, called-at, called-refused, called, carried-as, whole}
+pub use Rattle.ops.proofs.Calls.{Checked, by-check, passed, not-sound, holds}
+use Rattle.model.specs.declared.Answered.{Answered}
+use Rattle.model.specs.Answers.{Answer, replyAnswer}
+use Rattle.model.specs.Calls.{Result, left}
+use Rattle.model.specs.Plans.{Plan}
+use Rattle.frames.specs.Listed.{Listed}
+
+-- what is left, by what was told
+pub told : {w v : Answered} {a u : List ℕ} → w ≡ v
+    → left (replyAnswer (w .reply)) a (keptIn u (w .totals)) ≡ left (replyAnswer (v .reply)) a (keptIn u (v .totals))
+told {a = a} {u = u} e = ap (λ (w : Answered). left (replyAnswer (w .reply)) a (keptIn u (w .totals))) e
+
+pub told-out : {a x u : List ℕ} {p : Plan} {w v : Answered} → w ≡ v → CarriedOutBy (engine rowBytes) a p (v .reply) x (keptIn u (v .totals))
+    → CarriedOutBy (engine rowBytes) a p (w .reply) x (keptIn u (w .totals))
+told-out {a} {x} {u} {p} e = subst (λ (w : Answered). CarriedOutBy (engine rowBytes) a p (w .reply) x (keptIn u (w .totals))) (sym e)
+
+pub told-list : {o : Result} {l m x u : List ℕ} {w v : Answered} → w ≡ v → Listed o (replyAnswer (v .reply)) l m x (keptIn u (v .totals))
+    → Listed o (replyAnswer (w .reply)) l m x (keptIn u (w .totals))
+told-list {o} {l} {m} {x} {u} e = subst (λ (w : Answered). Listed o (replyAnswer (w .reply)) l m x (keptIn u (w .totals))) (sym e)
+
+-- the answer alone
+pub answers : {r s : Result} → r ≡ s → r .answer ≡ s .answer
+answers e = ap (λ (r : Result). r .answer) e
+
+-- equal results leave the same, part by part
+pub parts : {r s : Result} → r ≡ s
+    → (r .answer ≡ s .answer) × ((r .arena ≡ s .arena) × ((r .room .tables ≡ s .room .tables) × (r .room .totals ≡ s .room .totals)))
+parts e = (answers e, (ap (λ (r : Result). r .arena) e, (ap (λ (r : Result). r .room .tables) e, ap (λ (r : Result). r .room .totals) e)))
