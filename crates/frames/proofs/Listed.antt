@@ -1,8 +1,9 @@
--- What a list call leaves, by the tests of the code in their order, in any lawful form of the tables. Each test is what a call said, which the code negates.
+-- What a list call leaves, by the tests of the code in their order, in any lawful form of the tables. A test is what a call said, which the code negates.
 use Rattle.mem.proofs.Prelude.{_∙_, _≡_, sym, ap, ap₂, Bool, true, false, _&&_, not, not-true, not-false, and-false, List, map, ℕ, _<_, _≤_, leb, le-leb, lt-leb}
-use Rattle.mem.proofs.Prelude.{length}
+use Rattle.mem.proofs.Prelude.{length, arith}
 use Rattle.mem.specs.Lists.{isSome}
 use Rattle.mem.specs.Bytes.{put}
+use Rattle.mem.proofs.Tests.{true-T, T-true}
 use Rattle.model.specs.declared.Refusal.{Refusal}
 use Rattle.model.specs.declared.Refusal.the-variants.{NoRoom, TooLong, BadProposal}
 use Rattle.model.specs.declared.Reply.{Reply}
@@ -11,6 +12,7 @@ use Rattle.model.specs.Answers.{replyAnswer, refusal}
 use Rattle.model.specs.Proposals.{entries, accepts, plannable}
 use Rattle.model.specs.Plans.{grantsList, reserveAll, enframe, poolAfter}
 use Rattle.model.specs.Calls.{Form, Outcome, callBy, keeps, written}
+use Rattle.model.proofs.Lists.{small, accepts-small, accepts-few}
 use Rattle.frames.specs.Grants.{granted}
 use Rattle.frames.specs.Listed.{Listed}
 use Rattle.frames.proofs.Calls.{Checked}
@@ -23,7 +25,14 @@ refused-list x l e =
     let p = refused-parts x l e in
     record { number-due = p .0; values-due = p .1 .0; list-due = p .1 .1 .0; arena-due = p .1 .1 .1 .0; kept-due = p .1 .1 .1 .1 }
 
--- it is short enough, and has its places
+-- the sizes of an accepted proposal are small, and few
+pub small-sizes : (total cap : ℕ) (ns : List ℕ) → accepts total cap ns ≡ true → small ns ≡ true
+small-sizes total cap ns h = T-true (small ns) (accepts-small total cap ns (true-T (accepts total cap ns) h))
+
+pub few-sizes : (total cap : ℕ) (l ns : List ℕ) → accepts total cap ns ≡ true → entries ≤ length l → length ns ≤ length l
+few-sizes total cap l ns h n = let f = accepts-few total cap ns (true-T (accepts total cap ns) h) in omega arith
+
+-- the list is short enough, and has its places
 pub short-enough : (total cap : ℕ) (l : List ℕ) {w : Bool} → w ≡ plannable total cap → not w ≡ false → entries ≤ length l
     → (plannable total cap && leb entries (length l)) ≡ true
 short-enough total cap l {w} e h n = ap₂ _&&_ (sym e ∙ not-false w h) (le-leb entries (length l) n)

@@ -1,23 +1,25 @@
 -- The first engine's calls by what the code finds: those over any form (frames/proofs/Calls), for tables that are lent with their totals.
-use Rattle.mem.proofs.Prelude.{_∙_, _≡_, sym, ap, ap₂, subst, true, Bool, false, not, not-false, not-true, Option, List, ℕ, length}
+use Rattle.mem.proofs.Prelude.{_∙_, _≡_, sym, ap, ap₂, subst, true, Bool, false, not, not-false, not-true, Option, List, ℕ, _<_, leb, leb-false, length}
 use Rattle.mem.specs.Bytes.{put}
-use Rattle.classes.specs.Classes.{Lawful}
-use Rattle.classes.specs.Alignments.{Askable}
+use Rattle.classes.specs.Classes.{Lawful, tooLarge}
+use Rattle.classes.specs.Alignments.{enlarged, Askable}
 use Rattle.model.specs.declared.Refusal.the-variants.{NoRoom}
 use Rattle.model.specs.declared.Reply.{Reply}
 use Rattle.model.specs.declared.Totals.{Totals}
 use Rattle.model.specs.State.{Place, startOf, poolOf}
 use Rattle.model.specs.Blocks.{frame}
-use Rattle.model.specs.Plans.{Plan, Call, grantAs, reserve, totals}
+use Rattle.model.specs.Plans.{Plan, Call, grantAs, reserve, lookup, newSize, totals}
 use Rattle.model.specs.Tables.{byMasks, view}
 use Rattle.model.specs.Calls.{KeptBytes, keptIn, engine, soundKept, call, unsound, keeps}
 use Rattle.model.proofs.Kept.{kept-sound, kept-totals, engine-lawful}
 use Rattle.model.proofs.Calls.{Asks, call-unsound}
+use Rattle.model.proofs.Lookup.{fits}
+use Rattle.model.proofs.Formed.{code-kept}
 use Rattle.rows.specs.declared.Block.{Block}
-use Rattle.rows.specs.Rows.{Lent, ownedAt, handleAt, Holds}
+use Rattle.rows.specs.Rows.{Lent, looked, ownedAt, handleAt, Holds}
 use Rattle.rows.proofs.Rooms.{by-masks}
-use Rattle.frames.specs.Blocks.{Standing, CarriedOutBy}
-use Rattle.frames.proofs.Places.{found-holds, reserved-stands}
+use Rattle.frames.specs.Blocks.{Standing, codeFound, CarriedOutBy}
+use Rattle.frames.proofs.Places.{found-holds, reserved-stands, new-size}
 use Rattle.frames.proofs.Calls as any
 use Rattle.ops.specs.declared.Reserved.the-variants as reserved
 use Rattle.ops.specs.Blocks.{reservedAs, roomAfter}
@@ -78,3 +80,13 @@ module _ {row : ℕ} {a : List ℕ} {t : KeptBytes} (r : Checked row a t) where
   pub holds : {h : ℕ} {k : Place → Plan} {named : (p : Place) → k p .checks ≡ Option.some p} {b : Block} (d : any.Called (r .form) h k named b)
       → Holds byMasks row (t .tables) b (d .place)
   holds {h} {b = b} d = found-holds (r .room) (startOf h) (d .place) (d .looked-up) (d .live) b (d .block)
+
+  -- a new size, by the alignment of what is looked up, is one that can be asked for
+  pub askable : {h n : ℕ} {k : Place → Plan} {named : (p : Place) → k p .checks ≡ Option.some p} {b : Block} (d : any.Called (r .form) h k named b)
+      → leb tooLarge (enlarged (codeFound (looked row (lookup row (view row (t .tables)) (startOf h)))) n) ≡ false → Askable (b .alloc .align) n
+  askable {h} {n} {b = b} d e =
+      let q = lookup row (view row (t .tables)) (startOf h) in
+      let c = code-kept (d .place .cls) (d .place .state) (d .live) (fits (d .place) (holds d .formed) .state) in
+      let s = leb-false tooLarge (newSize q n) (ap (leb tooLarge) (sym (new-size row q n)) ∙ e) in
+      subst (λ v. Askable v n) (sym (ap (λ b. b .alloc .align) (d .block)))
+      (record { some-code = c .0; last-code = c .1; small = subst (λ q. newSize q n < tooLarge) (d .looked-up) s })

@@ -35,13 +35,15 @@ Sound a t = Checked rowBytes (plainForm rowBytes) a t
 pub by-check : (a t : List ℕ) → soundBy bySlots rowBytes (length a) t ≡ true → Sound a t
 by-check a t e = record { laws = plain-lawful rowBytes card-some; sound = e }
 
--- by what the check said, which the code negates
-module _ (a t : List ℕ) {w : Bool} (e : w ≡ soundBy bySlots rowBytes (length a) t) where
-  pub passed : not w ≡ false → Sound a t
-  passed h = by-check a t (sym e ∙ not-false w h)
+-- by what the check of a row's 512 bytes said, which the code negates
+module _ (a t : List ℕ) {w : Bool} (e : w ≡ soundBy bySlots 512 (length a) t) where
+  pub checked : not w ≡ false → Sound a t
+  unfolding rowBytes
+  checked h = by-check a t (sym e ∙ not-false w h)
 
-  pub not-sound : (c : Call) → Asks c → not w ≡ true → keeps (unsound c) a t ≡ plainCall rowBytes a t c
-  not-sound c k h = sym (call-unsound rowBytes (plainForm rowBytes) a t c k (sym e ∙ not-true w h))
+  pub refusing : (c : Call) → Asks c → not w ≡ true → keeps (unsound c) a t ≡ plainCall rowBytes a t c
+  unfolding rowBytes
+  refusing c k h = sym (call-unsound rowBytes (plainForm rowBytes) a t c k (sym e ∙ not-true w h))
 
 -- the tables hold the block that is located
 pub holds : {a t : List ℕ} (r : Sound a t) {h : ℕ} {k : Place → Plan} {named : (p : Place) → k p .checks ≡ some p} {b : Block} (d : Called r h k named b)

@@ -1,6 +1,6 @@
 -- What the proofs of the calls share: names, and what a call tells.
-pub use Rattle.mem.proofs.Prelude.{_∙_, _≡_, sym, ap, ap₂, refl, subst, [], _∷_, _<_, _≤_, _*_, _/_, arith, now, needs, lit≤, leb, leb-true, leb-false, leb→le}
-pub use Rattle.mem.proofs.Prelude.{length, List, ℕ, true, _&&_, not-true, not-false, le-leb, lt-leb, and-false}
+pub use Rattle.mem.proofs.Prelude.{_∙_, _≡_, sym, ap, ap₂, refl, subst, [], _∷_, _<_, _/_, arith, now, needs, lit≤, leb, leb-true, leb-false, length, List, ℕ}
+pub use Rattle.mem.proofs.Prelude.{true, _&&_, not-true, not-false}
 unfoldable pub use Rattle.classes.specs.Classes.{rowBytes, tooLarge}
 pub use Rattle.classes.specs.Alignments.{enlarged, Askable}
 pub use Rattle.classes.proofs.Laws.{card-row}
@@ -9,12 +9,25 @@ pub use Rattle.model.specs.Tables.{view}
 pub use Rattle.model.specs.Calls.{keptIn, engine}
 pub use Rattle.frames.specs.Blocks.{CarriedOutBy}
 pub use Rattle.frames.proofs.Calls.{Called, called-at, called-refused, called, carried-as, whole}
-pub use Rattle.ops.proofs.Calls.{Checked, by-check, passed, not-sound, holds}
+pub use Rattle.ops.proofs.Calls.{Checked, by-check, holds}
 use Rattle.model.specs.declared.Answered.{Answered}
 use Rattle.model.specs.Answers.{Answer, replyAnswer}
-use Rattle.model.specs.Calls.{Result, left}
-use Rattle.model.specs.Plans.{Plan}
+use Rattle.mem.proofs.Prelude.{Bool, false, not}
+use Rattle.model.specs.Calls.{KeptBytes, Result, left, soundKept, call, unsound, keeps}
+use Rattle.model.specs.Plans.{Call, Plan}
+use Rattle.model.proofs.Calls.{Asks}
+use Rattle.ops.proofs.Calls.{passed, not-sound}
 use Rattle.frames.specs.Listed.{Listed}
+
+-- what is lent, by what the check of a row's 512 bytes said
+module _ (a : List ℕ) (t : KeptBytes) {w : Bool} (e : w ≡ soundKept 512 (length a) t) where
+  pub checked : not w ≡ false → Checked rowBytes a t
+  unfolding rowBytes
+  checked h = passed rowBytes a t e card-row h
+
+  pub refusing : (c : Call) → Asks c → not w ≡ true → keeps (unsound c) a t ≡ call rowBytes a t c
+  unfolding rowBytes
+  refusing c k h = not-sound rowBytes a t e c k h
 
 -- what is left, by what was told
 pub told : {w v : Answered} {a u : List ℕ} → w ≡ v

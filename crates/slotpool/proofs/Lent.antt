@@ -257,26 +257,28 @@ module _ (T : Ended) (c : Promise T) (fn : Fn) (sp : (κs : Lfts (T .signature .
       (Λ : Loops 𝓤 H) → FmC 𝓤 H (W .laws) C → Triple 𝓤 (C k) (tripleOf 𝓤 H A (S .signature) (closing 𝓤 H A S (d M 𝓤 H A at-mem run)))
       → Triple 𝓤 (C #totals·record) (Then 𝓤 H A at-mem run) → Walk W C Λ T (c M 𝓤 H A at-mem run) fn sp
 
-  module _ (M : Type 1) (𝓤 : URA M) (H : Heap 𝓤) (𝓜 : Model 𝓤 H) (𝓖 : GhostRules 𝓤 H) (𝓡 : Running 𝓤 H 𝓜) (γ : Names) (f : Name)
-      (tl : (κs : Lfts (T .signature .lifetimes)) → Tellss (typesAt (T .signature .params) κs) (Ises (typesAt (T .signature .params) κs)) (sp κs))
-      (closed : Closed 𝓤 H (tables 𝓤 H 𝓜 𝓡 γ .C) (tables 𝓤 H 𝓜 𝓡 γ .Λ) f fn) (r : Routine) (is : γ k ≡ r)
-      (met : Triple 𝓤 (𝓡 .run r) (tripleOf 𝓤 H (𝓖 .A) (S .signature) (closing 𝓤 H (𝓖 .A) S (d M 𝓤 H (𝓖 .A) (𝓜 .mem) (𝓡 .run))))) where
-    -- what the function meets, and what is known of the call that it makes
-    abbrev Met : Type 1
-    Met = Triple 𝓤 (tables 𝓤 H 𝓜 𝓡 γ .C f) (tripleOf 𝓤 H (𝓖 .A) (T .signature) (closing 𝓤 H (𝓖 .A) T (c M 𝓤 H (𝓖 .A) (𝓜 .mem) (𝓡 .run))))
+module _ (T : Ended) (sp : (κs : Lfts (T .signature .lifetimes)) → Spells (typesAt (T .signature .params) κs))
+    (tl : (κs : Lfts (T .signature .lifetimes)) → Tellss (typesAt (T .signature .params) κs) (Ises (typesAt (T .signature .params) κs)) (sp κs))
+    (c : Promise T) (fn : Fn) (k : Name) (S : Ended) (d : Promise S)
+    (M : Type 1) (𝓤 : URA M) (H : Heap 𝓤) (𝓜 : Model 𝓤 H) (𝓖 : GhostRules 𝓤 H) (𝓡 : Running 𝓤 H 𝓜) (γ : Names) (f : Name)
+    (closed : Closed 𝓤 H (tables 𝓤 H 𝓜 𝓡 γ .C) (tables 𝓤 H 𝓜 𝓡 γ .Λ) f fn) (r : Routine) (is : γ k ≡ r)
+    (met : Triple 𝓤 (𝓡 .run r) (tripleOf 𝓤 H (𝓖 .A) (S .signature) (closing 𝓤 H (𝓖 .A) S (d M 𝓤 H (𝓖 .A) (𝓜 .mem) (𝓡 .run))))) where
+  -- what the function meets, and what is known of the call that it makes
+  abbrev Met : Type 1
+  Met = Triple 𝓤 (tables 𝓤 H 𝓜 𝓡 γ .C f) (tripleOf 𝓤 H (𝓖 .A) (T .signature) (closing 𝓤 H (𝓖 .A) T (c M 𝓤 H (𝓖 .A) (𝓜 .mem) (𝓡 .run))))
 
-    first-known : Triple 𝓤 (tables 𝓤 H 𝓜 𝓡 γ .C k) (tripleOf 𝓤 H (𝓖 .A) (S .signature) (closing 𝓤 H (𝓖 .A) S (d M 𝓤 H (𝓖 .A) (𝓜 .mem) (𝓡 .run))))
-    first-known = cited 𝓤 H (tripleOf 𝓤 H (𝓖 .A) (S .signature) (closing 𝓤 H (𝓖 .A) S (d M 𝓤 H (𝓖 .A) (𝓜 .mem) (𝓡 .run)))) 𝓜 𝓡 γ k r is met
+  first-known : Triple 𝓤 (tables 𝓤 H 𝓜 𝓡 γ .C k) (tripleOf 𝓤 H (𝓖 .A) (S .signature) (closing 𝓤 H (𝓖 .A) S (d M 𝓤 H (𝓖 .A) (𝓜 .mem) (𝓡 .run))))
+  first-known = cited 𝓤 H (tripleOf 𝓤 H (𝓖 .A) (S .signature) (closing 𝓤 H (𝓖 .A) S (d M 𝓤 H (𝓖 .A) (𝓜 .mem) (𝓡 .run)))) 𝓜 𝓡 γ k r is met
 
-    framed : FmC 𝓤 H (givenOf 𝓤 H 𝓜 𝓖 .laws) (tables 𝓤 H 𝓜 𝓡 γ .C)
-    unfolding tablesOf
-    framed = fmOf 𝓤 H (givenOf 𝓤 H 𝓜 𝓖 .laws) (tablesOf 𝓤 H 𝓜 (tables 𝓤 H 𝓜 𝓡 γ))
+  framed : FmC 𝓤 H (givenOf 𝓤 H 𝓜 𝓖 .laws) (tables 𝓤 H 𝓜 𝓡 γ .C)
+  unfolding tablesOf
+  framed = fmOf 𝓤 H (givenOf 𝓤 H 𝓜 𝓖 .laws) (tablesOf 𝓤 H 𝓜 (tables 𝓤 H 𝓜 𝓡 γ))
 
-    pub read-met : ReadWalk → Met
-    read-met w = walk-met 𝓤 H 𝓜 𝓖 𝓡 T (c M 𝓤 H (𝓖 .A) (𝓜 .mem) (𝓡 .run)) fn sp γ f tl closed
-        (w M 𝓤 H (𝓖 .A) (givenOf 𝓤 H 𝓜 𝓖) (𝓜 .mem) (𝓡 .run) (tables 𝓤 H 𝓜 𝓡 γ .C) (tables 𝓤 H 𝓜 𝓡 γ .Λ) framed first-known)
+  pub read-met : ReadWalk T c fn sp k S d → Met
+  read-met w = walk-met 𝓤 H 𝓜 𝓖 𝓡 T (c M 𝓤 H (𝓖 .A) (𝓜 .mem) (𝓡 .run)) fn sp γ f tl closed
+      (w M 𝓤 H (𝓖 .A) (givenOf 𝓤 H 𝓜 𝓖) (𝓜 .mem) (𝓡 .run) (tables 𝓤 H 𝓜 𝓡 γ .C) (tables 𝓤 H 𝓜 𝓡 γ .Λ) framed first-known)
 
-    pub lent-met : LentWalk → γ #totals·record ≡ then-def.routine → Met
-    lent-met w e = walk-met 𝓤 H 𝓜 𝓖 𝓡 T (c M 𝓤 H (𝓖 .A) (𝓜 .mem) (𝓡 .run)) fn sp γ f tl closed
-        (w M 𝓤 H (𝓖 .A) (givenOf 𝓤 H 𝓜 𝓖) (𝓜 .mem) (𝓡 .run) (tables 𝓤 H 𝓜 𝓡 γ .C) (tables 𝓤 H 𝓜 𝓡 γ .Λ) framed first-known
-        (cited 𝓤 H (Then 𝓤 H (𝓖 .A) (𝓜 .mem) (𝓡 .run)) 𝓜 𝓡 γ #totals·record then-def.routine e (then-thm.met 𝓤 H 𝓜 𝓖 𝓡)))
+  pub lent-met : LentWalk T c fn sp k S d → γ #totals·record ≡ then-def.routine → Met
+  lent-met w e = walk-met 𝓤 H 𝓜 𝓖 𝓡 T (c M 𝓤 H (𝓖 .A) (𝓜 .mem) (𝓡 .run)) fn sp γ f tl closed
+      (w M 𝓤 H (𝓖 .A) (givenOf 𝓤 H 𝓜 𝓖) (𝓜 .mem) (𝓡 .run) (tables 𝓤 H 𝓜 𝓡 γ .C) (tables 𝓤 H 𝓜 𝓡 γ .Λ) framed first-known
+      (cited 𝓤 H (Then 𝓤 H (𝓖 .A) (𝓜 .mem) (𝓡 .run)) 𝓜 𝓡 γ #totals·record then-def.routine e (then-thm.met 𝓤 H 𝓜 𝓖 𝓡)))

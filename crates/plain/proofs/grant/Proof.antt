@@ -1,20 +1,16 @@
 -- An ordinary grant.
-use Rattle.plain.proofs.Kit.{now, needs, lit≤, rowBytes, Sound, passed, not-sound, called, carried-as}
+use Rattle.plain.proofs.Kit.{now, needs, lit≤, rowBytes, Sound, checked, refusing, called, carried-as}
 use Rattle.model.specs.Plans.{grants}
 use Rattle.frames.proofs.Calls.{grant-does}
 use Rattle.plain.proofs.grant.Statement.{statement}
 use Rattle.plain.proofs.grant.Tie as tie
 
 returns : tie.Need-returns
-unfolding rowBytes
-returns c =
-    let a = c .before .before .before .before .before .args in
-    not-sound (now (a .arena)) (now (a .room)) (c .before .sound .ensures) (grants (a .n)) tt (c .if1 .taken)
+returns c = refusing _ _ (c .before .sound .ensures) (grants _) tt (c .if1 .taken)
 
 -- the tables are sound
 lent : (c : tie.Else1) → (let a = c .before .before .before .before .before .args in Sound (now (a .arena)) (now (a .room)))
-unfolding rowBytes
-lent c = passed _ _ (c .before .sound .ensures) (c .if1 .left)
+lent c = checked _ _ (c .before .sound .ensures) (c .if1 .left)
 
 grant-as-requires : tie.Need-grant-as-requires
 unfolding rowBytes

@@ -1,6 +1,6 @@
 -- By the code of the alignment.
 use Rattle.plain.proofs.Kit.{_∙_, sym, subst, _<_, arith, now, needs, rowBytes, bySlots, plainForm, viewBy, CarriedOutBy}
-use Rattle.plain.proofs.Kit.{Sound, passed, not-sound, called, carried-as}
+use Rattle.plain.proofs.Kit.{Sound, checked, refusing, called, carried-as}
 use Rattle.model.specs.declared.Refusal.the-variants.{BadAlignment}
 use Rattle.model.specs.Plans.{grantsAligned, grantAs}
 use Rattle.frames.proofs.Calls.{refused-out, aligned-none, aligned-does}
@@ -8,14 +8,11 @@ use Rattle.plain.proofs.grant_aligned.Statement.{statement}
 use Rattle.plain.proofs.grant_aligned.Tie as tie
 
 returns : tie.Need-returns
-unfolding rowBytes
-returns c =
-    let a = c .before .before .before .before .before .args in
-    not-sound (now (a .arena)) (now (a .room)) (c .before .sound .ensures) (grantsAligned (a .n) (a .align)) tt (c .if1 .taken)
+returns c = refusing _ _ (c .before .sound .ensures) (grantsAligned _ _) tt (c .if1 .taken)
 
+-- the tables are sound
 lent : (c : tie.Else1) → (let a = c .before .before .before .before .before .args in Sound (now (a .arena)) (now (a .room)))
-unfolding rowBytes
-lent c = passed _ _ (c .before .sound .ensures) (c .if1 .left)
+lent c = checked _ _ (c .before .sound .ensures) (c .if1 .left)
 
 returns-2 : tie.Need-returns-2
 unfolding rowBytes

@@ -1,27 +1,20 @@
 -- Test by test, in the order of the answers; then all sizes are granted.
-use Rattle.plain.proofs.Kit.{_∙_, _≡_, sym, true, _&&_, now, needs, not-false, leb, length, arith, rowBytes, card-row, bySlots, viewBy}
-use Rattle.plain.proofs.Kit.{Sound, passed, not-sound}
+use Rattle.plain.proofs.Kit.{_∙_, _≡_, sym, true, _&&_, now, needs, not-false, leb, length, rowBytes, card-row, bySlots, viewBy}
+use Rattle.plain.proofs.Kit.{Sound, checked, refusing}
 use Rattle.mem.specs.Lists.{isSome}
-use Rattle.mem.proofs.Tests.{true-T, T-true}
 use Rattle.model.specs.declared.Refusal.the-variants.{Unsound}
 use Rattle.model.specs.Proposals.{entries, accepts, plannable}
 use Rattle.model.specs.Plans.{grantsList, reserveAll}
-use Rattle.model.proofs.Lists.{small, accepts-small, accepts-few}
-use Rattle.frames.proofs.Listed.{refused-list, short-enough, not-plannable, few-places, not-accepted, not-fitting, granted-list}
+use Rattle.frames.proofs.Listed.{refused-list, short-enough, not-plannable, few-places, not-accepted, not-fitting, granted-list, small-sizes, few-sizes}
 use Rattle.plain.proofs.grant_list.Statement.{statement}
 use Rattle.plain.proofs.grant_list.Tie as tie
 
 returns : tie.Need-returns
-unfolding rowBytes
-returns c =
-    let a = c .before .before .before .before .before .before .before .args in
-    refused-list Unsound (now (a .handles)) (sym (not-sound (now (a .arena)) (now (a .room)) (c .before .sound .ensures)
-    (grantsList (a .total) (a .cap) (length (now (a .handles))) (now (a .sizes))) tt (c .if1 .taken)))
+returns c = refused-list Unsound _ (sym (refusing _ _ (c .before .sound .ensures) (grantsList _ _ _ _) tt (c .if1 .taken)))
 
 -- the tables are sound
 lent : (c : tie.Else1) → (let a = c .before .before .before .before .before .before .before .args in Sound (now (a .arena)) (now (a .room)))
-unfolding rowBytes
-lent c = passed _ _ (c .before .sound .ensures) (c .if1 .left)
+lent c = checked _ _ (c .before .sound .ensures) (c .if1 .left)
 
 returns-2 : tie.Need-returns-2
 unfolding rowBytes
@@ -53,10 +46,7 @@ right c = let w = c .before .accepts in sym (w .ensures) ∙ not-false (w .resul
 fits-requires : tie.Need-fits-requires
 unfolding rowBytes
 fits-requires c κs =
-    let d = c .before in
-    let s = d .before .before .before .before .before in
-    let a = s .before .before .before .before .before .before .before .args in
-    (lent s .sound, (T-true (small (now (a .sizes))) (accepts-small (a .total) (a .cap) (now (a .sizes)) (true-T _ (right d))), card-row))
+    let d = c .before in (lent (d .before .before .before .before .before) .sound, (small-sizes _ _ _ (right d), card-row))
 
 returns-5 : tie.Need-returns-5
 unfolding rowBytes
@@ -77,13 +67,9 @@ unfolding rowBytes entries
 grant-all-requires c κs =
     let e = c .before .before .before in
     let d = e .before .before .before in
-    let k = d .before .before in
-    let s = k .before .before .before in
-    let a = s .before .before .before .before .before .before .before .args in
-    let t = true-T _ (right d) in
-    let f = accepts-few (a .total) (a .cap) (now (a .sizes)) t in
-    let l = T-true (small (now (a .sizes))) (accepts-small (a .total) (a .cap) (now (a .sizes)) t) in
-    (lent s .sound, ((l, omega (arith, f, k .if3 .left)), (fit e, card-row)))
+    let s = d .before .before .before .before .before .before .before .before .before .before .before .before in
+    let few = few-sizes _ _ (now (s .args .handles)) _ (right d) (d .before .before .if3 .left) in
+    (lent (d .before .before .before .before .before) .sound, ((small-sizes _ _ _ (right d), few), (fit e, card-row)))
 
 returns-6 : tie.Need-returns-6
 unfolding rowBytes

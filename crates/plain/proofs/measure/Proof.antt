@@ -1,5 +1,5 @@
 -- By what is located.
-use Rattle.plain.proofs.Kit.{_∙_, sym, ap, refl, [], _∷_, now, needs, rowBytes, card-row, done, viewBy, bySlots, Sound, passed, not-sound}
+use Rattle.plain.proofs.Kit.{_∙_, sym, ap, refl, [], _∷_, now, needs, rowBytes, card-row, done, viewBy, bySlots, Sound, checked, refusing}
 use Rattle.plain.proofs.Kit.{called-at, called-refused}
 use Rattle.model.specs.Plans.{measures, measureAt}
 use Rattle.frames.proofs.Calls.{measuring, kept-as}
@@ -7,15 +7,11 @@ use Rattle.plain.proofs.measure.Statement.{statement}
 use Rattle.plain.proofs.measure.Tie as tie
 
 returns : tie.Need-returns
-unfolding rowBytes
-returns c =
-    let a = c .before .before .before .before .args in
-    not-sound (now (a .arena)) (now (a .room)) (c .before .sound .ensures) (measures (a .handle)) tt (c .if1 .taken)
+returns c = refusing _ _ (c .before .sound .ensures) (measures _) tt (c .if1 .taken)
 
 -- the tables are sound
 lent : (c : tie.Else1) → (let a = c .before .before .before .before .args in Sound (now (a .arena)) (now (a .room)))
-unfolding rowBytes
-lent c = passed _ _ (c .before .sound .ensures) (c .if1 .left)
+lent c = checked _ _ (c .before .sound .ensures) (c .if1 .left)
 
 locate-requires : tie.Need-locate-requires
 unfolding rowBytes

@@ -1,20 +1,16 @@
 -- By what is located.
-use Rattle.plain.proofs.Kit.{_∙_, sym, now, needs, rowBytes, card-row, Sound, passed, not-sound, Called, called-at, called-refused, holds, whole}
+use Rattle.plain.proofs.Kit.{_∙_, sym, now, needs, rowBytes, card-row, Sound, checked, refusing, Called, called-at, called-refused, holds, whole}
 use Rattle.model.specs.Plans.{releases, releaseAt}
 use Rattle.frames.proofs.Calls.{releasing, release-names, release-done}
 use Rattle.plain.proofs.release.Statement.{statement}
 use Rattle.plain.proofs.release.Tie as tie
 
 returns : tie.Need-returns
-unfolding rowBytes
-returns c =
-    let a = c .before .before .before .before .before .args in
-    not-sound (now (a .arena)) (now (a .room)) (c .before .sound .ensures) (releases (a .handle)) tt (c .if1 .taken)
+returns c = refusing _ _ (c .before .sound .ensures) (releases _) tt (c .if1 .taken)
 
 -- the tables are sound
 lent : (c : tie.Else1) → (let a = c .before .before .before .before .before .args in Sound (now (a .arena)) (now (a .room)))
-unfolding rowBytes
-lent c = passed _ _ (c .before .sound .ensures) (c .if1 .left)
+lent c = checked _ _ (c .before .sound .ensures) (c .if1 .left)
 
 locate-requires : tie.Need-locate-requires
 unfolding rowBytes

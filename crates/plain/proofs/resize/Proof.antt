@@ -1,6 +1,6 @@
 -- By what is located.
 use Rattle.plain.proofs.Kit.{_∙_, _≡_, sym, ap, subst, _<_, arith, now, needs, leb, leb-false, length, rowBytes, tooLarge, enlarged, Askable}
-use Rattle.plain.proofs.Kit.{card-row, startOf, bySlots, plainForm, viewBy, by-slots, CarriedOutBy, Sound, passed, not-sound, Called, called-at}
+use Rattle.plain.proofs.Kit.{card-row, startOf, bySlots, plainForm, viewBy, by-slots, CarriedOutBy, Sound, checked, refusing, Called, called-at}
 use Rattle.plain.proofs.Kit.{called-refused, carried-as, holds}
 use Rattle.model.specs.Plans.{resizes, resizeAt, lookup, newSize}
 use Rattle.model.proofs.Lookup.{fits}
@@ -13,15 +13,11 @@ use Rattle.plain.proofs.resize.Statement.{statement}
 use Rattle.plain.proofs.resize.Tie as tie
 
 returns : tie.Need-returns
-unfolding rowBytes
-returns c =
-    let a = c .before .before .before .before .before .args in
-    not-sound (now (a .arena)) (now (a .room)) (c .before .sound .ensures) (resizes (a .handle) (a .n)) tt (c .if1 .taken)
+returns c = refusing _ _ (c .before .sound .ensures) (resizes _ _) tt (c .if1 .taken)
 
 -- the tables are sound
 lent : (c : tie.Else1) → (let a = c .before .before .before .before .before .args in Sound (now (a .arena)) (now (a .room)))
-unfolding rowBytes
-lent c = passed _ _ (c .before .sound .ensures) (c .if1 .left)
+lent c = checked _ _ (c .before .sound .ensures) (c .if1 .left)
 
 sound-room : (c : tie.Else1) → (let a = c .before .before .before .before .before .args in Lent bySlots rowBytes (length (now (a .arena))) (now (a .room)))
 sound-room c = by-slots (lent c .sound) card-row

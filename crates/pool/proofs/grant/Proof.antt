@@ -1,22 +1,16 @@
 -- An ordinary grant.
-use Rattle.pool.proofs.Kit.{_∙_, now, needs, lit≤, rowBytes, card-row, keptIn, Checked, passed, not-sound, called, carried-as, told}
+use Rattle.pool.proofs.Kit.{_∙_, now, needs, lit≤, rowBytes, keptIn, Checked, called, carried-as, told, checked, refusing}
 use Rattle.model.specs.Plans.{grants}
 use Rattle.frames.proofs.Calls.{grant-does}
 use Rattle.pool.proofs.grant.Statement.{statement}
 use Rattle.pool.proofs.grant.Tie as tie
 
 returns : tie.Need-returns
-unfolding rowBytes
-returns d =
-    let c = d .before in
-    let a = c .before .before .before .before .before .args in
-    told (d .refused .ensures) ∙ not-sound rowBytes (now (a .arena)) (keptIn (now (a .room)) (a .t)) (c .before .sound .ensures) (grants (a .n)) tt
-    (c .if1 .taken)
+returns d = told (d .refused .ensures) ∙ refusing _ _ (d .before .before .sound .ensures) (grants _) tt (d .before .if1 .taken)
 
 -- the tables are sound
 lent : (c : tie.Else1) → (let a = c .before .before .before .before .before .args in Checked rowBytes (now (a .arena)) (keptIn (now (a .room)) (a .t)))
-unfolding rowBytes
-lent c = passed rowBytes _ _ (c .before .sound .ensures) card-row (c .if1 .left)
+lent c = checked _ _ (c .before .sound .ensures) (c .if1 .left)
 
 grant-as-requires : tie.Need-grant-as-requires
 unfolding rowBytes

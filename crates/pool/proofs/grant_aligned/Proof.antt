@@ -1,6 +1,6 @@
 -- By the code of the alignment.
-use Rattle.pool.proofs.Kit.{_∙_, sym, subst, _<_, arith, now, needs, rowBytes, card-row, keptIn, engine, view, CarriedOutBy}
-use Rattle.pool.proofs.Kit.{Checked, passed, not-sound, called, carried-as, told, told-out}
+use Rattle.pool.proofs.Kit.{_∙_, sym, subst, _<_, arith, now, needs, rowBytes, keptIn, engine, view, CarriedOutBy}
+use Rattle.pool.proofs.Kit.{Checked, called, carried-as, told, told-out, checked, refusing}
 use Rattle.model.specs.declared.Refusal.the-variants.{BadAlignment}
 use Rattle.model.specs.Plans.{grantsAligned, grantAs}
 use Rattle.frames.proofs.Calls.{refused-out, aligned-none, aligned-does}
@@ -8,16 +8,11 @@ use Rattle.pool.proofs.grant_aligned.Statement.{statement}
 use Rattle.pool.proofs.grant_aligned.Tie as tie
 
 returns : tie.Need-returns
-unfolding rowBytes
-returns d =
-    let c = d .before in
-    let a = c .before .before .before .before .before .args in
-    told (d .refused .ensures) ∙ not-sound rowBytes (now (a .arena)) (keptIn (now (a .room)) (a .t)) (c .before .sound .ensures)
-    (grantsAligned (a .n) (a .align)) tt (c .if1 .taken)
+returns d = told (d .refused .ensures) ∙ refusing _ _ (d .before .before .sound .ensures) (grantsAligned _ _) tt (d .before .if1 .taken)
 
+-- the tables are sound
 lent : (c : tie.Else1) → (let a = c .before .before .before .before .before .args in Checked rowBytes (now (a .arena)) (keptIn (now (a .room)) (a .t)))
-unfolding rowBytes
-lent c = passed rowBytes _ _ (c .before .sound .ensures) card-row (c .if1 .left)
+lent c = checked _ _ (c .before .sound .ensures) (c .if1 .left)
 
 returns-2 : tie.Need-returns-2
 unfolding rowBytes

@@ -1,29 +1,22 @@
 -- Test by test, in the order of the answers; then all sizes are granted.
-use Rattle.pool.proofs.Kit.{_∙_, _≡_, sym, ap₂, true, _&&_, now, needs, not-false, leb, length, arith, rowBytes, card-row, view, keptIn}
-use Rattle.pool.proofs.Kit.{Checked, passed, not-sound, told-list}
+use Rattle.pool.proofs.Kit.{_∙_, _≡_, sym, ap₂, true, _&&_, now, needs, not-false, leb, length, rowBytes, card-row, view, keptIn}
+use Rattle.pool.proofs.Kit.{Checked, told-list, checked, refusing}
 use Rattle.mem.specs.Lists.{isSome}
-use Rattle.mem.proofs.Tests.{true-T, T-true}
 use Rattle.model.specs.declared.Refusal.the-variants.{Unsound}
 use Rattle.model.specs.Proposals.{entries, accepts, plannable}
 use Rattle.model.specs.Plans.{grantsList, reserveAll}
-use Rattle.model.proofs.Lists.{small, accepts-small, accepts-few}
-use Rattle.frames.proofs.Listed.{refused-list, short-enough, not-plannable, few-places, not-accepted, not-fitting, granted-list}
+use Rattle.frames.proofs.Listed.{refused-list, short-enough, not-plannable, few-places, not-accepted, not-fitting, granted-list, small-sizes, few-sizes}
 use Rattle.pool.proofs.grant_list.Statement.{statement}
 use Rattle.pool.proofs.grant_list.Tie as tie
 
 returns : tie.Need-returns
-unfolding rowBytes
-returns z =
-    let c = z .before in
-    let a = c .before .before .before .before .before .before .before .args in
-    told-list (z .refused .ensures) (refused-list Unsound (now (a .handles)) (sym (not-sound rowBytes (now (a .arena)) (keptIn (now (a .room)) (a .t))
-    (c .before .sound .ensures) (grantsList (a .total) (a .cap) (length (now (a .handles))) (now (a .sizes))) tt (c .if1 .taken))))
+returns d = told-list (d .refused .ensures) (refused-list Unsound _ (sym (refusing _ _ (d .before .before .sound .ensures) (grantsList _ _ _ _) tt
+    (d .before .if1 .taken))))
 
 -- the tables are sound
 lent : (c : tie.Else1) → (let a = c .before .before .before .before .before .before .before .args in
     Checked rowBytes (now (a .arena)) (keptIn (now (a .room)) (a .t)))
-unfolding rowBytes
-lent c = passed rowBytes _ _ (c .before .sound .ensures) card-row (c .if1 .left)
+lent c = checked _ _ (c .before .sound .ensures) (c .if1 .left)
 
 returns-2 : tie.Need-returns-2
 unfolding rowBytes
@@ -60,10 +53,7 @@ right c = let w = c .before .accepts in sym (w .ensures) ∙ not-false (w .resul
 fits-requires : tie.Need-fits-requires
 unfolding rowBytes
 fits-requires c κs =
-    let d = c .before in
-    let s = d .before .before .before .before .before in
-    let a = s .before .before .before .before .before .before .before .args in
-    (lent s .room .sound, (T-true (small (now (a .sizes))) (accepts-small (a .total) (a .cap) (now (a .sizes)) (true-T _ (right d))), card-row))
+    let d = c .before in (lent (d .before .before .before .before .before) .room .sound, (small-sizes _ _ _ (right d), card-row))
 
 returns-5 : tie.Need-returns-5
 unfolding rowBytes
@@ -86,16 +76,9 @@ grant-all-requires c κs =
     let e = c .before .before .before in
     let d = e .before .before .before in
     let k = d .before .before in
-    let s = k .before .before .before in
-    let a = s .before .before .before .before .before .before .before .args in
-    let t = true-T _ (right d) in
-    let f = accepts-few (a .total) (a .cap) (now (a .sizes)) t in (
-      lent s .room .sound,
-      (
-        (T-true (small (now (a .sizes))) (accepts-small (a .total) (a .cap) (now (a .sizes)) t), omega (arith, f, k .if3 .left)),
-        ((fit e, lent s .counts), card-row),
-      ),
-    )
+    let r = lent (k .before .before .before) in
+    let l = now (k .before .before .before .before .before .before .before .before .before .before .args .handles) in
+    (r .room .sound, ((small-sizes _ _ _ (right d), few-sizes _ _ l _ (right d) (k .if3 .left)), ((fit e, r .counts), card-row)))
 
 returns-6 : tie.Need-returns-6
 unfolding rowBytes

@@ -1,21 +1,17 @@
 -- By what is located.
-use Rattle.pool.proofs.Kit.{_∙_, sym, ap, refl, [], _∷_, now, needs, rowBytes, card-row, done, view, keptIn, Checked, passed, not-sound, answers}
-use Rattle.pool.proofs.Kit.{called-at, called-refused}
+use Rattle.pool.proofs.Kit.{_∙_, sym, ap, refl, [], _∷_, now, needs, rowBytes, card-row, done, view, keptIn, Checked, answers}
+use Rattle.pool.proofs.Kit.{called-at, called-refused, checked, refusing}
 use Rattle.model.specs.Plans.{measures, measureAt}
 use Rattle.frames.proofs.Calls.{measuring}
 use Rattle.pool.proofs.measure.Statement.{statement}
 use Rattle.pool.proofs.measure.Tie as tie
 
 returns : tie.Need-returns
-unfolding rowBytes
-returns c =
-    let a = c .before .before .before .before .args in
-    answers (not-sound rowBytes (now (a .arena)) (keptIn (now (a .room)) (a .t)) (c .before .sound .ensures) (measures (a .handle)) tt (c .if1 .taken))
+returns c = answers (refusing _ (keptIn _ _) (c .before .sound .ensures) (measures _) tt (c .if1 .taken))
 
 -- the tables are sound
 lent : (c : tie.Else1) → (let a = c .before .before .before .before .args in Checked rowBytes (now (a .arena)) (keptIn (now (a .room)) (a .t)))
-unfolding rowBytes
-lent c = passed rowBytes _ _ (c .before .sound .ensures) card-row (c .if1 .left)
+lent c = checked _ _ (c .before .sound .ensures) (c .if1 .left)
 
 locate-requires : tie.Need-locate-requires
 unfolding rowBytes

@@ -1,23 +1,17 @@
 -- By what is located.
-use Rattle.pool.proofs.Kit.{_∙_, sym, ap₂, now, needs, rowBytes, card-row, keptIn, Checked, passed, not-sound, Called, called-at, called-refused}
-use Rattle.pool.proofs.Kit.{holds, whole, told}
+use Rattle.pool.proofs.Kit.{_∙_, sym, ap₂, now, needs, rowBytes, card-row, keptIn, Checked, Called, called-at, called-refused}
+use Rattle.pool.proofs.Kit.{holds, whole, told, checked, refusing}
 use Rattle.model.specs.Plans.{releases, releaseAt}
 use Rattle.frames.proofs.Calls.{releasing, release-names, release-done}
 use Rattle.pool.proofs.release.Statement.{statement}
 use Rattle.pool.proofs.release.Tie as tie
 
 returns : tie.Need-returns
-unfolding rowBytes
-returns d =
-    let c = d .before in
-    let a = c .before .before .before .before .before .args in
-    told (d .refused .ensures) ∙ not-sound rowBytes (now (a .arena)) (keptIn (now (a .room)) (a .t)) (c .before .sound .ensures) (releases (a .handle)) tt
-    (c .if1 .taken)
+returns d = told (d .refused .ensures) ∙ refusing _ _ (d .before .before .sound .ensures) (releases _) tt (d .before .if1 .taken)
 
 -- the tables are sound
 lent : (c : tie.Else1) → (let a = c .before .before .before .before .before .args in Checked rowBytes (now (a .arena)) (keptIn (now (a .room)) (a .t)))
-unfolding rowBytes
-lent c = passed rowBytes _ _ (c .before .sound .ensures) card-row (c .if1 .left)
+lent c = checked _ _ (c .before .sound .ensures) (c .if1 .left)
 
 locate-requires : tie.Need-locate-requires
 unfolding rowBytes

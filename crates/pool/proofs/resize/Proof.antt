@@ -1,28 +1,22 @@
 -- By what is located.
-use Rattle.pool.proofs.Kit.{_∙_, _≡_, sym, ap, subst, _<_, arith, now, needs, leb, leb-false, rowBytes, tooLarge, enlarged, Askable, card-row, view}
-use Rattle.pool.proofs.Kit.{keptIn, engine, CarriedOutBy, Checked, passed, not-sound, Called, called-at, called-refused, carried-as, holds, told}
+use Rattle.pool.proofs.Kit.{_∙_, _≡_, sym, ap, subst, arith, now, needs, leb, rowBytes, tooLarge, enlarged, card-row, view}
+use Rattle.pool.proofs.Kit.{keptIn, engine, CarriedOutBy, Checked, Called, called-at, called-refused, carried-as, holds, told, checked, refusing}
 use Rattle.model.specs.State.{startOf}
-use Rattle.model.specs.Plans.{resizes, resizeAt, lookup, newSize}
-use Rattle.model.proofs.Lookup.{fits}
-use Rattle.model.proofs.Formed.{code-kept}
+use Rattle.model.specs.Plans.{resizes, resizeAt, lookup}
 use Rattle.rows.specs.Rows.{looked}
 use Rattle.frames.specs.Blocks.{codeFound, judged, located}
-use Rattle.frames.proofs.Places.{held-pool, Known, found-known, judged-looked, new-size}
+use Rattle.frames.proofs.Places.{held-pool, Known, found-known, judged-looked}
+use Rattle.ops.proofs.Calls.{askable}
 use Rattle.frames.proofs.Calls.{resizing, resize-names, resize-too-large}
 use Rattle.pool.proofs.resize.Statement.{statement}
 use Rattle.pool.proofs.resize.Tie as tie
 
 returns : tie.Need-returns
-unfolding rowBytes
-returns d =
-    let c = d .before in
-    let a = c .before .before .before .before .before .args in
-    told (d .refused .ensures) ∙ not-sound rowBytes (now (a .arena)) (keptIn (now (a .room)) (a .t)) (c .before .sound .ensures)
-    (resizes (a .handle) (a .n)) tt (c .if1 .taken)
+returns d = told (d .refused .ensures) ∙ refusing _ _ (d .before .before .sound .ensures) (resizes _ _) tt (d .before .if1 .taken)
 
+-- the tables are sound
 lent : (c : tie.Else1) → (let a = c .before .before .before .before .before .args in Checked rowBytes (now (a .arena)) (keptIn (now (a .room)) (a .t)))
-unfolding rowBytes
-lent c = passed rowBytes _ _ (c .before .sound .ensures) card-row (c .if1 .left)
+lent c = checked _ _ (c .before .sound .ensures) (c .if1 .left)
 
 -- what is found at the handle's start
 known : (c : tie.After-find-block) → (let a = c .before .before .before .before .before .before .before .before .args in
@@ -83,27 +77,13 @@ block : (c : tie.After-known-told) → (let z = c .before .before .before .befor
 unfolding rowBytes
 block c = called-at _ _ _ _ _ (sym (c .before .b .given .1) ∙ judging (c .before .before .before))
 
--- its size is one that can be asked for
-small : (c : tie.After-known-told) → (let z = c .before .before .before .before .before .before .before .before .before .before .before in
-    Askable (c .before .b .given .0 .0 .alloc .align) (z .before .before .before .before .before .args .n))
-unfolding rowBytes
-small c =
-    let e = c .before .before .before .before .before in
-    let z = e .before .before .before .before .before .before in
-    let a = z .before .before .before .before .before .args in
-    let b = block c in
-    let q = lookup rowBytes (view rowBytes (now (a .room))) (startOf (a .handle)) in
-    let k = code-kept (b .place .cls) (b .place .state) (b .live) (fits (b .place) (holds (lent z) b .formed) .state) in
-    let s = leb-false tooLarge (newSize q (a .n)) (ap (leb tooLarge) (sym (new-size rowBytes q (a .n))) ∙ tested (e .before) ∙ e .if2 .left) in
-    subst (λ v. Askable v (a .n)) (sym (ap (λ b. b .alloc .align) (b .block)))
-    (record { some-code = k .0; last-code = k .1; small = subst (λ q. newSize q (a .n) < tooLarge) (b .looked-up) s })
-
 change-size-requires : tie.Need-change-size-requires
 unfolding rowBytes
 change-size-requires c κs =
     let k = c .before .before in
-    let r = lent (k .before .before .before .before .before .before .before .before .before .before .before) in
-    ((r .room .sound, r .counts), ((block k .place, holds r (block k)), (small k, card-row)))
+    let e = k .before .before .before .before .before in
+    let r = lent (e .before .before .before .before .before .before) in
+    ((r .room .sound, r .counts), ((block k .place, holds r (block k)), (askable r (block k) (tested (e .before) ∙ e .if2 .left), card-row)))
 
 returns-3 : tie.Need-returns-3
 unfolding rowBytes

@@ -1,9 +1,8 @@
 -- Refused by the room's size, or done: zeros, and tables with no groups.
-use Rattle.pool.proofs.Kit.{_∙_, sym, ap₂, refl, _≤_, _*_, _/_, arith, now, needs, leb→le, length, rowBytes, keptIn, engine, whole, told}
-use Rattle.mem.proofs.Tests.{and-left, and-right}
-use Rattle.model.specs.Tables.{byMasks, arenaRight, roomBytes}
+use Rattle.pool.proofs.Kit.{_∙_, sym, ap₂, refl, _/_, now, needs, length, rowBytes, keptIn, engine, whole, told}
+use Rattle.model.specs.Tables.{byMasks}
 use Rattle.model.proofs.Fresh.{fresh-totals}
-use Rattle.fresh.proofs.SetUp.{Fitting, fitting, set-up-refused, set-up-made, formatted}
+use Rattle.fresh.proofs.SetUp.{Fitting, fitting, set-up-refused, set-up-made, formatted, formattable}
 use Rattle.pool.proofs.set_up.Statement.{statement}
 use Rattle.pool.proofs.set_up.Tie as tie
 
@@ -28,14 +27,7 @@ fit c =
     let e = c .before .before .room-len .ensures in fitting rowBytes _ _ _ _ refl (c .if2 .left ∙ e) (λ z. c .before .if1 .left (e ∙ z))
 
 format-requires : tie.Need-format-requires
-unfolding rowBytes arenaRight roomBytes
-format-requires c κs =
-    let e = c .before .before .before .before .before in
-    let m = length (now (e .before .before .before .before .before .args .arena)) in
-    let f = fit e in
-    let t = f .lawful in
-    let l : m ≤ 512 * 512 = leb→le m (512 * 512) (search (and-left, and-right)) in
-    (omega (arith, f .long), omega arith)
+format-requires c κs = formattable (fit (c .before .before .before .before .before))
 
 returns-3 : tie.Need-returns-3
 unfolding rowBytes

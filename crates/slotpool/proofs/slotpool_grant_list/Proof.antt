@@ -32,21 +32,10 @@ walk M 𝓤 H A W at-mem run C Λ fm known-first known-then κs qs bounds a g ar
     --  totals]
     relends ! 7 15 16 refl refl refl (are .1 .1 .1 .1 .1 .1 .0 .0 .1 .0) $
     assigns ! (addr ! (from ! (hop ! (look ! 8 refl) (stop !)))) (from ! (stop !)) (init ! 17 refl (tt, tt)) $
-    move ! (28 ∷ 29 ∷ 30 ∷ 31 ∷ 32 ∷ 21 ∷ 22 ∷ 33 ∷ 23 ∷ 24 ∷ 25 ∷ 26 ∷ 27 ∷ []) $
-    calls-by W first.ended (first.clauses 𝓤 H A at-mem run) (
-      (
-        less κs (κs .1 .1 .1),
-        less qs (qs .1 .1 .1),
-        tt,
-        by-value a (a .1 .1 .1),
-        machine a
-            (vs .1 .1 .1),
-      ),
-      tt,
-    )
-    ! fm known-first (id⊢ 𝓤 _) (takes ! (1 + 11) refl (takes ! (1 + 13) refl
-    (takes ! (1 + 14) refl (takes ! (1 + 4) refl (takes ! (1 + 5) refl
-    (takes ! (1 + 6) refl (takes ! (1 + 16) refl (takes ! (1 + 17) refl (no-more !)))))))))
+    move ! (28 ∷ 29 ∷ 30 ∷ 31 ∷ 32 ∷ 21 ∷ 22 ∷ 33 ∷ 23 ∷ 24 ∷ 25 ∷ 26 ∷ 27 ∷ []) $ calls-by W first.ended (first.clauses 𝓤 H A at-mem run)
+    ((less κs (κs .1 .1 .1), less qs (qs .1 .1 .1), tt, by-value a (a .1 .1 .1), machine a (vs .1 .1 .1)), tt) ! fm known-first (id⊢ 𝓤 _)
+    (takes ! (1 + 11) refl (takes ! (1 + 13) refl (takes ! (1 + 14) refl
+    (takes ! (1 + 4) refl (takes ! (1 + 5) refl (takes ! (1 + 6) refl (takes ! (1 + 16) refl (takes ! (1 + 17) refl (no-more !)))))))))
     (λ w r zs. let Says : Totals → Type 0 = λ t. Lists (does a (grantsList (a .1 .1 .1 .0) (a .1 .1 .1 .1 .0) (length ((a .1 .1 .1 .1 .1 .1 .0) .now))
     ((a .1 .1 .1 .1 .1 .0) .now))) (r .number) (zs .1 .1 .1 .1 .1 .1 .1 .0) ((a .1 .1 .1 .1 .1 .1 .0) .now) (zs .1 .1 .1 .1 .1 .1 .0) (zs .0)
     (keptIn (zs .1 .0) t) in
@@ -58,14 +47,12 @@ walk M 𝓤 H A W at-mem run C Λ fm known-first known-then κs qs bounds a g ar
     --  totals, total, cap, sizes, handles, value]
     turns ! 3 $ frees-all ! (_ ∷ _ ∷ _ ∷ _ ∷ _ ∷ _ ∷ _ ∷ _ ∷ _ ∷ _ ∷ _ ∷ _ ∷ _ ∷ _ ∷ _ ∷ _ ∷ _ ∷ _ ∷ _ ∷ _ ∷ []) $
     keep ! (0 ∷ 1 ∷ 13 ∷ 2 ∷ 3 ∷ 4 ∷ 5 ∷ 6 ∷ 14 ∷ 8 ∷ 9 ∷ 10 ∷ 11 ∷ 12 ∷ 15 ∷ []) $
-    leaving W f.ended (f.clauses 𝓤 H A at-mem run) ((κs, qs, bounds, a, vs), g) (vint w32 (r .number)) (r .number) (zs .0, (zs .1 .0, (t, zs .1 .1 .1)))
-    (Says t) (subst Says (sym e) es) (id⊢ 𝓤 _))))
+    leaving W f.ended (f.clauses 𝓤 H A at-mem run) ((κs, qs, bounds, a, vs), g) (vint w32 (r .number)) (r .number)
+    (zs .0, (zs .1 .0, (t, zs .1 .1 .1))) (Says t) (subst Says (sym e) es) (id⊢ 𝓤 _))))
 
 pub slotpool-grant-list-spec : {M : Type 1} → stated.statement M
 unfolding code.routine
-slotpool-grant-list-spec {M} 𝓤 H 𝓜 𝓖 𝓡 =
-    lent-met f.ended (λ M. f.clauses {M = M}) code.function spells #slotpool·grant-list-by first.ended
-    (λ M. first.clauses {M = M}) M 𝓤 H 𝓜 𝓖 𝓡 code.env #slotpool·slotpool-grant-list
+slotpool-grant-list-spec {M} 𝓤 H 𝓜 𝓖 𝓡 = lent-met f.ended spells
     (λ κs. (
       λ x v p. p .0 .0,
       (
@@ -79,4 +66,5 @@ slotpool-grant-list-spec {M} 𝓤 H 𝓜 𝓖 𝓡 =
         ),
       ),
     ))
+    (λ M. f.clauses {M = M}) code.function #slotpool·grant-list-by first.ended (λ M. first.clauses {M = M}) M 𝓤 H 𝓜 𝓖 𝓡 code.env #slotpool·slotpool-grant-list
     (code.unfolded 𝓤 H 𝓜 𝓡) first-def.routine code.calls-slotpool·grant-list-by (first-thm.met 𝓤 H 𝓜 𝓖 𝓡) walk code.calls-totals·record

@@ -26,30 +26,20 @@ walk M 𝓤 H A W at-mem run C Λ fm known-first known-then κs qs bounds a g ar
     relends ! 1 5 6 refl refl refl (are .0 .0 .1 .0) $ relends ! 2 7 8 refl refl refl (are .1 .0 .0 .1 .0) $ move ! (15 ∷ 18 ∷ []) $
     copies ! 3 9 (a .1 .1 .0) refl refl $ turns ! 3 $
     -- [_0 … _11; what frees them; arena, room; tokens: arena, room; the totals; totals; tokens: totals]
-    move ! (15 ∷ 16 ∷ 13 ∷ 14 ∷ 17 ∷ []) $
-    calls-by W first.ended (first.clauses 𝓤 H A at-mem run) (
-      (
-        less κs (κs .1 .1 .1),
-        less qs (qs .1 .1 .1),
-        tt,
-        by-value a (a .1 .1 .1),
-        machine a
-            (vs .1 .1 .1),
-      ),
-      tt,
-    )
-    ! fm known-first (id⊢ 𝓤 _) (takes ! (1 + 6) refl (takes ! (1 + 8) refl (takes ! (1 + 9) refl (no-more !))))
+    move ! (15 ∷ 16 ∷ 13 ∷ 14 ∷ 17 ∷ []) $ calls-by W first.ended (first.clauses 𝓤 H A at-mem run)
+    ((less κs (κs .1 .1 .1), less qs (qs .1 .1 .1), tt, by-value a (a .1 .1 .1), machine a (vs .1 .1 .1)), tt) ! fm known-first (id⊢ 𝓤 _)
+    (takes ! (1 + 6) refl (takes ! (1 + 8) refl (takes ! (1 + 9) refl (no-more !))))
     (λ w r zs. let Says : Totals → Type 0 = λ t. Leaves (does a setsUp) (r .number) (zs .0) (keptIn (zs .1 .0) t) in hears W (Says (r .totals)) (λ es.
     -- [its result; tokens: arena, room; last values: arena, room, totals; _0 … _11; what frees them; totals; tokens: totals]
     turns ! 6 $ move ! (15 ∷ 13 ∷ 14 ∷ []) $ tells ! at-mem run fm known-then 3 4 10 11 (a .1 .1 .0) r refl refl refl refl refl refl (λ t e.
     -- [tokens: totals; last values: the record; the number; _0 … _11; what frees them; tokens: arena, room; last values: arena, room, totals]
     turns ! 3 $ frees-all ! (_ ∷ _ ∷ _ ∷ _ ∷ _ ∷ _ ∷ _ ∷ _ ∷ _ ∷ _ ∷ _ ∷ _ ∷ []) $ keep ! (0 ∷ 1 ∷ 5 ∷ 2 ∷ 3 ∷ 6 ∷ 7 ∷ []) $
-    leaving W f.ended (f.clauses 𝓤 H A at-mem run) ((κs, qs, bounds, a, vs), g) (vint w32 (r .number)) (r .number) (zs .0, (zs .1 .0, (t, zs .1 .1 .1)))
-    (Says t) (subst Says (sym e) es) (id⊢ 𝓤 _))))
+    leaving W f.ended (f.clauses 𝓤 H A at-mem run) ((κs, qs, bounds, a, vs), g) (vint w32 (r .number)) (r .number)
+    (zs .0, (zs .1 .0, (t, zs .1 .1 .1))) (Says t) (subst Says (sym e) es) (id⊢ 𝓤 _))))
 
 pub slotpool-set-up-spec : {M : Type 1} → stated.statement M
 unfolding code.routine
-slotpool-set-up-spec {M} 𝓤 H 𝓜 𝓖 𝓡 =
-    lent-met f.ended (λ M. f.clauses {M = M}) code.function spells #slotpool·set-up-by first.ended
-    (λ M. first.clauses {M = M}) M 𝓤 H 𝓜 𝓖 𝓡 code.env #slotpool·slotpool-set-up (λ κs. (λ x v p. p .0 .0, (λ x v p. p .0 .0, (λ x v p. p .0, tt))))
+slotpool-set-up-spec {M} 𝓤 H 𝓜 𝓖 𝓡 = lent-met f.ended spells
+    (λ κs. (λ x v p. p .0 .0, (λ x v p. p .0 .0, (λ x v p. p .0, tt))))
+    (λ M. f.clauses {M = M}) code.function #slotpool·set-up-by first.ended (λ M. first.clauses {M = M}) M 𝓤 H 𝓜 𝓖 𝓡 code.env #slotpool·slotpool-set-up
     (code.unfolded 𝓤 H 𝓜 𝓡) first-def.routine code.calls-slotpool·set-up-by (first-thm.met 𝓤 H 𝓜 𝓖 𝓡) walk code.calls-totals·record
