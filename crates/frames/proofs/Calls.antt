@@ -45,7 +45,7 @@ module _ {row : ℕ} {F : Form} {a : List ℕ} {t : F .Kept} (r : Checked row F 
 
   -- and leaves what is lent
   pub refused-out : (x : Refusal) → CarriedOutBy F a (refused x (F .view t)) (Reply.Refused x) a t
-  refused-out x = record { answer = refl; arena = refl; room = sym same-room }
+  refused-out x = record { answer = refl; arena = refl; kept = sym same-room }
 
   -- ---- grant
 
@@ -73,7 +73,7 @@ module _ {row : ℕ} {F : Form} {a : List ℕ} {t : F .Kept} (r : Checked row F 
       pub granted-at : (q : Place) → found ≡ some q → (b : Block) → b ≡ blockOf row q → (u : F .Kept) → u ≡ F .encode (poolOf q)
           → CarriedOutBy F a asked (Reply.Done (handleAt row b)) (put (ownedAt row b) (frame (b .class) (b .slot) (b .alloc .disp) (b .alloc .size)) a) u
       unfolding enframe
-      granted-at q f b e u eu = rw (granting, ap (grantAt row (F .view t)) f, e) (record { answer = refl; arena = refl; room = eu })
+      granted-at q f b e u eu = rw (granting, ap (grantAt row (F .view t)) f, e) (record { answer = refl; arena = refl; kept = eu })
 
   -- a plan that names no block is what the call does
   pub record Does (c : Call) (p : Plan) : Type 0 where
@@ -228,13 +228,13 @@ resize-names row P n p = choose-case (λ (r : Plan). r .checks ≡ some p) (inPl
 
 module _ {R : Type 0} where
   -- an outcome by its parts
-  pub whole : {x : Answer} {a : List ℕ} {t : R} {o : Outcome R} → x ≡ o .answer → a ≡ o .arena → t ≡ o .room → left x a t ≡ o
+  pub whole : {x : Answer} {a : List ℕ} {t : R} {o : Outcome R} → x ≡ o .answer → a ≡ o .arena → t ≡ o .kept → left x a t ≡ o
   whole {x} {a} {t} {o} e f g = ap (λ x. left x a t) e ∙ ap (λ a. left (o .answer) a t) f ∙ ap (left (o .answer) (o .arena)) g
 
 module _ {F : Form} {a : List ℕ} {p : Plan} {w : Reply} {x : List ℕ} {u : F .Kept} {r : Outcome (F .Kept)} where
   -- what a call leaves that carries a plan out
   pub carried-as : CarriedOutBy F a p w x u → r ≡ applied F a p → left (replyAnswer w) x u ≡ r
-  carried-as d e = whole (d .answer) (d .arena) (d .room) ∙ sym e
+  carried-as d e = whole (d .answer) (d .arena) (d .kept) ∙ sym e
 
 module _ {row : ℕ} {F : Form} {a : List ℕ} {t : F .Kept} (r : Checked row F a t) where
   -- a call that writes nothing and keeps the state of sound tables: all stays, but for the answer

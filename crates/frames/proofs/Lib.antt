@@ -5,3 +5,4 @@ pub mod Moves
 pub mod Calls
 pub mod Grants
 pub mod Lists
+pub mod Listed

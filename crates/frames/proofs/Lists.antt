@@ -20,14 +20,14 @@ use Rattle.frames.proofs.Calls.{Checked, call-sound, kept}
 -- what a refused call tells
 pub refused-parts : {R : Type 0} {c : Outcome R} {a : List ℕ} {t : R} (x : Refusal) (l : List ℕ) → c ≡ keeps (refusal x) a t
     → (replyAnswer (Reply.Refused x) .number ≡ c .answer .number) × ((replyAnswer (Reply.Refused x) .values ≡ c .answer .values)
-    × ((l ≡ put 0 (c .answer .lent) l) × ((a ≡ c .arena) × (t ≡ c .room))))
+    × ((l ≡ put 0 (c .answer .lent) l) × ((a ≡ c .arena) × (t ≡ c .kept))))
 refused-parts {R} x l e = (
   sym (ap (λ (r : Outcome R). r .answer .number) e),
   (
     sym (ap (λ (r : Outcome R). r .answer .values) e),
     (
       sym (put-nil 0 l) ∙ ap (λ (r : Outcome R). put 0 (r .answer .lent) l) (sym e),
-      (sym (ap (λ (r : Outcome R). r .arena) e), sym (ap (λ (r : Outcome R). r .room) e)),
+      (sym (ap (λ (r : Outcome R). r .arena) e), sym (ap (λ (r : Outcome R). r .kept) e)),
     ),
   ),
 )
@@ -81,7 +81,7 @@ module _ {row : ℕ} {F : Form} {a : List ℕ} {t : F .Kept} (r : Checked row F 
         pub values : length ns ∷ [] ≡ asked .answer .values
         pub lent : map (handle row) (granted (reserveAll row P ns)) ≡ asked .answer .lent
         pub arena : written a (map (enframe row) (granted (reserveAll row P ns))) ≡ asked .arena
-        pub room : F .encode (poolAfter P (granted (reserveAll row P ns))) ≡ asked .room
+        pub kept : F .encode (poolAfter P (granted (reserveAll row P ns))) ≡ asked .kept
 
       pub whole : isSome (reserveAll row P ns) ≡ true → Whole
       whole e = go (reserveAll row P ns) refl e
@@ -99,5 +99,5 @@ module _ {row : ℕ} {F : Form} {a : List ℕ} {t : F .Kept} (r : Checked row F 
                 values = ap (λ m. m ∷ []) (sym n) ∙ sym (ap (λ (r : Outcome (F .Kept)). r .answer .values) d);
                 lent = ap (λ o. map (handle row) (granted o)) f ∙ sym (ap (λ (r : Outcome (F .Kept)). r .answer .lent) d);
                 arena = ap (λ o. written a (map (enframe row) (granted o))) f ∙ sym (ap (λ (r : Outcome (F .Kept)). r .arena) d);
-                room = ap (λ o. F .encode (poolAfter P (granted o))) f ∙ sym (ap (λ (r : Outcome (F .Kept)). r .room) d);
+                kept = ap (λ o. F .encode (poolAfter P (granted o))) f ∙ sym (ap (λ (r : Outcome (F .Kept)). r .kept) d);
               }

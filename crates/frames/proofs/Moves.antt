@@ -118,7 +118,7 @@ module _ {L : Layout} {row len : ℕ} {t : List ℕ} (r : Lent L row len t) (v n
         (record {
           answer = ap (λ v. done (v ∷ [])) (es ∙ ap (handleAt row) (sym ec));
           arena = e₃ ∙ ap₂ (λ x (y : Plan). written x (y .changes)) f (sym released-old);
-          room = eu ∙ ap (λ (x : Plan). encodeBy L row (x .pool)) (sym released-old);
+          kept = eu ∙ ap (λ (x : Plan). encodeBy L row (x .pool)) (sym released-old);
         })
       where
         laid : List ℕ
@@ -132,7 +132,7 @@ module _ {L : Layout} {row len : ℕ} {t : List ℕ} (r : Lent L row len t) (v n
 
   pub moved-nowhere : (a : List ℕ) → v ≡ align (p .state) → reserve row (viewBy L row t) v n ≡ none
       → CarriedOutBy (formOf row L) a (resizeMove row (poolOf p) p n) (Reply.Refused refusals.NoRoom) a t
-  moved-nowhere a ev e = rw (stays-plan ev e) (record { answer = refl; arena = refl; room = h .bytes })
+  moved-nowhere a ev e = rw (stays-plan ev e) (record { answer = refl; arena = refl; kept = h .bytes })
 
   pub unmoved-pool : v ≡ align (p .state) → reserve row (viewBy L row t) v n ≡ none → resizeMove row (poolOf p) p n .pool ≡ poolOf p
   unmoved-pool ev e = ap (λ (x : Plan). x .pool) (stays-plan ev e)

@@ -17,7 +17,7 @@ use Rattle.model.specs.State.{Place, group, isLive, count, useBits, poolOf}
 use Rattle.model.specs.Blocks.{damageIn, damage}
 use Rattle.model.specs.Answers.{replyAnswer}
 use Rattle.model.specs.Plans.{Plan, Site}
-use Rattle.model.specs.Tables.{Layout, encodeBy}
+use Rattle.model.specs.Tables.{Layout, encodeBy, mostRows}
 use Rattle.model.specs.Calls.{Form, written}
 use Rattle.rows.specs.declared.Block.{Block}
 use Rattle.rows.specs.declared.Looked.{Looked}
@@ -33,7 +33,7 @@ pub record Standing (row len : ℕ) (b : Block) : Type 0 where
   pub bytes : 16 * b .alloc .disp + b .alloc .size + 4 ≤ slotBytes (b .class)
   pub owned : row * b .first + 12 + b .slot * slotBytes (b .class) + slotBytes (b .class) ≤ len
   pub group : row * (b .first + rowsOf row (b .class)) ≤ len
-  pub few : b .first + rowsOf row (b .class) ≤ 512
+  pub few : b .first + rowsOf row (b .class) ≤ mostRows
 
 -- a block that was found lies in an arena of len bytes
 abbrev pub Lies : (row len : ℕ) → Looked → Type 0
@@ -94,4 +94,4 @@ module _ (L : Layout) (row : ℕ) where
 pub record CarriedOutBy (F : Form) (a : List ℕ) (p : Plan) (r : Reply) (x : List ℕ) (u : F .Kept) : Type 0 where
   pub answer : replyAnswer r ≡ p .answer
   pub arena : x ≡ written a (p .changes)
-  pub room : u ≡ F .encode (p .pool)
+  pub kept : u ≡ F .encode (p .pool)

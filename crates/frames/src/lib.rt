@@ -7,6 +7,7 @@ ghost use Rattle.classes.specs.Classes.{Lawful, slotBytes, rowsOf};
 ghost use Rattle.classes.specs.Alignments.{Askable};
 ghost use Rattle.model.specs.State.{useBits, startOf};
 ghost use Rattle.model.specs.Blocks.{damageIn, frame};
+ghost use Rattle.model.specs.Tables.{mostRows};
 ghost use Rattle.rows.specs.Rows.{ownedAt, startAt, handleAt};
 ghost use Rattle.frames.specs.Blocks.{Standing, Lies, codeFound, bitsFound, judged, staysIn};
 use model::Damage;
@@ -22,7 +23,7 @@ pub enum Located {
 
 // The first byte that a block's slot owns, the slot having so many bytes.
 fn owned_in(row: usize, b: Block, bytes: usize) -> usize
-    requires { ⌜ (b .class < 48) × (b .slot < 31) × (b .first ≤ 512) × (bytes ≡ slotBytes (b .class)) ⌝ }
+    requires { ⌜ (b .class < 48) × (b .slot < 31) × (b .first ≤ mostRows) × (bytes ≡ slotBytes (b .class)) ⌝ }
     requires { ⌜ Lawful row ⌝ }
     ensures { λ r. ⌜ r ≡ ownedAt row b ⌝ }
     ensures small { λ r. ⌜ r < 8388608 ⌝ }
@@ -31,7 +32,7 @@ fn owned_in(row: usize, b: Block, bytes: usize) -> usize
 }
 
 pub fn owned_of(row: usize, b: Block) -> usize
-    requires { ⌜ (b .class < 48) × (b .slot < 31) × (b .first ≤ 512) ⌝ }
+    requires { ⌜ (b .class < 48) × (b .slot < 31) × (b .first ≤ mostRows) ⌝ }
     requires { ⌜ Lawful row ⌝ }
     ensures { λ r. ⌜ r ≡ ownedAt row b ⌝ }
     ensures small { λ r. ⌜ r < 8388608 ⌝ }
@@ -56,7 +57,7 @@ pub fn start_in(handle: usize) -> usize
 
 // Where a block starts.
 pub fn start_of(row: usize, b: Block) -> usize
-    requires { ⌜ (b .class < 48) × (b .slot < 31) × (b .first ≤ 512) ⌝ }
+    requires { ⌜ (b .class < 48) × (b .slot < 31) × (b .first ≤ mostRows) ⌝ }
     requires { ⌜ 16 * b .alloc .disp ≤ slotBytes (b .class) ⌝ }
     requires { ⌜ Lawful row ⌝ }
     ensures { λ r. ⌜ r ≡ startAt row b ⌝ }
@@ -67,7 +68,7 @@ pub fn start_of(row: usize, b: Block) -> usize
 
 // The handle of a live block.
 pub fn handle_of(row: usize, b: Block) -> usize
-    requires { ⌜ (b .class < 48) × (b .slot < 31) × (b .first ≤ 512) ⌝ }
+    requires { ⌜ (b .class < 48) × (b .slot < 31) × (b .first ≤ mostRows) ⌝ }
     requires { ⌜ 16 * b .alloc .disp ≤ slotBytes (b .class) ⌝ }
     requires { ⌜ Lawful row ⌝ }
     ensures { λ r. ⌜ r ≡ handleAt row b ⌝ }

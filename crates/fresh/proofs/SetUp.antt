@@ -1,9 +1,10 @@
 -- Set up, in any form of the tables: when it is refused, and the tables that it writes.
 use Rattle.mem.proofs.Prelude.{_∙_, _≡_, sym, ap, refl, ap₂, subst, true, Bool, false, _&&_, List, [], _∷_, _++_, _+_, ℕ, _≤_, _*_, _/_, arith, T, eqb}
-use Rattle.mem.proofs.Prelude.{eqb→eq, length}
+use Rattle.mem.proofs.Prelude.{eqb→eq, length, _<_, leb→le}
 use Rattle.mem.specs.Bytes.{zeros, low, put}
 use Rattle.mem.proofs.Tests.{and-left, and-right, and-both, choose-true, choose-false, T-true, true-T, eq→eqb}
 use Rattle.mem.proofs.Laws.{zeros-length, zeros-add, put-at}
+use Rattle.classes.specs.Classes.{rowBytes}
 use Rattle.model.specs.declared.Refusal.the-variants.{BadArena}
 use Rattle.model.specs.State.{rows}
 use Rattle.model.specs.Answers.{done, refusal}
@@ -70,3 +71,12 @@ module _ (row : ℕ) (F : Form) (a : List ℕ) (t : F .Kept) (u : List ℕ) (fit
     where
       arithmetic : (k : ℕ) → rowAt k ≡ 4 + (12 + rowRecordBytes * k)
       arithmetic k = omega arith
+
+-- what is formatted has a place for the arena's length, which four bytes hold
+pub formattable : {F : Form} {a : List ℕ} {t : F .Kept} {u : List ℕ} {fits : F .fits (length a) t ≡ eqb (length u) (roomBytes (length a / rowBytes))}
+    → Fitting rowBytes F a t u fits → (4 ≤ length u) × (length a < 4294967296)
+unfolding rowBytes arenaRight roomBytes
+formattable {a = a} f =
+    let t = f .lawful in
+    let l : length a ≤ 512 * 512 = leb→le (length a) (512 * 512) (search (and-left, and-right)) in
+    (omega (arith, f .long), omega arith)

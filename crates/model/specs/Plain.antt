@@ -10,7 +10,7 @@ use Rattle.model.specs.declared.Slot.{Slot}
 use Rattle.model.specs.declared.Slot.the-variants.{Fresh, Idle, Live}
 use Rattle.model.specs.declared.Holder.the-variants.{First}
 use Rattle.model.specs.State.{count, disp, size}
-use Rattle.model.specs.Tables.{Layout, slotsAt, slotRecordBytes, countAt, dispAt, sizeAt, mostSlots, holderBytes}
+use Rattle.model.specs.Tables.{Layout, slotsAt, slotRecordBytes, kindAt, countAt, dispAt, sizeAt, mostSlots, holderBytes}
 use Rattle.model.specs.Plans.{Call}
 use Rattle.model.specs.Calls.{Form, Outcome, formOf, callBy}
 
@@ -36,7 +36,7 @@ plainSlot b k d n =
 
 -- the slot that a record says
 unfoldable pub plainIn : List ℕ → Slot
-plainIn r = plainSlot (getD r 0 0) (getD r countAt 0) (number (part dispAt 2 r)) (number (part sizeAt 3 r))
+plainIn r = plainSlot (getD r kindAt 0) (getD r countAt 0) (number (part dispAt 2 r)) (number (part sizeAt 3 r))
 
 -- n slots, one record after the other
 unfoldable pub plainSlots : ℕ → List ℕ → List Slot

@@ -34,7 +34,10 @@ slotsAt = 16
 abbrev pub slotRecordBytes : ℕ
 slotRecordBytes = 8
 
--- in a slot's record, behind the byte that is 0 if it was never granted: use count, displacement, requested size
+-- in a slot's record: its kind, which is 0 if it was never granted, use count, displacement, requested size
+abbrev pub kindAt : ℕ
+kindAt = 0
+
 abbrev pub countAt : ℕ
 countAt = 1
 
@@ -47,6 +50,10 @@ sizeAt = 4
 abbrev pub mostSlots : ℕ
 mostSlots = 31
 
+-- "so at most 512 rows"
+abbrev pub mostRows : ℕ
+mostRows = 512
+
 -- where the record of row i stands
 abbrev pub rowAt : ℕ → ℕ
 rowAt i = headBytes + rowRecordBytes * i
@@ -55,7 +62,7 @@ rowAt i = headBytes + rowRecordBytes * i
 unfoldable pub roomBytes : ℕ → ℕ
 roomBytes n = rowAt n
 
--- a slot's record: the alignment's code if it is live, 1 if it was granted and is not, use count, displacement in two bytes, the
+-- a slot's record: its kind, the alignment's code if it is live, 1 if it was granted and is not; use count, displacement in two bytes, the
 -- requested size in three if it is live, 0
 unfoldable pub slotRecord : Slot → List ℕ
 slotRecord Fresh = zeros slotRecordBytes
@@ -81,10 +88,10 @@ laterRecords (suc m) k = rowRecord (Later k) [] ++ laterRecords m (suc k)
 
 -- the slot that a record says, with its bits of the two masks
 unfoldable pub viewSlot : Bool → Bool → List ℕ → Slot
-viewSlot true w r = choose (eqb (getD r 0 0) 0) Fresh (Idle true (getD r countAt 0) (number (part dispAt 2 r)))
+viewSlot true w r = choose (eqb (getD r kindAt 0) 0) Fresh (Idle true (getD r countAt 0) (number (part dispAt 2 r)))
 viewSlot false true r = Idle false (getD r countAt 0) (number (part dispAt 2 r))
 viewSlot false false r =
-    Live (record { count = getD r countAt 0; disp = number (part dispAt 2 r); size = number (part sizeAt 3 r); align = getD r 0 0 })
+    Live (record { count = getD r countAt 0; disp = number (part dispAt 2 r); size = number (part sizeAt 3 r); align = getD r kindAt 0 })
 
 -- n slots, from the two masks and the records
 unfoldable pub viewSlots : ℕ → ℕ → ℕ → List ℕ → List Slot
@@ -115,7 +122,7 @@ spanOf gap held (Later k) = gap
 module _ (row : ℕ) where
   -- "An arena is 512 to 262,144 bytes, a multiple of 512, so at most 512 rows." A row is whole units.
   unfoldable pub arenaRight : ℕ → Bool
-  arenaRight n = eqb (row % 16) 0 && leb row n && leb n (512 * row) && eqb (n % row) 0
+  arenaRight n = eqb (row % 16) 0 && leb row n && leb n (mostRows * row) && eqb (n % row) 0
 
 -- How a group's first row keeps its slots: the row's record, and the slots that such a record says. Free and later rows are the same in
 -- every layout.

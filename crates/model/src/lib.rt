@@ -78,7 +78,7 @@ pub enum Report {
 }
 
 // The layout of the table room (docs/TABLES.md): the head, then a record for each row. A group's first row keeps its masks and its
-// slots' records; a slot's record has, behind a byte that is 0 if it was never granted, its use count, displacement and requested size.
+// slots' records; a slot's record has its kind, which is 0 if it was never granted, its use count, displacement and requested size.
 pub const HEAD: usize = 16;
 
 pub const ROW_RECORD: usize = 264;
@@ -91,6 +91,8 @@ pub const SLOTS: usize = 16;
 
 pub const SLOT_RECORD: usize = 8;
 
+pub const KIND: usize = 0;
+
 pub const COUNT: usize = 1;
 
 pub const DISP: usize = 2;
@@ -98,3 +100,5 @@ pub const DISP: usize = 2;
 pub const SIZE: usize = 4;
 
 pub const MOST_SLOTS: usize = 31;
+
+pub const MOST_ROWS: usize = 512;

@@ -10,10 +10,9 @@ ghost use Rattle.classes.specs.Alignments.{Askable};
 ghost use Rattle.model.specs.State.{Place, startOf, poolOf};
 ghost use Rattle.model.specs.Plans.{lookup, releaseAt, resizeInPlace, resizeMove, resizeAt, totals};
 ghost use Rattle.model.specs.Tables.{byMasks, sound, view, encode};
-ghost use Rattle.model.specs.Calls.{written};
+ghost use Rattle.model.specs.Calls.{keptIn, engine, written};
 ghost use Rattle.rows.specs.Rows.{Holds};
-ghost use Rattle.frames.specs.Blocks.{located, staysIn};
-ghost use Rattle.ops.specs.Blocks.{CarriedOut};
+ghost use Rattle.frames.specs.Blocks.{located, staysIn, CarriedOutBy};
 use changes::Left;
 use frames::Located;
 use model::Answered;
@@ -102,7 +101,8 @@ fn resize_by_move(
     requires { ⌜ Askable (b .alloc .align) n ⌝ }
     requires { ⌜ Lawful row ⌝ }
     ensures { λ r. ⌜ ((p : Place) → Holds byMasks row (now (room .entry)) b p
-        → CarriedOut row (now (arena .entry)) (resizeMove row (poolOf p) p n) (r .reply) (now (arena .exit)) (now (room .exit)) (r .totals)) ⌝ }
+        → CarriedOutBy (engine row) (now (arena .entry)) (resizeMove row (poolOf p) p n) (r .reply) (now (arena .exit))
+        (keptIn (now (room .exit)) (r .totals))) ⌝ }
 {
     let Reserved::Taken(q, s) = reserve_slot(row, arena.len(), room, t, b.alloc.align, n) else {
         return Answered {
@@ -138,7 +138,8 @@ pub fn change_size(
     requires { ⌜ Askable (b .alloc .align) n ⌝ }
     requires { ⌜ Lawful row ⌝ }
     ensures { λ r. ⌜ ((p : Place) → Holds byMasks row (now (room .entry)) b p
-        → CarriedOut row (now (arena .entry)) (resizeAt row (poolOf p) n p) (r .reply) (now (arena .exit)) (now (room .exit)) (r .totals)) ⌝ }
+        → CarriedOutBy (engine row) (now (arena .entry)) (resizeAt row (poolOf p) n p) (r .reply) (now (arena .exit))
+        (keptIn (now (room .exit)) (r .totals))) ⌝ }
 {
     if frames::stays_in(b, n) {
         let sized = resize_in_place(row, arena, room, t, b, n);

@@ -11,7 +11,7 @@ ghost use Rattle.model.specs.Tables.{soundBy, viewBy};
 ghost use Rattle.model.specs.Plain.{bySlots, plainForm, plainCall};
 ghost use Rattle.model.specs.Calls.{left};
 ghost use Rattle.frames.specs.Blocks.{CarriedOutBy};
-ghost use Rattle.plain.specs.Listed.{Listed};
+ghost use Rattle.frames.specs.Listed.{Listed};
 use frames::Located;
 use model::Refusal;
 use model::Reply;

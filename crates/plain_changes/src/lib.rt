@@ -10,7 +10,7 @@ ghost use Rattle.classes.specs.Classes.{Lawful, slotBytes, slotsOf, rowsOf};
 ghost use Rattle.model.specs.declared.Slot.{Slot};
 ghost use Rattle.model.specs.State.{Place, group, isReady, isLive, poolOf, become};
 ghost use Rattle.model.specs.Plans.{Site, turnReady, refill, grantIn, releaseAt};
-ghost use Rattle.model.specs.Tables.{rowAt, rowRecordBytes, spanRecordsBy, encodeBy};
+ghost use Rattle.model.specs.Tables.{rowAt, rowRecordBytes, spanRecordsBy, encodeBy, mostRows};
 ghost use Rattle.model.specs.Plain.{plainGroup, bySlots};
 ghost use Rattle.rows.specs.Rows.{blockOf, resized, Holds, Offers};
 ghost use Rattle.plain_changes.specs.Changes.{turned};
@@ -56,7 +56,7 @@ fn ready_slot(room: &mut [u8], i: usize, c: usize) -> usize
 
 // "Take its lowest ready slot." If none is ready: the number of slots.
 fn first_ready(room: &[u8], i: usize, c: usize) -> usize
-    requires { ⌜ (i < 512) × (rowAt i + rowRecordBytes ≤ length (now room)) ⌝ }
+    requires { ⌜ (i < mostRows) × (rowAt i + rowRecordBytes ≤ length (now room)) ⌝ }
     requires { ⌜ c < 48 ⌝ }
     ensures { λ r. ⌜ r ≡ first isReady (plainGroup c (drop (rowAt i) (now (room .entry)))) ⌝ }
 {
@@ -84,7 +84,7 @@ fn is_ready(x: Slot) -> bool
 
 // "If its ready set is empty, all waiting slots become ready first."
 fn turn_all(room: &mut [u8], i: usize, c: usize)
-    requires { ⌜ (i < 512) × (rowAt i + rowRecordBytes ≤ length (now room)) ⌝ }
+    requires { ⌜ (i < mostRows) × (rowAt i + rowRecordBytes ≤ length (now room)) ⌝ }
     requires { ⌜ c < 48 ⌝ }
     ensures { λ _. ⌜ now (room .exit) ≡ turned i (slotsOf c) 0 (now (room .entry)) ⌝ }
 {
@@ -113,7 +113,7 @@ fn turn_ready(x: Slot) -> Slot
 
 // "If there is no such group, make one at the lowest run of R free rows, all slots ready": never granted, so that their records are zero.
 pub fn make_group(row: usize, room: &mut [u8], i: usize, c: usize)
-    requires { ⌜ (c < 48) × (i + rowsOf row c ≤ 512) ⌝ }
+    requires { ⌜ (c < 48) × (i + rowsOf row c ≤ mostRows) ⌝ }
     requires { ⌜ rowAt (i + rowsOf row c) ≤ length (now room) ⌝ }
     requires { ⌜ Lawful row ⌝ }
     ensures { λ _. ⌜ now (room .exit) ≡ put (rowAt i) (spanRecordsBy bySlots row (group c (replicate (slotsOf c) Slot.Fresh))) (now (room .entry)) ⌝ }

@@ -7,7 +7,7 @@ ghost use Rattle.mem.specs.Lists.{starts};
 ghost use Rattle.classes.specs.Classes.{tooLarge, ownClass};
 ghost use Rattle.model.specs.declared.Slot.the-variants.{Live};
 ghost use Rattle.model.specs.State.{slotSound, slotAligned};
-ghost use Rattle.model.specs.Tables.{rowRecordBytes, slotsAt, slotRecordBytes, mostSlots, rowAt};
+ghost use Rattle.model.specs.Tables.{rowRecordBytes, slotsAt, slotRecordBytes, mostSlots, rowAt, mostRows};
 ghost use Rattle.model.specs.Plain.{plainRecord};
 ghost use Rattle.plain_slots.specs.Slots.{Small};
 use model::Alloc;
@@ -16,7 +16,7 @@ use model::Slot;
 // "One state of the tables has one byte form over the whole room, with zero wherever nothing is to be said; other bytes are unsound."
 // The record of slot j, which was read as x, must be that of x.
 pub fn record_sound(room: &[u8], i: usize, j: usize, c: usize, begin: usize, x: Slot) -> bool
-    requires { ⌜ (i < 512) × (rowAt i + rowRecordBytes ≤ length (now room)) × (j < mostSlots) ⌝ }
+    requires { ⌜ (i < mostRows) × (rowAt i + rowRecordBytes ≤ length (now room)) × (j < mostSlots) ⌝ }
     requires { ⌜ (c < 48) × (begin < 16777216) × Small x ⌝ }
     ensures { λ r. ⌜ r ≡ starts (drop (rowAt i + (slotsAt + slotRecordBytes * j)) (now (room .entry))) (plainRecord x)
         && (slotSound c x && slotAligned begin x) ⌝ }

@@ -5,7 +5,7 @@ ghost use mathlib.Core.Path.{_≡_};
 ghost use Prim.Native.Nat.{_+_, _*_, _≤_, _<_};
 ghost use lib.ListN.{length, drop};
 ghost use Rattle.mem.specs.Lists.{choose};
-ghost use Rattle.model.specs.Tables.{rowAt, rowRecordBytes, slotsAt, slotRecordBytes, mostSlots};
+ghost use Rattle.model.specs.Tables.{rowAt, rowRecordBytes, slotsAt, slotRecordBytes, mostSlots, mostRows};
 ghost use Rattle.model.specs.Plain.{plainRecord, plainSlot, condition};
 ghost use Rattle.plain_slots.specs.Slots.{slotIn, stored, Small};
 use model::Alloc;
@@ -14,14 +14,14 @@ use model::Slot;
 // "For each group: its class, its first row, and of each slot whether it is ready, waiting or live."
 // Slot j of the group whose first row is row i.
 pub fn slot_at(room: &[u8], i: usize, j: usize) -> Slot
-    requires { ⌜ (i < 512) × (rowAt i + rowRecordBytes ≤ length (now room)) ⌝ }
+    requires { ⌜ (i < mostRows) × (rowAt i + rowRecordBytes ≤ length (now room)) ⌝ }
     requires { ⌜ j < mostSlots ⌝ }
     ensures { λ r. ⌜ r ≡ slotIn j (drop (rowAt i) (now (room .entry))) ⌝ }
     ensures small { λ r. ⌜ Small r ⌝ }
 {
     let at = slot_place(i, j);
     slot_of(
-        room[at],
+        room[at + model::KIND],
         room[at + model::COUNT],
         mem::get2(room, at + model::DISP),
         mem::get3(room, at + model::SIZE),
@@ -30,7 +30,7 @@ pub fn slot_at(room: &[u8], i: usize, j: usize) -> Slot
 
 // Where the record of slot j stands, in the group whose first row is row i.
 pub fn slot_place(i: usize, j: usize) -> usize
-    requires { ⌜ (i < 512) × (j ≤ mostSlots) ⌝ }
+    requires { ⌜ (i < mostRows) × (j ≤ mostSlots) ⌝ }
     ensures { λ r. ⌜ r ≡ rowAt i + (slotsAt + slotRecordBytes * j) ⌝ }
 {
     rows::row_at(i) + (model::SLOTS + model::SLOT_RECORD * j)
@@ -62,7 +62,7 @@ fn slot_of(condition: u8, count: u8, disp: usize, size: usize) -> Slot
 
 // Writes the record of slot j of the group whose first row is row i: all that a change of one slot changes.
 pub fn store(room: &mut [u8], i: usize, j: usize, x: Slot)
-    requires { ⌜ (i < 512) × (rowAt i + rowRecordBytes ≤ length (now room)) ⌝ }
+    requires { ⌜ (i < mostRows) × (rowAt i + rowRecordBytes ≤ length (now room)) ⌝ }
     requires { ⌜ (j < mostSlots) × (condition x < 256) ⌝ }
     ensures { λ _. ⌜ now (room .exit) ≡ stored (rowAt i) j x (now (room .entry)) ⌝ }
 {

@@ -7,7 +7,7 @@ ghost use Rattle.classes.specs.Classes.{Lawful, slotsOf};
 ghost use Rattle.model.specs.declared.Slot.the-variants.{Idle};
 ghost use Rattle.model.specs.declared.Holder.the-variants.{First};
 ghost use Rattle.model.specs.Plans.{totals};
-ghost use Rattle.model.specs.Tables.{headBytes, rowRecordBytes, slotsAt, mostSlots, rowAt, soundBy, viewBy, viewHolder};
+ghost use Rattle.model.specs.Tables.{headBytes, rowRecordBytes, slotsAt, mostSlots, rowAt, soundBy, viewBy, viewHolder, mostRows};
 ghost use Rattle.model.specs.Plain.{plainSlots, plainGroup, bySlots};
 ghost use Rattle.rows.specs.Checks.{groupChecked};
 ghost use Rattle.rows.specs.Counts.{countedIf, groupTotals, spanCounted, rowsCounted};
@@ -52,7 +52,7 @@ pub fn counted(row: usize, len: usize, room: &[u8]) -> Counted
 
 // The n rows of a room: "rows held plus rows free is the arena's rows", so these are the rows passed.
 fn rows_counted(row: usize, room: &[u8], n: usize) -> Counted
-    requires { ⌜ (n ≤ 512) × (length (now room) ≡ rowAt n) ⌝ }
+    requires { ⌜ (n ≤ mostRows) × (length (now room) ≡ rowAt n) ⌝ }
     requires { ⌜ Lawful row ⌝ }
     ensures { λ r. ⌜ r ≡ rowsCounted bySlots row 0 n (drop headBytes (now (room .entry))) ⌝ }
 {
@@ -73,7 +73,7 @@ fn rows_counted(row: usize, room: &[u8], n: usize) -> Counted
 
 // "groups lie inside the arena and no two share a row": what begins at row i, where n rows are left, is a free row or a whole group.
 fn span_counted(row: usize, room: &[u8], i: usize, n: usize) -> Counted
-    requires { ⌜ (0 < n) × (i + n ≤ 512) × (rowAt (i + n) ≤ length (now room)) ⌝ }
+    requires { ⌜ (0 < n) × (i + n ≤ mostRows) × (rowAt (i + n) ≤ length (now room)) ⌝ }
     requires { ⌜ Lawful row ⌝ }
     ensures { λ r. ⌜ r ≡ spanCounted bySlots row (row * i) n (drop (rowAt i) (now (room .entry))) ⌝ }
 {
@@ -86,7 +86,7 @@ fn span_counted(row: usize, room: &[u8], i: usize, n: usize) -> Counted
 
 // "with zero wherever nothing is to be said": between the class of a group and its slots, and after its slots.
 fn group_counted(row: usize, room: &[u8], i: usize, c: usize, k: usize) -> Counted
-    requires { ⌜ (i < 512) × (rowAt i + rowRecordBytes ≤ length (now room)) ⌝ }
+    requires { ⌜ (i < mostRows) × (rowAt i + rowRecordBytes ≤ length (now room)) ⌝ }
     requires { ⌜ (c < 48) × (viewHolder (drop (rowAt i) (now room)) ≡ First c) ⌝ }
     requires { ⌜ Lawful row ⌝ }
     ensures { λ r. ⌜ r ≡ countedIf (groupChecked bySlots (row * i) c (drop (rowAt i) (now (room .entry))))
@@ -118,7 +118,7 @@ fn some_live(found: Counted) -> Counted
 
 // "Slot i of a group begins 16 + i·s bytes after the group's first byte." The first begins at the byte given, each other where the one before ends.
 fn slots_counted(room: &[u8], i: usize, c: usize, k: usize, begin: usize) -> Counted
-    requires { ⌜ (i < 512) × (rowAt i + rowRecordBytes ≤ length (now room)) ⌝ }
+    requires { ⌜ (i < mostRows) × (rowAt i + rowRecordBytes ≤ length (now room)) ⌝ }
     requires { ⌜ (c < 48) × (begin < 8388608) ⌝ }
     ensures { λ r. ⌜ r ≡ countedIf (slotsRight c begin (slotsOf c) (drop (rowAt i + slotsAt) (now (room .entry))))
         (groupTotals k (plainSlots (slotsOf c) (drop (rowAt i + slotsAt) (now (room .entry))))) ⌝ }

@@ -9,7 +9,7 @@ ghost use Rattle.mem.specs.Bytes.{bit};
 ghost use Rattle.classes.specs.Classes.{Lawful};
 ghost use Rattle.model.specs.State.{isLive, disp};
 ghost use Rattle.model.specs.Plans.{openFrom, lookup};
-ghost use Rattle.model.specs.Tables.{rowAt, rowRecordBytes, viewHolder, soundBy, viewBy};
+ghost use Rattle.model.specs.Tables.{rowAt, rowRecordBytes, viewHolder, soundBy, viewBy, mostRows};
 ghost use Rattle.model.specs.Plain.{plainGroup, bySlots};
 ghost use Rattle.rows.specs.Rows.{classHeld, siteFound, looked};
 ghost use Rattle.plain_tables.specs.Found.{liveIn, opensIn, isAbsent, slotLooked, slotsLooked, rowLooked};
@@ -39,7 +39,7 @@ pub fn find_open(row: usize, len: usize, room: &[u8], c: usize) -> Found
 
 // Whether row i is the first row of a group of class c "with a slot not live".
 fn opens_at(room: &[u8], i: usize, c: usize) -> bool
-    requires { ⌜ (i < 512) × (rowAt i + rowRecordBytes ≤ length (now room)) ⌝ }
+    requires { ⌜ (i < mostRows) × (rowAt i + rowRecordBytes ≤ length (now room)) ⌝ }
     requires { ⌜ c < 48 ⌝ }
     ensures { λ r. ⌜ r ≡ opensIn c (drop (rowAt i) (now (room .entry))) ⌝ }
 {
@@ -55,7 +55,7 @@ fn opens_at(room: &[u8], i: usize, c: usize) -> bool
 
 // How many slots are live in the group of class c whose first row is row i.
 pub fn live_in(room: &[u8], i: usize, c: usize) -> usize
-    requires { ⌜ (i < 512) × (rowAt i + rowRecordBytes ≤ length (now room)) ⌝ }
+    requires { ⌜ (i < mostRows) × (rowAt i + rowRecordBytes ≤ length (now room)) ⌝ }
     requires { ⌜ c < 48 ⌝ }
     ensures { λ r. ⌜ r ≡ liveIn (plainGroup c (drop (rowAt i) (now (room .entry)))) ⌝ }
 {
@@ -100,7 +100,7 @@ pub fn find_block(row: usize, len: usize, room: &[u8], offset: usize) -> Looked
 
 // "A row is free, the first row of a group of a named class, or a later row of that group." Only a first row has slots.
 fn look_row(row: usize, room: &[u8], i: usize, offset: usize) -> Looked
-    requires { ⌜ (i < 512) × (rowAt i + rowRecordBytes ≤ length (now room)) ⌝ }
+    requires { ⌜ (i < mostRows) × (rowAt i + rowRecordBytes ≤ length (now room)) ⌝ }
     requires { ⌜ classHeld (viewHolder (drop (rowAt i) (now room))) < 48 ⌝ }
     requires { ⌜ Lawful row ⌝ }
     ensures { λ r. ⌜ r ≡ rowLooked row i offset (drop (rowAt i) (now (room .entry))) ⌝ }
@@ -114,7 +114,7 @@ fn look_row(row: usize, room: &[u8], i: usize, offset: usize) -> Looked
 
 // "Slot i of a group begins 16 + i·s bytes after the group's first byte."
 fn look_group(row: usize, room: &[u8], first: usize, c: usize, offset: usize) -> Looked
-    requires { ⌜ (first < 512) × (rowAt first + rowRecordBytes ≤ length (now room)) ⌝ }
+    requires { ⌜ (first < mostRows) × (rowAt first + rowRecordBytes ≤ length (now room)) ⌝ }
     requires { ⌜ c < 48 ⌝ }
     requires { ⌜ Lawful row ⌝ }
     ensures { λ r. ⌜ r ≡ slotsLooked first c 0 (row * first + 16) offset (plainGroup c (drop (rowAt first) (now (room .entry)))) ⌝ }

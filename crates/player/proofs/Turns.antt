@@ -58,16 +58,16 @@ module _ (a : List ℕ) (t : KeptBytes) (s : List ℕ) (i at : ℕ) (h : i ≤ l
   turn-bad e = by Step.Bad e ∙ append-nil (lineText (Line.bad i))
 
   -- the line of a record, and what is behind it
-  module _ (op : Op) (q : ℕ) (e : Step.Record op q ≡ stepAt s at) (x : Option Answer) (b u : List ℕ) (z : Totals)
-      (d : x ≡ performed rowBytes a t (operationOf s op) .tells) (f : b ≡ performed rowBytes a t (operationOf s op) .arena)
-      (g : u ≡ performed rowBytes a t (operationOf s op) .room .tables) (k : z ≡ performed rowBytes a t (operationOf s op) .room .totals) where
-    pub turn : Rest a t s i at ≡ lineText (lineOf i x) ++ Behind x b (keptIn u z) s (i + 1) q
+  module _ (op : Op) (q : ℕ) (e : Step.Record op q ≡ stepAt s at) (x : Option Answer) (b : List ℕ) (k : KeptBytes)
+      (d : record { tells = x; arena = b; kept = k } ≡ performed rowBytes a t (operationOf s op)) where
+    pub turn : Rest a t s i at ≡ lineText (lineOf i x) ++ Behind x b k s (i + 1) q
     unfolding linesText linesFrom
     turn =
         let n : length s - i ≡ suc (length s) - (i + 1) = omega arith in
         let j : suc i ≡ i + 1 = omega arith in
-        let w : performed rowBytes a t (operationOf s op) .room ≡ keptIn u z = sym (ap₂ keptIn g k) in
-        by (Step.Record op q) e ∙ cc
+        by (Step.Record op q) e
+        ∙ ap (λ (f : Effect). linesText (lineThen i (f .tells) (linesFrom rowBytes (f .arena) (f .kept) (suc i) (itemsFrom (length s - i) s q)))) (sym d)
+        ∙ cc
 
 -- ---- the whole trace
 
@@ -76,6 +76,6 @@ module _ (a : List ℕ) (t : KeptBytes) (s : List ℕ) where
   unfolding printed replayedOver linesText
   printed-bad e = ap linesText (choose-false (traceRight s) _ _ e) ∙ append-nil (lineText (Line.bad 0))
 
-  pub printed-played : traceRight s ≡ true → printed a t s ≡ playedText (call rowBytes a t setsUp .arena) (call rowBytes a t setsUp .room) s
+  pub printed-played : traceRight s ≡ true → printed a t s ≡ playedText (call rowBytes a t setsUp .arena) (call rowBytes a t setsUp .kept) s
   unfolding printed replayedOver playedText
   printed-played e = ap linesText (choose-true (traceRight s) _ _ e)

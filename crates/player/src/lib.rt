@@ -63,14 +63,8 @@ fn store(arena: &mut [u8], offset: usize, bytes: &[u8]) -> bool
 fn perform(arena: &mut [u8], room: &mut [u8], t: Totals, trace: &[u8], op: Op) -> Played
     requires { ⌜ Within op (length (now trace)) ⌝ }
     ensures short { λ r. ⌜ Short (r .told) ⌝ }
-    ensures { λ r. ⌜ answerOf (r .told)
-        ≡ performed rowBytes (now (arena .entry)) (keptIn (now (room .entry)) t) (operationOf (now (trace .entry)) op) .tells ⌝ }
-    ensures { λ r. ⌜ now (arena .exit)
-        ≡ performed rowBytes (now (arena .entry)) (keptIn (now (room .entry)) t) (operationOf (now (trace .entry)) op) .arena ⌝ }
-    ensures { λ r. ⌜ now (room .exit)
-        ≡ performed rowBytes (now (arena .entry)) (keptIn (now (room .entry)) t) (operationOf (now (trace .entry)) op) .room .tables ⌝ }
-    ensures { λ r. ⌜ r .totals
-        ≡ performed rowBytes (now (arena .entry)) (keptIn (now (room .entry)) t) (operationOf (now (trace .entry)) op) .room .totals ⌝ }
+    ensures { λ r. ⌜ record { tells = answerOf (r .told); arena = now (arena .exit); kept = keptIn (now (room .exit)) (r .totals) }
+        ≡ performed rowBytes (now (arena .entry)) (keptIn (now (room .entry)) t) (operationOf (now (trace .entry)) op) ⌝ }
 {
     match op {
         Op::Grant(n) => tell(pool::grant(arena, room, t, n)),

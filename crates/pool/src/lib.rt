@@ -1,21 +1,22 @@
 // The calls of the slot pool, over a lent arena, a lent table room and the totals in the record beside it, by value: a call that can change
 // them gives those after it back.
 //
-// Each is a paragraph of document 01. It says with equations what it answers and what it leaves of arena, room and totals, for any bytes,
-// totals, handle and size.
+// Each is a paragraph of document 01. One equation says what it answers and what it leaves of arena, room and totals, for any bytes, totals,
+// handle and size: what the model's call does on them (call, crates/model/specs/Calls.antt). A list call says it with one predicate.
 ghost use mathlib.Core.Path.{_≡_};
 ghost use mathlib.Core.Bool.{true};
 ghost use Prim.Native.Nat.{_≤_, _<_};
 ghost use lib.ListN.{length};
-ghost use Rattle.mem.specs.Bytes.{put};
 ghost use Rattle.classes.specs.Classes.{rowBytes};
 ghost use Rattle.model.specs.declared.Reply.{Reply};
 ghost use Rattle.model.specs.Answers.{replyAnswer, reportAnswer};
-ghost use Rattle.model.specs.Proposals.{accepts, planned};
+ghost use Rattle.model.specs.Proposals.{accepts};
 ghost use Rattle.model.specs.Plans.{setsUp, grants, grantsAligned, releases, resizes, measures, reports, grantsList, grantAs};
 ghost use Rattle.model.specs.Tables.{roomFor, view};
-ghost use Rattle.model.specs.Calls.{keptIn, soundKept, call};
-ghost use Rattle.ops.specs.Blocks.{CarriedOut};
+ghost use Rattle.model.specs.Calls.{keptIn, engine, soundKept, left, call};
+ghost use Rattle.frames.specs.Blocks.{CarriedOutBy};
+ghost use Rattle.frames.specs.Listed.{Listed};
+ghost use Rattle.pool.specs.Planned.{Planned};
 use frames::Located;
 use model::Answered;
 use model::Refusal;
@@ -43,10 +44,8 @@ fn refused(r: Refusal, t: Totals) -> Answered
 
 // Set up: zero over the whole arena, tables with no groups, and their totals, whatever they were.
 pub fn set_up(arena: &mut [u8], room: &mut [u8], t: Totals) -> Answered
-    ensures { λ r. ⌜ replyAnswer (r .reply) ≡ call rowBytes (now (arena .entry)) (keptIn (now (room .entry)) t) setsUp .answer ⌝ }
-    ensures { λ r. ⌜ now (arena .exit) ≡ call rowBytes (now (arena .entry)) (keptIn (now (room .entry)) t) setsUp .arena ⌝ }
-    ensures { λ r. ⌜ now (room .exit) ≡ call rowBytes (now (arena .entry)) (keptIn (now (room .entry)) t) setsUp .room .tables ⌝ }
-    ensures { λ r. ⌜ r .totals ≡ call rowBytes (now (arena .entry)) (keptIn (now (room .entry)) t) setsUp .room .totals ⌝ }
+    ensures { λ r. ⌜ left (replyAnswer (r .reply)) (now (arena .exit)) (keptIn (now (room .exit)) (r .totals))
+        ≡ call rowBytes (now (arena .entry)) (keptIn (now (room .entry)) t) setsUp ⌝ }
 {
     let len = arena.len();
     let size = room_len(len);
@@ -75,8 +74,8 @@ pub fn set_up(arena: &mut [u8], room: &mut [u8], t: Totals) -> Answered
 fn grant_as(arena: &mut [u8], room: &mut [u8], t: Totals, code: u8, n: usize) -> Answered
     requires { ⌜ soundKept rowBytes (length (now arena)) (keptIn (now room) t) ≡ true ⌝ }
     requires { ⌜ (1 ≤ code) × (code ≤ 9) ⌝ }
-    ensures { λ r. ⌜ CarriedOut rowBytes (now (arena .entry)) (grantAs rowBytes (view rowBytes (now (room .entry))) code n)
-        (r .reply) (now (arena .exit)) (now (room .exit)) (r .totals) ⌝ }
+    ensures { λ r. ⌜ CarriedOutBy (engine rowBytes) (now (arena .entry)) (grantAs rowBytes (view rowBytes (now (room .entry))) code n)
+        (r .reply) (now (arena .exit)) (keptIn (now (room .exit)) (r .totals)) ⌝ }
 {
     if classes::too_large(code, n) {
         return refused(Refusal::TooLarge, t);
@@ -94,10 +93,8 @@ fn grant_as(arena: &mut [u8], room: &mut [u8], t: Totals, code: u8, n: usize) ->
 
 // Grant: an ordinary block.
 pub fn grant(arena: &mut [u8], room: &mut [u8], t: Totals, n: usize) -> Answered
-    ensures { λ r. ⌜ replyAnswer (r .reply) ≡ call rowBytes (now (arena .entry)) (keptIn (now (room .entry)) t) (grants n) .answer ⌝ }
-    ensures { λ r. ⌜ now (arena .exit) ≡ call rowBytes (now (arena .entry)) (keptIn (now (room .entry)) t) (grants n) .arena ⌝ }
-    ensures { λ r. ⌜ now (room .exit) ≡ call rowBytes (now (arena .entry)) (keptIn (now (room .entry)) t) (grants n) .room .tables ⌝ }
-    ensures { λ r. ⌜ r .totals ≡ call rowBytes (now (arena .entry)) (keptIn (now (room .entry)) t) (grants n) .room .totals ⌝ }
+    ensures { λ r. ⌜ left (replyAnswer (r .reply)) (now (arena .exit)) (keptIn (now (room .exit)) (r .totals))
+        ≡ call rowBytes (now (arena .entry)) (keptIn (now (room .entry)) t) (grants n) ⌝ }
 {
     if !soundness::sound(classes::ROW, arena.len(), room, t) {
         return refused(Refusal::Unsound, t);
@@ -113,10 +110,8 @@ pub fn grant_aligned(
     n: usize,
     align: usize,
 ) -> Answered
-    ensures { λ r. ⌜ replyAnswer (r .reply) ≡ call rowBytes (now (arena .entry)) (keptIn (now (room .entry)) t) (grantsAligned n align) .answer ⌝ }
-    ensures { λ r. ⌜ now (arena .exit) ≡ call rowBytes (now (arena .entry)) (keptIn (now (room .entry)) t) (grantsAligned n align) .arena ⌝ }
-    ensures { λ r. ⌜ now (room .exit) ≡ call rowBytes (now (arena .entry)) (keptIn (now (room .entry)) t) (grantsAligned n align) .room .tables ⌝ }
-    ensures { λ r. ⌜ r .totals ≡ call rowBytes (now (arena .entry)) (keptIn (now (room .entry)) t) (grantsAligned n align) .room .totals ⌝ }
+    ensures { λ r. ⌜ left (replyAnswer (r .reply)) (now (arena .exit)) (keptIn (now (room .exit)) (r .totals))
+        ≡ call rowBytes (now (arena .entry)) (keptIn (now (room .entry)) t) (grantsAligned n align) ⌝ }
 {
     if !soundness::sound(classes::ROW, arena.len(), room, t) {
         return refused(Refusal::Unsound, t);
@@ -130,10 +125,8 @@ pub fn grant_aligned(
 
 // Release: the slot waits and its bytes become zero, or the group goes with its last live slot.
 pub fn release(arena: &mut [u8], room: &mut [u8], t: Totals, handle: usize) -> Answered
-    ensures { λ r. ⌜ replyAnswer (r .reply) ≡ call rowBytes (now (arena .entry)) (keptIn (now (room .entry)) t) (releases handle) .answer ⌝ }
-    ensures { λ r. ⌜ now (arena .exit) ≡ call rowBytes (now (arena .entry)) (keptIn (now (room .entry)) t) (releases handle) .arena ⌝ }
-    ensures { λ r. ⌜ now (room .exit) ≡ call rowBytes (now (arena .entry)) (keptIn (now (room .entry)) t) (releases handle) .room .tables ⌝ }
-    ensures { λ r. ⌜ r .totals ≡ call rowBytes (now (arena .entry)) (keptIn (now (room .entry)) t) (releases handle) .room .totals ⌝ }
+    ensures { λ r. ⌜ left (replyAnswer (r .reply)) (now (arena .exit)) (keptIn (now (room .exit)) (r .totals))
+        ≡ call rowBytes (now (arena .entry)) (keptIn (now (room .entry)) t) (releases handle) ⌝ }
 {
     if !soundness::sound(classes::ROW, arena.len(), room, t) {
         return refused(Refusal::Unsound, t);
@@ -152,10 +145,8 @@ pub fn release(arena: &mut [u8], room: &mut [u8], t: Totals, handle: usize) -> A
 
 // Resize: in place where the block's slot serves the new size, or else by a move.
 pub fn resize(arena: &mut [u8], room: &mut [u8], t: Totals, handle: usize, n: usize) -> Answered
-    ensures { λ r. ⌜ replyAnswer (r .reply) ≡ call rowBytes (now (arena .entry)) (keptIn (now (room .entry)) t) (resizes handle n) .answer ⌝ }
-    ensures { λ r. ⌜ now (arena .exit) ≡ call rowBytes (now (arena .entry)) (keptIn (now (room .entry)) t) (resizes handle n) .arena ⌝ }
-    ensures { λ r. ⌜ now (room .exit) ≡ call rowBytes (now (arena .entry)) (keptIn (now (room .entry)) t) (resizes handle n) .room .tables ⌝ }
-    ensures { λ r. ⌜ r .totals ≡ call rowBytes (now (arena .entry)) (keptIn (now (room .entry)) t) (resizes handle n) .room .totals ⌝ }
+    ensures { λ r. ⌜ left (replyAnswer (r .reply)) (now (arena .exit)) (keptIn (now (room .exit)) (r .totals))
+        ≡ call rowBytes (now (arena .entry)) (keptIn (now (room .entry)) t) (resizes handle n) ⌝ }
 {
     let len = arena.len();
     if !soundness::sound(classes::ROW, len, room, t) {
@@ -204,10 +195,7 @@ pub fn check_list(total: usize, cap: usize, sizes: &[usize]) -> bool
 
 // Plan list: a proposal, which the check accepts, to the front of a lent array; the value is the number of its sizes.
 pub fn plan_list(total: usize, cap: usize, sizes: &mut [usize; 17]) -> Reply
-    ensures { λ r. ⌜ replyAnswer r .number ≡ planned «total» cap .number ⌝ }
-    ensures { λ r. ⌜ replyAnswer r .values ≡ planned «total» cap .values ⌝ }
-    ensures { λ r. ⌜ now (sizes .exit) ≡ put 0 (planned «total» cap .lent) (now (sizes .entry)) ⌝ }
-    ensures { λ r. ⌜ (replyAnswer r .number ≡ 0 → accepts «total» cap (planned «total» cap .lent) ≡ true) ⌝ }
+    ensures { λ r. ⌜ Planned «total» cap (replyAnswer r) (now (sizes .entry)) (now (sizes .exit)) ⌝ }
 {
     if !proposals::plannable(total, cap) {
         return Reply::Refused(Refusal::TooLong);
@@ -227,18 +215,9 @@ pub fn grant_list(
     sizes: &[usize],
     handles: &mut [usize],
 ) -> Answered
-    ensures { λ r. ⌜ replyAnswer (r .reply) .number ≡ call rowBytes (now (arena .entry)) (keptIn (now (room .entry)) t)
-        (grantsList «total» cap (length (now (handles .entry))) (now (sizes .entry))) .answer .number ⌝ }
-    ensures { λ r. ⌜ replyAnswer (r .reply) .values ≡ call rowBytes (now (arena .entry)) (keptIn (now (room .entry)) t)
-        (grantsList «total» cap (length (now (handles .entry))) (now (sizes .entry))) .answer .values ⌝ }
-    ensures { λ r. ⌜ now (handles .exit) ≡ put 0 (call rowBytes (now (arena .entry)) (keptIn (now (room .entry)) t)
-        (grantsList «total» cap (length (now (handles .entry))) (now (sizes .entry))) .answer .lent) (now (handles .entry)) ⌝ }
-    ensures { λ r. ⌜ now (arena .exit) ≡ call rowBytes (now (arena .entry)) (keptIn (now (room .entry)) t)
-        (grantsList «total» cap (length (now (handles .entry))) (now (sizes .entry))) .arena ⌝ }
-    ensures { λ r. ⌜ now (room .exit) ≡ call rowBytes (now (arena .entry)) (keptIn (now (room .entry)) t)
-        (grantsList «total» cap (length (now (handles .entry))) (now (sizes .entry))) .room .tables ⌝ }
-    ensures { λ r. ⌜ r .totals ≡ call rowBytes (now (arena .entry)) (keptIn (now (room .entry)) t)
-        (grantsList «total» cap (length (now (handles .entry))) (now (sizes .entry))) .room .totals ⌝ }
+    ensures { λ r. ⌜ Listed (call rowBytes (now (arena .entry)) (keptIn (now (room .entry)) t)
+        (grantsList «total» cap (length (now (handles .entry))) (now (sizes .entry))))
+        (replyAnswer (r .reply)) (now (handles .entry)) (now (handles .exit)) (now (arena .exit)) (keptIn (now (room .exit)) (r .totals)) ⌝ }
 {
     let len = arena.len();
     if !soundness::sound(classes::ROW, len, room, t) {

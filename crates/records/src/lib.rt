@@ -7,7 +7,7 @@ ghost use Rattle.mem.specs.Bytes.{low, put};
 ghost use Rattle.classes.specs.Classes.{Lawful, slotsOf, rowsOf};
 ghost use Rattle.model.specs.declared.Slot.{Slot};
 ghost use Rattle.model.specs.State.{group};
-ghost use Rattle.model.specs.Tables.{rowAt, rowRecordBytes, mostSlots, slotRecord, spanRecords};
+ghost use Rattle.model.specs.Tables.{rowAt, rowRecordBytes, mostSlots, slotRecord, spanRecords, mostRows};
 ghost use Rattle.records.specs.Records.{masksIn, slotIn, stored};
 use masks::Masks;
 use model::Alloc;
@@ -16,7 +16,7 @@ use model::Slot;
 
 // The masks of the group whose first row it is.
 pub fn masks_at(room: &[u8], i: usize) -> Masks
-    requires { ⌜ (i < 512) × (rowAt i + rowRecordBytes ≤ length (now room)) ⌝ }
+    requires { ⌜ (i < mostRows) × (rowAt i + rowRecordBytes ≤ length (now room)) ⌝ }
     ensures { λ r. ⌜ r ≡ masksIn (drop (rowAt i) (now (room .entry))) ⌝ }
 {
     let at = rows::row_at(i);
@@ -28,13 +28,13 @@ pub fn masks_at(room: &[u8], i: usize) -> Masks
 
 // Slot j of the group whose first row it is, with the group's masks.
 pub fn slot_at(room: &[u8], i: usize, m: Masks, j: u32) -> Slot
-    requires { ⌜ (i < 512) × (rowAt i + rowRecordBytes ≤ length (now room)) ⌝ }
+    requires { ⌜ (i < mostRows) × (rowAt i + rowRecordBytes ≤ length (now room)) ⌝ }
     requires { ⌜ j < mostSlots ⌝ }
     ensures { λ r. ⌜ r ≡ slotIn m j (drop (rowAt i) (now (room .entry))) ⌝ }
 {
     let at = rows::row_at(i) + model::SLOTS + model::SLOT_RECORD * (j as usize);
     if (m.ready >> j) % 2 == 1 {
-        if room[at] == 0 {
+        if room[at + model::KIND] == 0 {
             return Slot::Fresh;
         }
         return Slot::Idle {
@@ -54,7 +54,7 @@ pub fn slot_at(room: &[u8], i: usize, m: Masks, j: u32) -> Slot
         count: room[at + model::COUNT],
         disp: mem::get2(room, at + model::DISP),
         size: mem::get3(room, at + model::SIZE),
-        align: room[at],
+        align: room[at + model::KIND],
     })
 }
 
@@ -111,7 +111,7 @@ fn mask_bytes(m: Masks) -> [u8; 8]
 
 // Writes a group's masks and the record of one of its slots: all that a grant, a release or a resize changes of a group that stays.
 pub fn store(room: &mut [u8], i: usize, m: Masks, j: usize, x: Slot)
-    requires { ⌜ (i < 512) × (rowAt i + rowRecordBytes ≤ length (now room)) ⌝ }
+    requires { ⌜ (i < mostRows) × (rowAt i + rowRecordBytes ≤ length (now room)) ⌝ }
     requires { ⌜ j < mostSlots ⌝ }
     ensures { λ _. ⌜ now (room .exit) ≡ stored (rowAt i) m j x (now (room .entry)) ⌝ }
 {
@@ -124,7 +124,7 @@ pub fn store(room: &mut [u8], i: usize, m: Masks, j: usize, x: Slot)
 
 // Writes the records of a new group: its class, all slots ready and never granted, and the later rows.
 pub fn make_group(row: usize, room: &mut [u8], i: usize, c: usize)
-    requires { ⌜ (c < 48) × (i + rowsOf row c ≤ 512) ⌝ }
+    requires { ⌜ (c < 48) × (i + rowsOf row c ≤ mostRows) ⌝ }
     requires { ⌜ rowAt (i + rowsOf row c) ≤ length (now room) ⌝ }
     requires { ⌜ Lawful row ⌝ }
     ensures { λ _. ⌜ now (room .exit) ≡ put (rowAt i) (spanRecords row (group c (replicate (slotsOf c) Slot.Fresh))) (now (room .entry)) ⌝ }

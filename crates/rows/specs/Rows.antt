@@ -14,7 +14,7 @@ use Rattle.model.specs.declared.Slot.{Slot}
 use Rattle.model.specs.declared.Slot.the-variants.{Live}
 use Rattle.model.specs.State.{Pool, Place, group, isLive, count, disp, size, align, slotSound, wellFormed, useBits, poolOf, slotNumber, rows}
 use Rattle.model.specs.Plans.{Site, openFrom}
-use Rattle.model.specs.Tables.{Layout, LayoutLaws, rowAt, arenaRight, encodeBy, viewBy, soundBy}
+use Rattle.model.specs.Tables.{Layout, LayoutLaws, rowAt, arenaRight, encodeBy, viewBy, soundBy, mostRows}
 use Rattle.rows.specs.declared.Found.{Found}
 use Rattle.rows.specs.declared.Found.the-variants.{At, Nothing}
 use Rattle.rows.specs.declared.Run.{Run}
@@ -115,7 +115,7 @@ pub record Holds (L : Layout) (row : ℕ) (t : List ℕ) (b : Block) (p : Place)
   pub block : b ≡ blockOf row p
   pub live : T (isLive (p .state))
   pub formed : T (wellFormed (poolOf p))
-  pub few : rows row (poolOf p) ≤ 512
+  pub few : rows row (poolOf p) ≤ mostRows
 
 -- a room with a group of class c from row i on, in which a slot can be taken: one that can serve, or a new one
 pub record Offers (L : Layout) (row : ℕ) (t : List ℕ) (i c : ℕ) (g : Site) : Type 0 where
@@ -123,7 +123,7 @@ pub record Offers (L : Layout) (row : ℕ) (t : List ℕ) (i c : ℕ) (g : Site)
   pub pos : 0 < row
   pub bytes : t ≡ encodeBy L row (g .before ++ (group c (g .slots) ∷ g .after))
   pub first : i ≡ rows row (g .before)
-  pub few : i + rowsOf row c ≤ 512
+  pub few : i + rowsOf row c ≤ mostRows
   pub room : rowAt (i + rowsOf row c) ≤ length t
   pub class : c < 48
   pub before : T (wellFormed (g .before))

@@ -10,7 +10,7 @@ ghost use Rattle.mem.specs.Bytes.{zeros, put};
 ghost use Rattle.classes.specs.Classes.{Lawful};
 ghost use Rattle.model.specs.declared.Holder.the-variants.{First, Later};
 ghost use Rattle.model.specs.Plans.{runFrom};
-ghost use Rattle.model.specs.Tables.{rowAt, rowRecordBytes, rowRecord, holderBytes, laterRecords, viewHolder, Layout, viewBy};
+ghost use Rattle.model.specs.Tables.{rowAt, rowRecordBytes, rowRecord, holderBytes, laterRecords, viewHolder, Layout, viewBy, mostRows};
 ghost use Rattle.rows.specs.Checks.{roomRows, frameHeld, frameIn};
 ghost use Rattle.rows.specs.Counts.{allRows, PerRow, plus};
 ghost use Rattle.rows.specs.Rows.{Lent, arenaRows, classHeld, rowsHeld, nextRun, reaches, firstOf, siteFound};
@@ -68,7 +68,7 @@ pub enum Counted {
 pub fn plus(a: Totals, b: Totals) -> Totals
     requires { ⌜ PerRow a ⌝ }
     requires { ⌜ PerRow b ⌝ }
-    requires { ⌜ allRows a + allRows b ≤ 512 ⌝ }
+    requires { ⌜ allRows a + allRows b ≤ mostRows ⌝ }
     ensures { λ r. ⌜ r ≡ plus a b ⌝ }
 {
     Totals {
@@ -85,12 +85,12 @@ pub fn plus(a: Totals, b: Totals) -> Totals
 pub fn rows_in(row: usize, len: usize) -> usize
     requires { ⌜ Lawful row ⌝ }
     ensures { λ r. ⌜ r ≡ arenaRows row len ⌝ }
-    ensures small { λ r. ⌜ r ≤ 512 ⌝ }
+    ensures small { λ r. ⌜ r ≤ mostRows ⌝ }
 {
     if len < row {
         return 0;
     }
-    if 512 * row < len {
+    if model::MOST_ROWS * row < len {
         return 0;
     }
     if len % row != 0 {
@@ -101,7 +101,7 @@ pub fn rows_in(row: usize, len: usize) -> usize
 
 // Where the record of a row stands.
 pub fn row_at(i: usize) -> usize
-    requires { ⌜ i ≤ 512 ⌝ }
+    requires { ⌜ i ≤ mostRows ⌝ }
     ensures { λ r. ⌜ r ≡ rowAt i ⌝ }
 {
     model::HEAD + model::ROW_RECORD * i
@@ -111,7 +111,7 @@ pub fn row_at(i: usize) -> usize
 pub fn rows_under(row: usize, len: usize, room: &[u8]) -> usize
     requires { ⌜ Lawful row ⌝ }
     ensures { λ r. ⌜ r ≡ roomRows row len (now (room .entry)) ⌝ }
-    ensures small { λ r. ⌜ r ≤ 512 ⌝ }
+    ensures small { λ r. ⌜ r ≤ mostRows ⌝ }
 {
     let n = rows_in(row, len);
     if room.len() != row_at(n) {
@@ -128,7 +128,7 @@ pub fn rows_under(row: usize, len: usize, room: &[u8]) -> usize
 
 // Who holds a row.
 pub fn holder_at(room: &[u8], i: usize) -> Holder
-    requires { ⌜ (i < 512) × (rowAt i + rowRecordBytes ≤ length (now room)) ⌝ }
+    requires { ⌜ (i < mostRows) × (rowAt i + rowRecordBytes ≤ length (now room)) ⌝ }
     ensures { λ r. ⌜ r ≡ viewHolder (drop (rowAt i) (now (room .entry))) ⌝ }
 {
     let at = row_at(i);
@@ -170,7 +170,7 @@ pub fn first_of(i: usize, h: Holder) -> Found
 
 // A run of free rows, one span further: a free row makes it longer, a group begins it anew.
 fn next_run(row: usize, run: Run, h: Holder) -> Run
-    requires { ⌜ (classHeld h < 48) × (run .next < 512) ⌝ }
+    requires { ⌜ (classHeld h < 48) × (run .next < mostRows) ⌝ }
     requires { ⌜ Lawful row ⌝ }
     ensures { λ r. ⌜ r ≡ nextRun row run h ⌝ }
 {
@@ -222,7 +222,7 @@ pub fn find_run(row: usize, len: usize, room: &[u8], c: usize) -> Found
 
 // Whether a row is a later row of a group, k rows after its first.
 fn later_sound(room: &[u8], i: usize, k: usize) -> bool
-    requires { ⌜ (i < 512) × (rowAt i + rowRecordBytes ≤ length (now room)) ⌝ }
+    requires { ⌜ (i < mostRows) × (rowAt i + rowRecordBytes ≤ length (now room)) ⌝ }
     ensures { λ r. ⌜ r ≡ starts (drop (rowAt i) (now (room .entry))) (rowRecord (Later k) []) ⌝ }
 {
     let h = holder_at(room, i);
@@ -237,7 +237,7 @@ fn later_sound(room: &[u8], i: usize, k: usize) -> bool
 
 // Whether the m later rows of a group follow its first, which is row i.
 pub fn laters_sound(room: &[u8], i: usize, m: usize) -> bool
-    requires { ⌜ (i + m < 512) × (rowAt (i + m) + rowRecordBytes ≤ length (now room)) ⌝ }
+    requires { ⌜ (i + m < mostRows) × (rowAt (i + m) + rowRecordBytes ≤ length (now room)) ⌝ }
     ensures { λ r. ⌜ r ≡ starts (drop (rowAt (i + 1)) (now (room .entry))) (laterRecords m 1) ⌝ }
 {
     let mut k = 0;
@@ -252,7 +252,7 @@ pub fn laters_sound(room: &[u8], i: usize, m: usize) -> bool
 
 // A group of class c that begins at row i, where n rows are left.
 fn group_frame(row: usize, room: &[u8], i: usize, n: usize, c: usize) -> Frame
-    requires { ⌜ (0 < n) × (i + n ≤ 512) × (rowAt (i + n) ≤ length (now room)) ⌝ }
+    requires { ⌜ (0 < n) × (i + n ≤ mostRows) × (rowAt (i + n) ≤ length (now room)) ⌝ }
     requires { ⌜ Lawful row ⌝ }
     ensures { λ r. ⌜ r ≡ frameHeld row n (drop (rowAt i) (now (room .entry))) (First c) ⌝ }
 {
@@ -273,7 +273,7 @@ fn group_frame(row: usize, room: &[u8], i: usize, n: usize, c: usize) -> Frame
 
 // What begins at row i, where n rows are left.
 pub fn frame_at(row: usize, room: &[u8], i: usize, n: usize) -> Frame
-    requires { ⌜ (0 < n) × (i + n ≤ 512) × (rowAt (i + n) ≤ length (now room)) ⌝ }
+    requires { ⌜ (0 < n) × (i + n ≤ mostRows) × (rowAt (i + n) ≤ length (now room)) ⌝ }
     requires { ⌜ Lawful row ⌝ }
     ensures { λ r. ⌜ r ≡ frameIn row n (drop (rowAt i) (now (room .entry))) ⌝ }
 {
@@ -301,7 +301,7 @@ fn holder_bytes(h: Holder) -> [u8; 2]
 
 // Writes the record of a row that keeps no slots.
 pub fn write_row(room: &mut [u8], i: usize, h: Holder)
-    requires { ⌜ (i < 512) × (rowAt i + rowRecordBytes ≤ length (now room)) ⌝ }
+    requires { ⌜ (i < mostRows) × (rowAt i + rowRecordBytes ≤ length (now room)) ⌝ }
     ensures { λ _. ⌜ now (room .exit) ≡ put (rowAt i) (rowRecord h []) (now (room .entry)) ⌝ }
 {
     let at = row_at(i);
@@ -312,7 +312,7 @@ pub fn write_row(room: &mut [u8], i: usize, h: Holder)
 
 // Writes the records of the later rows of a group of n rows.
 pub fn write_later(room: &mut [u8], i: usize, n: usize)
-    requires { ⌜ (1 ≤ n) × (n ≤ 256) × (i + n ≤ 512) ⌝ }
+    requires { ⌜ (1 ≤ n) × (n ≤ 256) × (i + n ≤ mostRows) ⌝ }
     requires { ⌜ rowAt (i + n) ≤ length (now room) ⌝ }
     ensures { λ _. ⌜ now (room .exit) ≡ put (rowAt (i + 1)) (laterRecords (n - 1) 1) (now (room .entry)) ⌝ }
 {
@@ -325,7 +325,7 @@ pub fn write_later(room: &mut [u8], i: usize, n: usize)
 
 // Writes the records of n free rows.
 pub fn drop_rows(room: &mut [u8], i: usize, n: usize)
-    requires { ⌜ (i + n ≤ 512) × (rowAt (i + n) ≤ length (now room)) ⌝ }
+    requires { ⌜ (i + n ≤ mostRows) × (rowAt (i + n) ≤ length (now room)) ⌝ }
     ensures { λ _. ⌜ now (room .exit) ≡ put (rowAt i) (zeros (rowRecordBytes * n)) (now (room .entry)) ⌝ }
 {
     mem::clear(room, row_at(i), row_at(i + n));

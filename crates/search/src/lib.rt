@@ -5,7 +5,7 @@ ghost use mathlib.Core.List.{[]};
 ghost use Prim.Native.Nat.{_+_, _≤_, _<_};
 ghost use lib.ListN.{length, drop};
 ghost use Rattle.classes.specs.Classes.{Lawful};
-ghost use Rattle.model.specs.Tables.{rowAt, rowRecordBytes, byMasks, sound, view};
+ghost use Rattle.model.specs.Tables.{rowAt, rowRecordBytes, byMasks, sound, view, mostRows};
 ghost use Rattle.model.specs.Plans.{openFrom, lookup};
 ghost use Rattle.rows.specs.Rows.{siteFound, looked, NoneOpen};
 ghost use Rattle.records.specs.Records.{slotsHere};
@@ -18,7 +18,7 @@ use rows::Looked;
 
 // Whether the group whose first row it is has class c and a slot that is not live.
 fn opens_at(room: &[u8], i: usize, c: usize) -> bool
-    requires { ⌜ (i < 512) × (rowAt i + rowRecordBytes ≤ length (now room)) ⌝ }
+    requires { ⌜ (i < mostRows) × (rowAt i + rowRecordBytes ≤ length (now room)) ⌝ }
     ensures { λ r. ⌜ r ≡ opensIn c (drop (rowAt i) (now (room .entry))) ⌝ }
 {
     let h = rows::holder_at(room, i);
@@ -88,7 +88,7 @@ fn look_slot(first: usize, c: usize, i: usize, after: usize, x: Slot) -> Looked
 
 // What stands some bytes after the first byte of a group.
 fn look_group(room: &[u8], first: usize, c: usize, inside: usize) -> Looked
-    requires { ⌜ (first < 512) × (rowAt first + rowRecordBytes ≤ length (now room)) ⌝ }
+    requires { ⌜ (first < mostRows) × (rowAt first + rowRecordBytes ≤ length (now room)) ⌝ }
     requires { ⌜ c < 48 ⌝ }
     ensures { λ r. ⌜ r ≡ groupLooked first c inside (slotsHere (drop (rowAt first) (now (room .entry)))) ⌝ }
 {

@@ -12,6 +12,7 @@ use Rattle.classes.specs.Classes.{rowsOf}
 use Rattle.classes.specs.Alignments.{ordinary}
 use Rattle.model.specs.State.{Span, Pool, Place, free, group, isLive, wellFormed, poolOf, rows}
 use Rattle.model.specs.Plans.{reserve}
+use Rattle.model.specs.Tables.{mostRows}
 use Rattle.rows.specs.declared.Found.{Found}
 use Rattle.rows.specs.declared.Found.the-variants.{At, Nothing}
 
@@ -44,7 +45,7 @@ module _ (row : ℕ) where
   -- counts and a map tell what a pool has
   pub record Tells (P : Pool) (spare map : List ℕ) : Type 0 where
     pub formed : T (wellFormed P)
-    pub few : rows row P ≤ 512
+    pub few : rows row P ≤ mostRows
     pub classes : length spare ≡ 48
     pub counts : (c : ℕ) → c < 48 → getD spare c 0 ≡ openSlots c P
     pub rows-free : map ≡ mapOf P

@@ -208,7 +208,7 @@ fn slots_alike(
     if i == n {
         return false;
     }
-    let code = s[at + model::SLOT_RECORD * i];
+    let code = s[at + model::SLOT_RECORD * i + model::KIND];
     if code < 2 {
         return false;
     }

@@ -3,9 +3,9 @@
 --     allocs-all, frees-all    all locals at once. The cell of local i stands at place i, and after the cells stands what frees them
 --     turns n          the first n entries go behind all others
 --     takes, calls-by  a local is passed on; a call takes tokens and parameters from the front, and puts there its clauses, its result, tokens, last values
---     hears            the clauses of a contract, as a list of facts
+--     hears            the clause of a contract, as a fact
 --     leaving          at exit: the tokens, the last values, the result, and the clauses
---     walk-all         a walk from `entering` to `leaving` meets the contract
+--     Walk, walk-met   a walk from where the locals are allocated to `leaving`; it meets the contract
 -- Of each parameter a walk has at exit what its type says of the last value, and nothing where it says nothing: that is what the callee gave.
 -- Assumes nothing.
 use mathlib.Core.Path.{_≡_}
@@ -17,12 +17,15 @@ use mir.Syntax.{Name, Ty, Place, Opd as Operand, Body, Fn, Local, local, seq, ca
 use mir.Val.{Val}
 use base.Logic.{SProp, ent, sep, wand, emp, id⊢, via, comm∗, assoc′, mono∗, monoL, monoR, fst∗, snd∗, emp∗, wandI, allI}
 use base.Fml.{fat, froom, fdies, flft}
-use prog.Wp.{Heap, Env, Calls, Loops, Tables, WpFn, alloc, release, spotOf}
+use prog.Wp.{Heap, Env, Calls, Loops, WpFn, Closed, alloc, release, spotOf}
+use prog.Model.{Model}
+use prog.Routine.{Env as Names}
 use ghost.Atoms.{Atoms, sem}
 use contract.Monad.{fact, factI, fact-use}
-use types.Kit.{Given, Item, Goal, Post, ‵, raw, _⊛_, some, later, mean, nth, ⋆, push, pop, ++⊢, ⊢++, prop, runs, lands, allocs, frees, aim, Seq, Step}
-use types.Kit.{step, _$_, _∵_, !, qed, by, move, split, use1, use2, await, pick, frame, done, join}
-use types.Run.{Opds, look, stop, from, load, and-then}
+use contract.Running.{GhostRules, Running, tables, tablesOf, givenOf}
+use types.Kit.{Given, Item, Goal, Post, ‵, raw, _⊛_, some, later, mean, nth, ⋆, push, pop, ++⊢, ⊢++, prop, runs, lands, allocs, frees, params′, atRet, aim, Seq, Step}
+use types.Kit.{Go, step, _$_, _∵_, !, qed, by, move, split, use1, use2, await, pick, frame, done, join}
+use types.Run.{Opds, look, stop, from, load, and-then, enter}
 use sound.WpLaws.{FmC, WpFn-mono}
 use contract.Lifetimes.{Lfts, Shares, toks, AllOutlive}
 use denote.RattleType.{RattleType, Denots, Valss, owns, flat}
@@ -31,10 +34,11 @@ use denote.Exit.{Kept, left}
 use denote.Signature.{Slot, Signature, typeAt, typesAt}
 use denote.Triple.Entry.{Args, Vals, Res, alive, onEntry}
 use denote.Triple.End.{Kepts, Fins, lastsOf}
-use denote.Triple.Spec.{Meets, tripleOf}
+use denote.Triple.Spec.{tripleOf}
 use denote.Triple.Statement.{Contract, Triple}
 use denote.Triple.Clauses.{Ended, Clauses, Lasts, atExit, lasts, closing}
 use denote.Triple.Call.{calls-at}
+use denote.Triple.Table.{entered}
 use denote.Triple.Walked.{Stay, Stays, fitsOf, hasOf, onExit, AllGo, walkOf, Ending, ends-at, walked, walk-meets}
 
 -- ---- what is had of each parameter at exit: what its type says of its last value, as the callee that it was passed on to said it
@@ -54,38 +58,6 @@ module _ {n : ℕ} where
     pub all-go : (ss : List (Slot n)) (ks : Kepts ss) → AllGo 𝓤 H A W n ss ks (all-passed ss ks)
     all-go [] ks = tt
     all-go (s ∷ ss) ks = (λ κs x f vs ok. W .laws .⇛-intro _, all-go ss (ks .1))
-
--- ---- facts
-abbrev pub both : List (Type 0) → Type 0
-both [] = Unit {0}
-both (φ ∷ φs) = φ × both φs
-
-module _ {M : Type 1} (𝓤 : URA M) where
-  abbrev more-facts : Type 0 → List (Type 0) → SProp 𝓤
-  more-facts φ [] = fact 𝓤 φ
-  more-facts φ (ψ ∷ φs) = sep 𝓤 (fact 𝓤 φ) (more-facts ψ φs)
-
-  abbrev pub facts : List (Type 0) → SProp 𝓤
-  facts [] = emp 𝓤
-  facts (φ ∷ φs) = more-facts φ φs
-
-  say : (φ : Type 0) (φs : List (Type 0)) → φ × both φs → ent 𝓤 (emp 𝓤) (more-facts φ φs)
-  say φ [] xs = factI 𝓤 φ (emp 𝓤) (xs .0)
-  say φ (ψ ∷ φs) xs = via 𝓤 (sep 𝓤 (emp 𝓤) (emp 𝓤)) (emp∗ 𝓤 (emp 𝓤)) (mono∗ 𝓤 (factI 𝓤 φ (emp 𝓤) (xs .0)) (say ψ φs (xs .1)))
-
-  pub say-all : (φs : List (Type 0)) → both φs → ent 𝓤 (emp 𝓤) (facts φs)
-  say-all [] xs = id⊢ 𝓤 (emp 𝓤)
-  say-all (φ ∷ φs) xs = say φ φs xs
-
-  hear : (φ : Type 0) (φs : List (Type 0)) → ent 𝓤 (more-facts φ φs) (fact 𝓤 (φ × both φs))
-  hear φ [] = fact-use 𝓤 φ (id⊢ 𝓤 (fact 𝓤 φ)) (λ x. factI 𝓤 (φ × Unit {0}) (fact 𝓤 φ) (x, tt))
-  hear φ (ψ ∷ φs) = fact-use 𝓤 φ (fst∗ 𝓤 (fact 𝓤 φ) (more-facts ψ φs))
-      (λ x. fact-use 𝓤 (ψ × both φs) (via 𝓤 (more-facts ψ φs) (snd∗ 𝓤 (fact 𝓤 φ) (more-facts ψ φs)) (hear ψ φs))
-      (λ xs. factI 𝓤 (φ × (ψ × both φs)) (sep 𝓤 (fact 𝓤 φ) (more-facts ψ φs)) (x, xs)))
-
-  hear-all : (φs : List (Type 0)) → ent 𝓤 (facts φs) (fact 𝓤 (both φs))
-  hear-all [] = factI 𝓤 (Unit {0}) (emp 𝓤) tt
-  hear-all (φ ∷ φs) = hear φ φs
 
 -- ---- lists of items, nested to the right with `emp` at the end, as tokens, parameters and last values stand in a contract
 module _ {M : Type 1} (𝓤 : URA M) (H : Heap 𝓤) (A : Atoms 𝓤) where
@@ -240,12 +212,11 @@ module _ {M : Type 1} {𝓤 : URA M} {H : Heap 𝓤} {A : Atoms 𝓤} {K : Type 
   turns t n = step (λ s. by-ent (turn-from 𝓤 H A n Γ) s)
 
 module _ {M : Type 1} {𝓤 : URA M} {H : Heap 𝓤} {A : Atoms 𝓤} {K : Type 0} (W : Given 𝓤 H A) {Γ : List (Item 𝓤)} {G : Goal 𝓤 H} where
-  -- the clauses of several `ensures` are heard
-  pub hears : (φs : List (Type 0)) → (both φs → Seq K W Γ G) → Seq K W (raw (facts 𝓤 φs) ∷ Γ) G
-  hears φs k = record {
-    prf = fact-use 𝓤 (both φs) (via 𝓤 (sep 𝓤 (facts 𝓤 φs) (⋆ 𝓤 H A Γ)) (pop 𝓤 H A (raw (facts 𝓤 φs)) Γ)
-        (via 𝓤 (facts 𝓤 φs) (fst∗ 𝓤 (facts 𝓤 φs) (⋆ 𝓤 H A Γ)) (hear-all 𝓤 φs)))
-        (λ xs. via 𝓤 (sep 𝓤 (facts 𝓤 φs) (⋆ 𝓤 H A Γ)) (pop 𝓤 H A (raw (facts 𝓤 φs)) Γ) (via 𝓤 (⋆ 𝓤 H A Γ) (snd∗ 𝓤 (facts 𝓤 φs) (⋆ 𝓤 H A Γ)) (k xs .prf)));
+  -- the clause of an `ensures` is heard
+  pub hears : (φ : Type 0) → (φ → Seq K W Γ G) → Seq K W (raw (fact 𝓤 φ) ∷ Γ) G
+  hears φ k = record {
+    prf = fact-use 𝓤 φ (via 𝓤 (sep 𝓤 (fact 𝓤 φ) (⋆ 𝓤 H A Γ)) (pop 𝓤 H A (raw (fact 𝓤 φ)) Γ) (fst∗ 𝓤 (fact 𝓤 φ) (⋆ 𝓤 H A Γ)))
+        (λ x. via 𝓤 (sep 𝓤 (fact 𝓤 φ) (⋆ 𝓤 H A Γ)) (pop 𝓤 H A (raw (fact 𝓤 φ)) Γ) (via 𝓤 (⋆ 𝓤 H A Γ) (snd∗ 𝓤 (fact 𝓤 φ) (⋆ 𝓤 H A Γ)) (k x .prf)));
   }
 
 -- ---- entry: the parameters, then the tokens
@@ -354,12 +325,12 @@ module _ {M : Type 1} (𝓤 : URA M) (H : Heap 𝓤) (A : Atoms 𝓤) (T : Ended
   Walked = walkOf 𝓤 H A T (all-passed (T .signature .params) (T .kept)) c
 
 module _ {M : Type 1} {𝓤 : URA M} {H : Heap 𝓤} {A : Atoms 𝓤} {K : Type 0} (W : Given 𝓤 H A) (T : Ended) (c : Clauses 𝓤 T) (y : Walked 𝓤 H A T c .Ghost) where
-  pub leaving : (v : Val) (r : Res (T .signature) (y .0 .0)) (ws : Lasts T (y .0 .0) (y .0 .3)) (φs : List (Type 0)) → both φs
-      → ent 𝓤 (facts 𝓤 φs) (c (y .0 .0) (y .0 .3) .ensures (y .1) r (atExit T (y .0 .0) (y .0 .3) ws))
+  pub leaving : (v : Val) (r : Res (T .signature) (y .0 .0)) (ws : Lasts T (y .0 .0) (y .0 .3)) (φ : Type 0) → φ
+      → ent 𝓤 (fact 𝓤 φ) (c (y .0 .0) (y .0 .3) .ensures (y .1) r (atExit T (y .0 .0) (y .0 .3) ws))
       → Seq K W (tokens 𝓤 H A (T .signature .lifetimes) (y .0 .0) (y .0 .1)
       ++ (finals 𝓤 H A (y .0 .0) (T .signature .params) (T .kept) (y .0 .3) ws ++ (‵ (typeAt (T .signature .result) (y .0 .0) .own r (v ∷ [])) ∷ [])))
       (prop (Walked 𝓤 H A T c .post y v))
-  leaving v r ws φs xs h =
+  leaving v r ws φ x h =
       let hs : Stays (T .signature .params) (T .kept) = all-passed (T .signature .params) (T .kept) in
       let O : Item 𝓤 = ‵ (typeAt (T .signature .result) (y .0 .0) .own r (v ∷ [])) in
       let Δ₁ : List (Item 𝓤) = tokens 𝓤 H A (T .signature .lifetimes) (y .0 .0) (y .0 .1) in
@@ -371,24 +342,45 @@ module _ {M : Type 1} {𝓤 : URA M} {H : Heap 𝓤} {A : Atoms 𝓤} {K : Type 
         prf = via 𝓤 P (via 𝓤 (sep 𝓤 (⋆ 𝓤 H A Δ₁) (⋆ 𝓤 H A (Δ₂ ++ (O ∷ [])))) (⊢++ 𝓤 H A Δ₁ (Δ₂ ++ (O ∷ [])))
             (mono∗ 𝓤 (via 𝓤 (stars 𝓤 H A Δ₁) (to-stars 𝓤 H A Δ₁) (of-tokens 𝓤 H A (T .signature .lifetimes) (y .0 .0) (y .0 .1)))
             (via 𝓤 (sep 𝓤 (⋆ 𝓤 H A Δ₂) (mean 𝓤 H A O)) (⊢++ 𝓤 H A Δ₂ (O ∷ [])) (monoL 𝓤 (mean 𝓤 H A O) (via 𝓤 (stars 𝓤 H A Δ₂) (to-stars 𝓤 H A Δ₂) Δ₂-are)))))
-            (via 𝓤 (sep 𝓤 (emp 𝓤) P) (emp∗ 𝓤 P) (via 𝓤 (sep 𝓤 (facts 𝓤 φs) P) (monoL 𝓤 P (say-all 𝓤 φs xs))
-            (via 𝓤 (sep 𝓤 P (facts 𝓤 φs)) (comm∗ 𝓤 (facts 𝓤 φs) P)
+            (via 𝓤 (sep 𝓤 (emp 𝓤) P) (emp∗ 𝓤 P) (via 𝓤 (sep 𝓤 (fact 𝓤 φ) P) (monoL 𝓤 P (factI 𝓤 φ (emp 𝓤) x))
+            (via 𝓤 (sep 𝓤 P (fact 𝓤 φ)) (comm∗ 𝓤 (fact 𝓤 φ) P)
             (via 𝓤 (Ending 𝓤 H A T hs c y v r ws) (monoR 𝓤 P h)
             (ends-at 𝓤 H A T hs c W y v r ws (all-fit (y .0 .0) (T .signature .params) (T .kept) (y .0 .3) ws))))));
       }
 
--- a walk from its entry to its exit, at all lifetimes, shares and parameters, meets the contract
-module _ {M : Type 1} (𝓤 : URA M) (H : Heap 𝓤) (A : Atoms 𝓤) (W : Given 𝓤 H A) (T : Ended) (c : Clauses 𝓤 T) (fn : Fn) (𝓣 : Tables 𝓤 H) where
-  pub walk-all : (sp : (κs : Lfts (T .signature .lifetimes)) → Spells (typesAt (T .signature .params) κs))
-      → ((κs : Lfts (T .signature .lifetimes)) → Tellss (typesAt (T .signature .params) κs) (Ises (typesAt (T .signature .params) κs)) (sp κs))
-      → ((κs : Lfts (T .signature .lifetimes)) (qs : Shares (T .signature .lifetimes))
-      (bounds : AllOutlive (T .signature .lifetimes) (T .signature .outlives) κs)
-      (a : Args (T .signature) κs) (g : c κs a .ghost) → let vss : Vals (T .signature) κs = valss (typesAt (T .signature .params) κs) (sp κs) a in
-      Are (typesAt (T .signature .params) κs) (Ises (typesAt (T .signature .params) κs)) a vss
-      → ent 𝓤 (onEntry 𝓤 H A (T .signature) κs qs a vss)
-      (WpFn 𝓤 H (𝓣 .C) (𝓣 .Λ) fn (flat (typesAt (T .signature .params) κs) vss) (Walked 𝓤 H A T c .post ((κs, qs, bounds, a, vss), g))))
-      → Meets 𝓤 H A (T .signature) (WpFn 𝓤 H (𝓣 .C) (𝓣 .Λ) fn) (closing 𝓤 H A T c)
-  walk-all sp tl k =
+-- ---- a walk from its entry to its exit, at all lifetimes, shares and parameters, meets the contract
+module _ {M : Type 1} {𝓤 : URA M} {H : Heap 𝓤} {A : Atoms 𝓤} (W : Given 𝓤 H A) (C : Calls 𝓤 H) (Λ : Loops 𝓤 H) (T : Ended) (c : Clauses 𝓤 T) (fn : Fn)
+    (sp : (κs : Lfts (T .signature .lifetimes)) → Spells (typesAt (T .signature .params) κs)) where
+  -- the machine values of the parameters
+  abbrev pub values : (κs : Lfts (T .signature .lifetimes)) → Args (T .signature) κs → Vals (T .signature) κs
+  values κs a = valss (typesAt (T .signature .params) κs) (sp κs) a
+
+  -- what a walk goes through: all locals are allocated, and the parameters not yet stored
+  abbrev pub Walk : Type 1
+  Walk = (κs : Lfts (T .signature .lifetimes)) (qs : Shares (T .signature .lifetimes)) (bounds : AllOutlive (T .signature .lifetimes) (T .signature .outlives) κs)
+      (a : Args (T .signature) κs) (g : c κs a .ghost) → Are (typesAt (T .signature .params) κs) (Ises (typesAt (T .signature .params) κs)) a (values κs a)
+      → (bs : Blocks (fn .locals)) → Seq (Go {0}) W (rooms 𝓤 H A (fn .locals) bs ++ (raw (deaths 𝓤 H A (env 𝓤 H A (fn .locals) bs))
+      ∷ (params 𝓤 H A (typesAt (T .signature .params) κs) a (values κs a) ++ tokens 𝓤 H A (T .signature .lifetimes) κs qs)))
+      (params′ (env 𝓤 H A (fn .locals) bs) (flat (typesAt (T .signature .params) κs) (values κs a))
+      (runs C Λ (env 𝓤 H A (fn .locals) bs) (fn .body) (atRet (env 𝓤 H A (fn .locals) bs) (Walked 𝓤 H A T c .post ((κs, qs, bounds, a, values κs a), g)))))
+
+module _ {M : Type 1} (𝓤 : URA M) (H : Heap 𝓤) (𝓜 : Model 𝓤 H) (𝓖 : GhostRules 𝓤 H) (𝓡 : Running 𝓤 H 𝓜) (T : Ended) (c : Clauses 𝓤 T) (fn : Fn)
+    (sp : (κs : Lfts (T .signature .lifetimes)) → Spells (typesAt (T .signature .params) κs)) (γ : Names) (k : Name) where
+  pub walk-met : ((κs : Lfts (T .signature .lifetimes)) → Tellss (typesAt (T .signature .params) κs) (Ises (typesAt (T .signature .params) κs)) (sp κs))
+      → Closed 𝓤 H (tables 𝓤 H 𝓜 𝓡 γ .C) (tables 𝓤 H 𝓜 𝓡 γ .Λ) k fn
+      → Walk (givenOf 𝓤 H 𝓜 𝓖) (tables 𝓤 H 𝓜 𝓡 γ .C) (tables 𝓤 H 𝓜 𝓡 γ .Λ) T c fn sp
+      → Triple 𝓤 (tables 𝓤 H 𝓜 𝓡 γ .C k) (tripleOf 𝓤 H (𝓖 .A) (T .signature) (closing 𝓤 H (𝓖 .A) T c))
+  unfolding tablesOf
+  walk-met tl closed w =
+      let A : Atoms 𝓤 = 𝓖 .A in
+      let W : Given 𝓤 H A = givenOf 𝓤 H 𝓜 𝓖 in
+      let C : Calls 𝓤 H = tables 𝓤 H 𝓜 𝓡 γ .C in
+      let Λ : Loops 𝓤 H = tables 𝓤 H 𝓜 𝓡 γ .Λ in
       let hs : Stays (T .signature .params) (T .kept) = all-passed (T .signature .params) (T .kept) in
-      walk-meets 𝓤 H A T hs W (all-go 𝓤 H A W (T .signature .params) (T .kept)) c (WpFn 𝓤 H (𝓣 .C) (𝓣 .Λ) fn) (WpFn-mono 𝓤 H (W .laws) 𝓣 fn)
-      (walked 𝓤 H A T hs c (WpFn 𝓤 H (𝓣 .C) (𝓣 .Λ) fn) sp tl (λ κs qs bounds a g are. via 𝓤 _ (fst∗ 𝓤 _ (c κs a .requires g)) (k κs qs bounds a g are)))
+      entered 𝓤 H (tripleOf 𝓤 H A (T .signature) (closing 𝓤 H A T c)) C Λ k fn closed
+      (walk-meets 𝓤 H A T hs W (all-go 𝓤 H A W (T .signature .params) (T .kept)) c (WpFn 𝓤 H C Λ fn)
+      (WpFn-mono 𝓤 H (W .laws) (tablesOf 𝓤 H 𝓜 (tables 𝓤 H 𝓜 𝓡 γ)) fn)
+      (walked 𝓤 H A T hs c (WpFn 𝓤 H C Λ fn) sp tl (λ κs qs bounds a g are. via 𝓤 _ (fst∗ 𝓤 _ (c κs a .requires g))
+      (qed W (raw (onEntry 𝓤 H A (T .signature) κs qs a (values W C Λ T c fn sp κs a)) ∷ []) ∵
+      entering W (T .signature) κs qs a (values W C Λ T c fn sp κs a) $
+      enter ! C Λ fn (flat (typesAt (T .signature .params) κs) (values W C Λ T c fn sp κs a)) _ $ allocs-all ! (w κs qs bounds a g are)))))

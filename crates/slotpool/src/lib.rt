@@ -1,17 +1,19 @@
 // The C interface of the slot pool: include/slotpool.h. A slice is passed as a pointer and a length.
 //
 // Each call has two functions. One takes the totals by value and gives those after the call back; the exported one is lent the record: it reads
-// the totals, makes the call, and brings the record up to date.
+// the totals, makes the call, and brings the record up to date. Each promises one thing: what C sees of the model's call
+// (crates/answers/specs/Gives.antt).
 ghost use mathlib.Core.Path.{_≡_};
-ghost use mathlib.Core.Bool.{true};
-ghost use lib.ListN.{length, getD};
-ghost use Rattle.mem.specs.Bytes.{bit, put};
+ghost use lib.ListN.{length};
+ghost use Rattle.mem.specs.Bytes.{bit};
 ghost use Rattle.classes.specs.Classes.{rowBytes};
 ghost use Rattle.model.specs.Answers.{listed};
-ghost use Rattle.model.specs.Proposals.{accepts, planned};
+ghost use Rattle.model.specs.Proposals.{accepts};
 ghost use Rattle.model.specs.Plans.{setsUp, grants, grantsAligned, releases, resizes, measures, reports, grantsList};
 ghost use Rattle.model.specs.Tables.{roomFor};
 ghost use Rattle.model.specs.Calls.{keptIn, call};
+ghost use Rattle.answers.specs.Gives.{Leaves, Tells, Gives, Reports, Lists};
+ghost use Rattle.pool.specs.Planned.{PlannedFor};
 use model::Totals;
 
 // What a call tells: its number, and the totals after it.
@@ -28,10 +30,8 @@ pub extern "C" fn slotpool_room_len(arena_len: usize) -> usize
 }
 
 fn set_up_by(arena: &mut [u8], room: &mut [u8], t: Totals) -> Told
-    ensures { λ r. ⌜ r .number ≡ call rowBytes (now (arena .entry)) (keptIn (now (room .entry)) t) setsUp .answer .number ⌝ }
-    ensures { λ r. ⌜ now (arena .exit) ≡ call rowBytes (now (arena .entry)) (keptIn (now (room .entry)) t) setsUp .arena ⌝ }
-    ensures { λ r. ⌜ now (room .exit) ≡ call rowBytes (now (arena .entry)) (keptIn (now (room .entry)) t) setsUp .room .tables ⌝ }
-    ensures { λ r. ⌜ r .totals ≡ call rowBytes (now (arena .entry)) (keptIn (now (room .entry)) t) setsUp .room .totals ⌝ }
+    ensures { λ r. ⌜ Leaves (call rowBytes (now (arena .entry)) (keptIn (now (room .entry)) t) setsUp)
+        (r .number) (now (arena .exit)) (keptIn (now (room .exit)) (r .totals)) ⌝ }
 {
     let r = pool::set_up(arena, room, t);
     let reply = r.reply;
@@ -44,10 +44,8 @@ fn set_up_by(arena: &mut [u8], room: &mut [u8], t: Totals) -> Told
 
 #[no_mangle]
 pub extern "C" fn slotpool_set_up(arena: &mut [u8], room: &mut [u8], totals: &mut Totals) -> u32
-    ensures { λ r. ⌜ r ≡ call rowBytes (now (arena .entry)) (keptIn (now (room .entry)) (now (totals .entry))) setsUp .answer .number ⌝ }
-    ensures { λ r. ⌜ now (arena .exit) ≡ call rowBytes (now (arena .entry)) (keptIn (now (room .entry)) (now (totals .entry))) setsUp .arena ⌝ }
-    ensures { λ r. ⌜ now (room .exit) ≡ call rowBytes (now (arena .entry)) (keptIn (now (room .entry)) (now (totals .entry))) setsUp .room .tables ⌝ }
-    ensures { λ r. ⌜ now (totals .exit) ≡ call rowBytes (now (arena .entry)) (keptIn (now (room .entry)) (now (totals .entry))) setsUp .room .totals ⌝ }
+    ensures { λ r. ⌜ Leaves (call rowBytes (now (arena .entry)) (keptIn (now (room .entry)) (now (totals .entry))) setsUp)
+        r (now (arena .exit)) (keptIn (now (room .exit)) (now (totals .exit))) ⌝ }
 {
     let told = set_up_by(arena, room, *totals);
     totals::record(totals, told.totals);
@@ -55,11 +53,8 @@ pub extern "C" fn slotpool_set_up(arena: &mut [u8], room: &mut [u8], totals: &mu
 }
 
 fn grant_by(arena: &mut [u8], room: &mut [u8], t: Totals, n: usize, value: &mut usize) -> Told
-    ensures { λ r. ⌜ r .number ≡ call rowBytes (now (arena .entry)) (keptIn (now (room .entry)) t) (grants n) .answer .number ⌝ }
-    ensures { λ r. ⌜ now (value .exit) ≡ getD (call rowBytes (now (arena .entry)) (keptIn (now (room .entry)) t) (grants n) .answer .values) 0 0 ⌝ }
-    ensures { λ r. ⌜ now (arena .exit) ≡ call rowBytes (now (arena .entry)) (keptIn (now (room .entry)) t) (grants n) .arena ⌝ }
-    ensures { λ r. ⌜ now (room .exit) ≡ call rowBytes (now (arena .entry)) (keptIn (now (room .entry)) t) (grants n) .room .tables ⌝ }
-    ensures { λ r. ⌜ r .totals ≡ call rowBytes (now (arena .entry)) (keptIn (now (room .entry)) t) (grants n) .room .totals ⌝ }
+    ensures { λ r. ⌜ Gives (call rowBytes (now (arena .entry)) (keptIn (now (room .entry)) t) (grants n))
+        (r .number) (now (value .exit)) (now (arena .exit)) (keptIn (now (room .exit)) (r .totals)) ⌝ }
 {
     let r = pool::grant(arena, room, t, n);
     let reply = r.reply;
@@ -79,12 +74,8 @@ pub extern "C" fn slotpool_grant(
     n: usize,
     value: &mut usize,
 ) -> u32
-    ensures { λ r. ⌜ r ≡ call rowBytes (now (arena .entry)) (keptIn (now (room .entry)) (now (totals .entry))) (grants n) .answer .number ⌝ }
-    ensures { λ r. ⌜ now (value .exit) ≡ getD (call rowBytes (now (arena .entry)) (keptIn (now (room .entry)) (now (totals .entry)))
-        (grants n) .answer .values) 0 0 ⌝ }
-    ensures { λ r. ⌜ now (arena .exit) ≡ call rowBytes (now (arena .entry)) (keptIn (now (room .entry)) (now (totals .entry))) (grants n) .arena ⌝ }
-    ensures { λ r. ⌜ now (room .exit) ≡ call rowBytes (now (arena .entry)) (keptIn (now (room .entry)) (now (totals .entry))) (grants n) .room .tables ⌝ }
-    ensures { λ r. ⌜ now (totals .exit) ≡ call rowBytes (now (arena .entry)) (keptIn (now (room .entry)) (now (totals .entry))) (grants n) .room .totals ⌝ }
+    ensures { λ r. ⌜ Gives (call rowBytes (now (arena .entry)) (keptIn (now (room .entry)) (now (totals .entry))) (grants n))
+        r (now (value .exit)) (now (arena .exit)) (keptIn (now (room .exit)) (now (totals .exit))) ⌝ }
 {
     let told = grant_by(arena, room, *totals, n, value);
     totals::record(totals, told.totals);
@@ -99,12 +90,8 @@ fn grant_aligned_by(
     align: usize,
     value: &mut usize,
 ) -> Told
-    ensures { λ r. ⌜ r .number ≡ call rowBytes (now (arena .entry)) (keptIn (now (room .entry)) t) (grantsAligned n align) .answer .number ⌝ }
-    ensures { λ r. ⌜ now (value .exit) ≡ getD (call rowBytes (now (arena .entry)) (keptIn (now (room .entry)) t)
-        (grantsAligned n align) .answer .values) 0 0 ⌝ }
-    ensures { λ r. ⌜ now (arena .exit) ≡ call rowBytes (now (arena .entry)) (keptIn (now (room .entry)) t) (grantsAligned n align) .arena ⌝ }
-    ensures { λ r. ⌜ now (room .exit) ≡ call rowBytes (now (arena .entry)) (keptIn (now (room .entry)) t) (grantsAligned n align) .room .tables ⌝ }
-    ensures { λ r. ⌜ r .totals ≡ call rowBytes (now (arena .entry)) (keptIn (now (room .entry)) t) (grantsAligned n align) .room .totals ⌝ }
+    ensures { λ r. ⌜ Gives (call rowBytes (now (arena .entry)) (keptIn (now (room .entry)) t) (grantsAligned n align))
+        (r .number) (now (value .exit)) (now (arena .exit)) (keptIn (now (room .exit)) (r .totals)) ⌝ }
 {
     let r = pool::grant_aligned(arena, room, t, n, align);
     let reply = r.reply;
@@ -125,15 +112,8 @@ pub extern "C" fn slotpool_grant_aligned(
     align: usize,
     value: &mut usize,
 ) -> u32
-    ensures { λ r. ⌜ r ≡ call rowBytes (now (arena .entry)) (keptIn (now (room .entry)) (now (totals .entry))) (grantsAligned n align) .answer .number ⌝ }
-    ensures { λ r. ⌜ now (value .exit) ≡ getD (call rowBytes (now (arena .entry)) (keptIn (now (room .entry)) (now (totals .entry)))
-        (grantsAligned n align) .answer .values) 0 0 ⌝ }
-    ensures { λ r. ⌜ now (arena .exit) ≡ call rowBytes (now (arena .entry)) (keptIn (now (room .entry)) (now (totals .entry)))
-        (grantsAligned n align) .arena ⌝ }
-    ensures { λ r. ⌜ now (room .exit) ≡ call rowBytes (now (arena .entry)) (keptIn (now (room .entry)) (now (totals .entry)))
-        (grantsAligned n align) .room .tables ⌝ }
-    ensures { λ r. ⌜ now (totals .exit) ≡ call rowBytes (now (arena .entry)) (keptIn (now (room .entry)) (now (totals .entry)))
-        (grantsAligned n align) .room .totals ⌝ }
+    ensures { λ r. ⌜ Gives (call rowBytes (now (arena .entry)) (keptIn (now (room .entry)) (now (totals .entry))) (grantsAligned n align))
+        r (now (value .exit)) (now (arena .exit)) (keptIn (now (room .exit)) (now (totals .exit))) ⌝ }
 {
     let told = grant_aligned_by(arena, room, *totals, n, align, value);
     totals::record(totals, told.totals);
@@ -141,10 +121,8 @@ pub extern "C" fn slotpool_grant_aligned(
 }
 
 fn release_by(arena: &mut [u8], room: &mut [u8], t: Totals, handle: usize) -> Told
-    ensures { λ r. ⌜ r .number ≡ call rowBytes (now (arena .entry)) (keptIn (now (room .entry)) t) (releases handle) .answer .number ⌝ }
-    ensures { λ r. ⌜ now (arena .exit) ≡ call rowBytes (now (arena .entry)) (keptIn (now (room .entry)) t) (releases handle) .arena ⌝ }
-    ensures { λ r. ⌜ now (room .exit) ≡ call rowBytes (now (arena .entry)) (keptIn (now (room .entry)) t) (releases handle) .room .tables ⌝ }
-    ensures { λ r. ⌜ r .totals ≡ call rowBytes (now (arena .entry)) (keptIn (now (room .entry)) t) (releases handle) .room .totals ⌝ }
+    ensures { λ r. ⌜ Leaves (call rowBytes (now (arena .entry)) (keptIn (now (room .entry)) t) (releases handle))
+        (r .number) (now (arena .exit)) (keptIn (now (room .exit)) (r .totals)) ⌝ }
 {
     let r = pool::release(arena, room, t, handle);
     let reply = r.reply;
@@ -162,12 +140,8 @@ pub extern "C" fn slotpool_release(
     totals: &mut Totals,
     handle: usize,
 ) -> u32
-    ensures { λ r. ⌜ r ≡ call rowBytes (now (arena .entry)) (keptIn (now (room .entry)) (now (totals .entry))) (releases handle) .answer .number ⌝ }
-    ensures { λ r. ⌜ now (arena .exit) ≡ call rowBytes (now (arena .entry)) (keptIn (now (room .entry)) (now (totals .entry))) (releases handle) .arena ⌝ }
-    ensures { λ r. ⌜ now (room .exit) ≡ call rowBytes (now (arena .entry)) (keptIn (now (room .entry)) (now (totals .entry)))
-        (releases handle) .room .tables ⌝ }
-    ensures { λ r. ⌜ now (totals .exit) ≡ call rowBytes (now (arena .entry)) (keptIn (now (room .entry)) (now (totals .entry)))
-        (releases handle) .room .totals ⌝ }
+    ensures { λ r. ⌜ Leaves (call rowBytes (now (arena .entry)) (keptIn (now (room .entry)) (now (totals .entry))) (releases handle))
+        r (now (arena .exit)) (keptIn (now (room .exit)) (now (totals .exit))) ⌝ }
 {
     let told = release_by(arena, room, *totals, handle);
     totals::record(totals, told.totals);
@@ -182,11 +156,8 @@ fn resize_by(
     n: usize,
     value: &mut usize,
 ) -> Told
-    ensures { λ r. ⌜ r .number ≡ call rowBytes (now (arena .entry)) (keptIn (now (room .entry)) t) (resizes handle n) .answer .number ⌝ }
-    ensures { λ r. ⌜ now (value .exit) ≡ getD (call rowBytes (now (arena .entry)) (keptIn (now (room .entry)) t) (resizes handle n) .answer .values) 0 0 ⌝ }
-    ensures { λ r. ⌜ now (arena .exit) ≡ call rowBytes (now (arena .entry)) (keptIn (now (room .entry)) t) (resizes handle n) .arena ⌝ }
-    ensures { λ r. ⌜ now (room .exit) ≡ call rowBytes (now (arena .entry)) (keptIn (now (room .entry)) t) (resizes handle n) .room .tables ⌝ }
-    ensures { λ r. ⌜ r .totals ≡ call rowBytes (now (arena .entry)) (keptIn (now (room .entry)) t) (resizes handle n) .room .totals ⌝ }
+    ensures { λ r. ⌜ Gives (call rowBytes (now (arena .entry)) (keptIn (now (room .entry)) t) (resizes handle n))
+        (r .number) (now (value .exit)) (now (arena .exit)) (keptIn (now (room .exit)) (r .totals)) ⌝ }
 {
     let r = pool::resize(arena, room, t, handle, n);
     let reply = r.reply;
@@ -207,14 +178,8 @@ pub extern "C" fn slotpool_resize(
     n: usize,
     value: &mut usize,
 ) -> u32
-    ensures { λ r. ⌜ r ≡ call rowBytes (now (arena .entry)) (keptIn (now (room .entry)) (now (totals .entry))) (resizes handle n) .answer .number ⌝ }
-    ensures { λ r. ⌜ now (value .exit) ≡ getD (call rowBytes (now (arena .entry)) (keptIn (now (room .entry)) (now (totals .entry)))
-        (resizes handle n) .answer .values) 0 0 ⌝ }
-    ensures { λ r. ⌜ now (arena .exit) ≡ call rowBytes (now (arena .entry)) (keptIn (now (room .entry)) (now (totals .entry))) (resizes handle n) .arena ⌝ }
-    ensures { λ r. ⌜ now (room .exit) ≡ call rowBytes (now (arena .entry)) (keptIn (now (room .entry)) (now (totals .entry)))
-        (resizes handle n) .room .tables ⌝ }
-    ensures { λ r. ⌜ now (totals .exit) ≡ call rowBytes (now (arena .entry)) (keptIn (now (room .entry)) (now (totals .entry)))
-        (resizes handle n) .room .totals ⌝ }
+    ensures { λ r. ⌜ Gives (call rowBytes (now (arena .entry)) (keptIn (now (room .entry)) (now (totals .entry))) (resizes handle n))
+        r (now (value .exit)) (now (arena .exit)) (keptIn (now (room .exit)) (now (totals .exit))) ⌝ }
 {
     let told = resize_by(arena, room, *totals, handle, n, value);
     totals::record(totals, told.totals);
@@ -222,8 +187,8 @@ pub extern "C" fn slotpool_resize(
 }
 
 fn measure_by(arena: &[u8], room: &[u8], t: Totals, handle: usize, value: &mut usize) -> u32
-    ensures { λ r. ⌜ r ≡ call rowBytes (now (arena .entry)) (keptIn (now (room .entry)) t) (measures handle) .answer .number ⌝ }
-    ensures { λ r. ⌜ now (value .exit) ≡ getD (call rowBytes (now (arena .entry)) (keptIn (now (room .entry)) t) (measures handle) .answer .values) 0 0 ⌝ }
+    ensures { λ r. ⌜ Tells (call rowBytes (now (arena .entry)) (keptIn (now (room .entry)) t) (measures handle) .answer)
+        r (now (value .exit)) ⌝ }
 {
     let r = pool::measure(arena, room, t, handle);
     *value = answers::value_of(r);
@@ -238,16 +203,15 @@ pub extern "C" fn slotpool_measure(
     handle: usize,
     value: &mut usize,
 ) -> u32
-    ensures { λ r. ⌜ r ≡ call rowBytes (now (arena .entry)) (keptIn (now (room .entry)) (now (totals .entry))) (measures handle) .answer .number ⌝ }
-    ensures { λ r. ⌜ now (value .exit) ≡ getD (call rowBytes (now (arena .entry)) (keptIn (now (room .entry)) (now (totals .entry)))
-        (measures handle) .answer .values) 0 0 ⌝ }
+    ensures { λ r. ⌜ Tells (call rowBytes (now (arena .entry)) (keptIn (now (room .entry)) (now (totals .entry))) (measures handle) .answer)
+        r (now (value .exit)) ⌝ }
 {
     measure_by(arena, room, *totals, handle, value)
 }
 
 fn report_by(arena: &[u8], room: &[u8], t: Totals) -> Told
-    ensures { λ r. ⌜ r .number ≡ call rowBytes (now (arena .entry)) (keptIn (now (room .entry)) t) reports .answer .number ⌝ }
-    ensures { λ r. ⌜ listed (r .totals) ≡ call rowBytes (now (arena .entry)) (keptIn (now (room .entry)) t) reports .answer .values ⌝ }
+    ensures { λ r. ⌜ Reports (call rowBytes (now (arena .entry)) (keptIn (now (room .entry)) t) reports .answer) (r .number)
+        (listed (r .totals)) ⌝ }
 {
     let r = pool::report(arena, room, t);
     Told {
@@ -263,9 +227,8 @@ pub extern "C" fn slotpool_report(
     totals: &Totals,
     out: &mut Totals,
 ) -> u32
-    ensures { λ r. ⌜ r ≡ call rowBytes (now (arena .entry)) (keptIn (now (room .entry)) (now (totals .entry))) reports .answer .number ⌝ }
-    ensures { λ r. ⌜ listed (now (out .exit)) ≡ call rowBytes (now (arena .entry)) (keptIn (now (room .entry)) (now (totals .entry)))
-        reports .answer .values ⌝ }
+    ensures { λ r. ⌜ Reports (call rowBytes (now (arena .entry)) (keptIn (now (room .entry)) (now (totals .entry))) reports .answer) r
+        (listed (now (out .exit))) ⌝ }
 {
     let told = report_by(arena, room, *totals);
     totals::record(out, told.totals);
@@ -290,10 +253,7 @@ pub extern "C" fn slotpool_plan_list(
     sizes: &mut [usize; 17],
     value: &mut usize,
 ) -> u32
-    ensures { λ r. ⌜ r ≡ planned «total» cap .number ⌝ }
-    ensures { λ r. ⌜ now (value .exit) ≡ getD (planned «total» cap .values) 0 0 ⌝ }
-    ensures { λ r. ⌜ now (sizes .exit) ≡ put 0 (planned «total» cap .lent) (now (sizes .entry)) ⌝ }
-    ensures { λ r. ⌜ (r ≡ 0 → accepts «total» cap (planned «total» cap .lent) ≡ true) ⌝ }
+    ensures { λ r. ⌜ PlannedFor «total» cap r (now (value .exit)) (now (sizes .entry)) (now (sizes .exit)) ⌝ }
 {
     let r = pool::plan_list(total, cap, sizes);
     *value = answers::value_of(r);
@@ -310,18 +270,9 @@ fn grant_list_by(
     handles: &mut [usize],
     value: &mut usize,
 ) -> Told
-    ensures { λ r. ⌜ r .number ≡ call rowBytes (now (arena .entry)) (keptIn (now (room .entry)) t)
-        (grantsList «total» cap (length (now (handles .entry))) (now (sizes .entry))) .answer .number ⌝ }
-    ensures { λ r. ⌜ now (value .exit) ≡ getD (call rowBytes (now (arena .entry)) (keptIn (now (room .entry)) t)
-        (grantsList «total» cap (length (now (handles .entry))) (now (sizes .entry))) .answer .values) 0 0 ⌝ }
-    ensures { λ r. ⌜ now (handles .exit) ≡ put 0 (call rowBytes (now (arena .entry)) (keptIn (now (room .entry)) t)
-        (grantsList «total» cap (length (now (handles .entry))) (now (sizes .entry))) .answer .lent) (now (handles .entry)) ⌝ }
-    ensures { λ r. ⌜ now (arena .exit) ≡ call rowBytes (now (arena .entry)) (keptIn (now (room .entry)) t)
-        (grantsList «total» cap (length (now (handles .entry))) (now (sizes .entry))) .arena ⌝ }
-    ensures { λ r. ⌜ now (room .exit) ≡ call rowBytes (now (arena .entry)) (keptIn (now (room .entry)) t)
-        (grantsList «total» cap (length (now (handles .entry))) (now (sizes .entry))) .room .tables ⌝ }
-    ensures { λ r. ⌜ r .totals ≡ call rowBytes (now (arena .entry)) (keptIn (now (room .entry)) t)
-        (grantsList «total» cap (length (now (handles .entry))) (now (sizes .entry))) .room .totals ⌝ }
+    ensures { λ r. ⌜ Lists (call rowBytes (now (arena .entry)) (keptIn (now (room .entry)) t)
+        (grantsList «total» cap (length (now (handles .entry))) (now (sizes .entry))))
+        (r .number) (now (value .exit)) (now (handles .entry)) (now (handles .exit)) (now (arena .exit)) (keptIn (now (room .exit)) (r .totals)) ⌝ }
 {
     let r = pool::grant_list(arena, room, t, total, cap, sizes, handles);
     let reply = r.reply;
@@ -344,18 +295,9 @@ pub extern "C" fn slotpool_grant_list(
     handles: &mut [usize],
     value: &mut usize,
 ) -> u32
-    ensures { λ r. ⌜ r ≡ call rowBytes (now (arena .entry)) (keptIn (now (room .entry)) (now (totals .entry)))
-        (grantsList «total» cap (length (now (handles .entry))) (now (sizes .entry))) .answer .number ⌝ }
-    ensures { λ r. ⌜ now (value .exit) ≡ getD (call rowBytes (now (arena .entry)) (keptIn (now (room .entry)) (now (totals .entry)))
-        (grantsList «total» cap (length (now (handles .entry))) (now (sizes .entry))) .answer .values) 0 0 ⌝ }
-    ensures { λ r. ⌜ now (handles .exit) ≡ put 0 (call rowBytes (now (arena .entry)) (keptIn (now (room .entry)) (now (totals .entry)))
-        (grantsList «total» cap (length (now (handles .entry))) (now (sizes .entry))) .answer .lent) (now (handles .entry)) ⌝ }
-    ensures { λ r. ⌜ now (arena .exit) ≡ call rowBytes (now (arena .entry)) (keptIn (now (room .entry)) (now (totals .entry)))
-        (grantsList «total» cap (length (now (handles .entry))) (now (sizes .entry))) .arena ⌝ }
-    ensures { λ r. ⌜ now (room .exit) ≡ call rowBytes (now (arena .entry)) (keptIn (now (room .entry)) (now (totals .entry)))
-        (grantsList «total» cap (length (now (handles .entry))) (now (sizes .entry))) .room .tables ⌝ }
-    ensures { λ r. ⌜ now (totals .exit) ≡ call rowBytes (now (arena .entry)) (keptIn (now (room .entry)) (now (totals .entry)))
-        (grantsList «total» cap (length (now (handles .entry))) (now (sizes .entry))) .room .totals ⌝ }
+    ensures { λ r. ⌜ Lists (call rowBytes (now (arena .entry)) (keptIn (now (room .entry)) (now (totals .entry)))
+        (grantsList «total» cap (length (now (handles .entry))) (now (sizes .entry))))
+        r (now (value .exit)) (now (handles .entry)) (now (handles .exit)) (now (arena .exit)) (keptIn (now (room .exit)) (now (totals .exit))) ⌝ }
 {
     let told = grant_list_by(arena, room, *totals, total, cap, sizes, handles, value);
     totals::record(totals, told.totals);

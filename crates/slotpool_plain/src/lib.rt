@@ -6,7 +6,7 @@ ghost use Rattle.classes.specs.Classes.{rowBytes};
 ghost use Rattle.model.specs.Plans.{setsUp, grants, grantsAligned, releases, resizes, measures, reports, grantsList};
 ghost use Rattle.model.specs.Tables.{roomFor};
 ghost use Rattle.model.specs.Plain.{plainCall};
-ghost use Rattle.slotpool_plain.specs.Gives.{Leaves, Tells, Gives, Reports, Lists};
+ghost use Rattle.answers.specs.Gives.{Leaves, Tells, Gives, Reports, Lists};
 
 #[no_mangle]
 pub extern "C" fn slotpool_plain_room_len(arena_len: usize) -> usize

@@ -7,7 +7,7 @@ ghost use lib.Count.{ones};
 ghost use Rattle.mem.specs.Bytes.{zeros, same, part};
 ghost use Rattle.classes.specs.Classes.{Lawful, slotsOf};
 ghost use Rattle.model.specs.declared.Holder.the-variants.{First};
-ghost use Rattle.model.specs.Tables.{headBytes, rowRecordBytes, mostSlots, slotRecordBytes, rowAt, byMasks, viewGroup, viewHolder};
+ghost use Rattle.model.specs.Tables.{headBytes, rowRecordBytes, mostSlots, slotRecordBytes, rowAt, byMasks, viewGroup, viewHolder, mostRows};
 ghost use Rattle.model.specs.Calls.{keptIn, sameTotals, soundKept};
 ghost use Rattle.rows.specs.Checks.{groupChecked};
 ghost use Rattle.soundness.specs.Checks.{membersChecked};
@@ -77,7 +77,7 @@ fn rest_zero(s: &[u8], at: usize, n: usize) -> bool
 
 // The first row of a group of class c, which is row i; the group has k rows.
 fn group_counted(row: usize, room: &[u8], i: usize, c: usize, k: usize) -> Counted
-    requires { ⌜ (i < 512) × (rowAt i + rowRecordBytes ≤ length (now room)) ⌝ }
+    requires { ⌜ (i < mostRows) × (rowAt i + rowRecordBytes ≤ length (now room)) ⌝ }
     requires { ⌜ (c < 48) × (viewHolder (drop (rowAt i) (now room)) ≡ First c) ⌝ }
     requires { ⌜ Lawful row ⌝ }
     ensures { λ r. ⌜ r ≡ countedIf (groupChecked byMasks (row * i) c (drop (rowAt i) (now (room .entry))))
@@ -96,7 +96,7 @@ fn group_counted(row: usize, room: &[u8], i: usize, c: usize, k: usize) -> Count
 
 // The span that begins at row i, where n rows are left: a free row, or a group.
 fn span_counted(row: usize, room: &[u8], i: usize, n: usize) -> Counted
-    requires { ⌜ (0 < n) × (i + n ≤ 512) × (rowAt (i + n) ≤ length (now room)) ⌝ }
+    requires { ⌜ (0 < n) × (i + n ≤ mostRows) × (rowAt (i + n) ≤ length (now room)) ⌝ }
     requires { ⌜ Lawful row ⌝ }
     ensures { λ r. ⌜ r ≡ spanCounted byMasks row (row * i) n (drop (rowAt i) (now (room .entry))) ⌝ }
 {
@@ -116,7 +116,7 @@ fn span_counted(row: usize, room: &[u8], i: usize, n: usize) -> Counted
 
 // The n rows of a room. What is held and what is free are the rows passed.
 fn rows_counted(row: usize, room: &[u8], n: usize) -> Counted
-    requires { ⌜ (n ≤ 512) × (length (now room) ≡ rowAt n) ⌝ }
+    requires { ⌜ (n ≤ mostRows) × (length (now room) ≡ rowAt n) ⌝ }
     requires { ⌜ Lawful row ⌝ }
     ensures { λ r. ⌜ r ≡ rowsCounted byMasks row 0 n (drop headBytes (now (room .entry))) ⌝ }
 {

@@ -1,10 +1,11 @@
 -- In place where the block can stay in its slot, else by a move.
-use Rattle.mem.proofs.Prelude.{_∙_, _≡_, sym, ap, [], _∷_, arith, now, needs, length}
+use Rattle.mem.proofs.Prelude.{_∙_, _≡_, sym, ap, ap₂, [], _∷_, arith, now, needs, length}
 use Rattle.mem.proofs.Tests.{choose-true, choose-false}
 use Rattle.model.specs.State.{Place}
 use Rattle.model.specs.Answers.{done}
 use Rattle.model.specs.Plans.{resizeInPlace, resizeAt, inPlace}
 use Rattle.model.specs.Tables.{byMasks}
+use Rattle.model.specs.Calls.{keptIn}
 use Rattle.rows.specs.Rows.{handleAt, Holds}
 use Rattle.rows.proofs.Rooms.{by-masks}
 use Rattle.frames.specs.Blocks.{Standing, staysIn}
@@ -44,8 +45,7 @@ returns c p h =
     (record {
       answer = ap (λ v. done (v ∷ [])) (c .handle-of .ensures ∙ ap (handleAt (s .args .row)) (h .block));
       arena = r .ensures p h .0;
-      room = r .ensures p h .1;
-      counts = r .ensures p h .2;
+      kept = ap₂ keptIn (r .ensures p h .1) (r .ensures p h .2);
     })
 
 returns-2 : tie.Need-returns-2

@@ -1,80 +1,42 @@
 -- Test by test, in the order of the answers; then all sizes are granted.
-use Rattle.mem.proofs.Prelude.{_∙_, _≡_, sym, ap, ap₂, true, _&&_, now, needs, not-false, not-true, le-leb, lt-leb, leb, length, arith, and-false}
+use Rattle.plain.proofs.Kit.{_∙_, _≡_, sym, true, _&&_, now, needs, not-false, leb, length, rowBytes, card-row, bySlots, viewBy}
+use Rattle.plain.proofs.Kit.{Sound, checked, refusing}
 use Rattle.mem.specs.Lists.{isSome}
-use Rattle.mem.specs.Bytes.{put}
-use Rattle.mem.proofs.Tests.{true-T, T-true}
-use Rattle.classes.specs.Classes.{rowBytes}
-use Rattle.classes.proofs.Laws.{card-row}
+use Rattle.model.specs.declared.Refusal.the-variants.{Unsound}
 use Rattle.model.specs.Proposals.{entries, accepts, plannable}
-use Rattle.model.specs.declared.Refusal.the-variants.{Unsound, NoRoom, TooLong, BadProposal}
 use Rattle.model.specs.Plans.{grantsList, reserveAll}
-use Rattle.model.specs.Tables.{viewBy}
-use Rattle.model.specs.Plain.{bySlots, plainForm}
-use Rattle.model.proofs.Lists.{small, accepts-small, accepts-few}
-use Rattle.model.proofs.Calls.{call-unsound}
-use Rattle.frames.proofs.Calls.{Checked}
-use Rattle.plain.proofs.Calls.{by-check, refused-list}
-use Rattle.frames.proofs.Lists.{too-long, bad-proposal, no-room, whole}
+use Rattle.frames.proofs.Listed.{refused-list, short-enough, not-plannable, few-places, not-accepted, not-fitting, granted-list, small-sizes, few-sizes}
 use Rattle.plain.proofs.grant_list.Statement.{statement}
 use Rattle.plain.proofs.grant_list.Tie as tie
 
 returns : tie.Need-returns
-unfolding rowBytes
-returns c =
-    let w = c .before .sound in
-    let a = c .before .before .before .before .before .before .before .args in
-    refused-list Unsound (now (a .handles))
-    (call-unsound rowBytes (plainForm rowBytes) (now (a .arena)) (now (a .room)) (grantsList (a .total) (a .cap) (length (now (a .handles))) (now (a .sizes)))
-    tt
-    (sym (w .ensures) ∙ not-true (w .result) (c .if1 .taken)))
+returns c = refused-list Unsound _ (sym (refusing _ _ (c .before .sound .ensures) (grantsList _ _ _ _) tt (c .if1 .taken)))
 
 -- the tables are sound
-lent : (c : tie.Else1) → (let a = c .before .before .before .before .before .before .before .args in
-    Checked rowBytes (plainForm rowBytes) (now (a .arena)) (now (a .room)))
-unfolding rowBytes
-lent c =
-    let a = c .before .before .before .before .before .before .before .args in
-    by-check (now (a .arena)) (now (a .room)) (sym (c .before .sound .ensures) ∙ not-false (c .before .sound .result) (c .if1 .left))
+lent : (c : tie.Else1) → (let a = c .before .before .before .before .before .before .before .args in Sound (now (a .arena)) (now (a .room)))
+lent c = checked _ _ (c .before .sound .ensures) (c .if1 .left)
 
 returns-2 : tie.Need-returns-2
 unfolding rowBytes
-returns-2 c =
-    let d = c .before .before in
-    let a = d .before .before .before .before .before .before .before .args in
-    let w = c .before .plannable in
-    refused-list TooLong (now (a .handles))
-    (too-long (lent d) (a .total) (a .cap) (length (now (a .handles))) (now (a .sizes))
-    (ap (λ b. b && leb entries (length (now (a .handles)))) (sym (w .ensures) ∙ not-true (w .result) (c .if2 .taken))))
+returns-2 c = not-plannable (lent (c .before .before)) _ _ _ _ (c .before .plannable .ensures) (c .if2 .taken)
 
 returns-3 : tie.Need-returns-3
 unfolding rowBytes entries
-returns-3 c =
-    let d = c .before .before .before in
-    let a = d .before .before .before .before .before .before .before .args in
-    let e = lt-leb entries (length (now (a .handles))) (c .if3 .taken) in
-    refused-list TooLong (now (a .handles))
-    (too-long (lent d) (a .total) (a .cap) (length (now (a .handles))) (now (a .sizes))
-    (ap (λ b. plannable (a .total) (a .cap) && b) e ∙ and-false (plannable (a .total) (a .cap))))
+returns-3 c = few-places (lent (c .before .before .before)) _ _ _ _ (c .if3 .taken)
 
 -- the list is short enough, and has its places
 short : (c : tie.Else3) → (let a = c .before .before .before .before .before .before .before .before .before .before .args in
     (plannable (a .total) (a .cap) && leb entries (length (now (a .handles)))) ≡ true)
 unfolding entries
 short c =
-    let w = c .before .before .plannable in
     let a = c .before .before .before .before .before .before .before .before .before .before .args in
-    ap₂ (λ b d. b && d) (sym (w .ensures) ∙ not-false (w .result) (c .before .if2 .left)) (le-leb entries (length (now (a .handles))) (c .if3 .left))
+    short-enough (a .total) (a .cap) (now (a .handles)) (c .before .before .plannable .ensures) (c .before .if2 .left) (c .if3 .left)
 
 returns-4 : tie.Need-returns-4
 unfolding rowBytes
 returns-4 c =
     let d = c .before .before in
-    let s = d .before .before .before in
-    let a = s .before .before .before .before .before .before .before .args in
-    let w = c .before .accepts in
-    refused-list BadProposal (now (a .handles))
-    (bad-proposal (lent s) (a .total) (a .cap) (length (now (a .handles))) (now (a .sizes)) (short d)
-    (sym (w .ensures) ∙ not-true (w .result) (c .if4 .taken)))
+    not-accepted (lent (d .before .before .before)) _ _ _ _ (short d) (c .before .accepts .ensures) (c .if4 .taken)
 
 -- the proposal is accepted, so its sizes are small and few
 right : (c : tie.Else4) → (let a = c .before .before .before .before .before .before .before .before .before .before .before .before .args in
@@ -84,22 +46,14 @@ right c = let w = c .before .accepts in sym (w .ensures) ∙ not-false (w .resul
 fits-requires : tie.Need-fits-requires
 unfolding rowBytes
 fits-requires c κs =
-    let d = c .before in
-    let s = d .before .before .before .before .before in
-    let a = s .before .before .before .before .before .before .before .args in
-    (lent s .sound, (T-true (small (now (a .sizes))) (accepts-small (a .total) (a .cap) (now (a .sizes)) (true-T _ (right d))), card-row))
+    let d = c .before in (lent (d .before .before .before .before .before) .sound, (small-sizes _ _ _ (right d), card-row))
 
 returns-5 : tie.Need-returns-5
 unfolding rowBytes
 returns-5 c =
     let d = c .before .before .before in
     let k = d .before .before in
-    let s = k .before .before .before in
-    let a = s .before .before .before .before .before .before .before .args in
-    let w = c .before .fits2 in
-    refused-list NoRoom (now (a .handles))
-    (no-room (lent s) (a .total) (a .cap) (length (now (a .handles))) (now (a .sizes)) (short k) (right d)
-    (sym (w .ensures) ∙ not-true (w .result) (c .if5 .taken)))
+    not-fitting (lent (k .before .before .before)) _ _ _ _ (short k) (right d) (c .before .fits2 .ensures) (c .if5 .taken)
 
 -- all of it fits
 fit : (c : tie.Else5) → (let d = c .before .before .before in
@@ -113,35 +67,18 @@ unfolding rowBytes entries
 grant-all-requires c κs =
     let e = c .before .before .before in
     let d = e .before .before .before in
-    let k = d .before .before in
-    let s = k .before .before .before in
-    let a = s .before .before .before .before .before .before .before .args in
-    let t = true-T _ (right d) in
-    let f = accepts-few (a .total) (a .cap) (now (a .sizes)) t in (
-      lent s .sound,
-      (
-        (T-true (small (now (a .sizes))) (accepts-small (a .total) (a .cap) (now (a .sizes)) t), omega (arith, f, k .if3 .left)),
-        (fit e, card-row),
-      ),
-    )
+    let s = d .before .before .before .before .before .before .before .before .before .before .before .before in
+    let few = few-sizes _ _ (now (s .args .handles)) _ (right d) (d .before .before .if3 .left) in
+    (lent (d .before .before .before .before .before) .sound, ((small-sizes _ _ _ (right d), few), (fit e, card-row)))
 
 returns-6 : tie.Need-returns-6
 unfolding rowBytes
 returns-6 c =
-    let g = c .before .before .before .before .before .before .grant-all in
+    let g = c .before .before .before .before .before .before .grant-all .ensures in
     let e = c .before .before .before .before .before .before .before .before .before .before in
     let d = e .before .before .before in
     let k = d .before .before in
-    let s = k .before .before .before in
-    let a = s .before .before .before .before .before .before .before .args in
-    let w = whole (lent s) (a .total) (a .cap) (length (now (a .handles))) (now (a .sizes)) (short k) (right d) (fit e) in
-    record {
-      number-due = w .number;
-      values-due = w .values;
-      list-due = g .ensures .1 .1 ∙ ap (λ l. put 0 l (now (a .handles))) (w .lent);
-      arena-due = g .ensures .0 ∙ w .arena;
-      room-due = g .ensures .1 .0 ∙ w .room;
-    }
+    granted-list (lent (k .before .before .before)) _ _ _ _ (short k) (right d) (fit e) (g .1 .1) (g .0) (g .1 .0)
 
 pub grant-list-spec : {M : Type 1} → statement M
 grant-list-spec =

@@ -1,31 +1,17 @@
 -- By what is located.
-use Rattle.mem.proofs.Prelude.{_∙_, sym, ap, refl, [], _∷_, now, needs, not-false, not-true}
-use Rattle.classes.specs.Classes.{rowBytes}
-use Rattle.classes.proofs.Laws.{card-row}
-use Rattle.model.specs.Answers.{done}
+use Rattle.plain.proofs.Kit.{_∙_, sym, ap, refl, [], _∷_, now, needs, rowBytes, card-row, done, viewBy, bySlots, Sound, checked, refusing}
+use Rattle.plain.proofs.Kit.{called-at, called-refused}
 use Rattle.model.specs.Plans.{measures, measureAt}
-use Rattle.model.specs.Tables.{viewBy}
-use Rattle.model.specs.Plain.{bySlots, plainForm}
-use Rattle.model.proofs.Calls.{call-unsound}
-use Rattle.frames.proofs.Calls.{Checked, called-at, called-refused, measuring, kept-as}
-use Rattle.plain.proofs.Calls.{by-check}
+use Rattle.frames.proofs.Calls.{measuring, kept-as}
 use Rattle.plain.proofs.measure.Statement.{statement}
 use Rattle.plain.proofs.measure.Tie as tie
 
 returns : tie.Need-returns
-unfolding rowBytes
-returns c =
-    let a = c .before .before .before .before .args in
-    let w = c .before .sound in
-    sym (call-unsound rowBytes (plainForm rowBytes) (now (a .arena)) (now (a .room)) (measures (a .handle)) tt
-    (sym (w .ensures) ∙ not-true (w .result) (c .if1 .taken)))
+returns c = refusing _ _ (c .before .sound .ensures) (measures _) tt (c .if1 .taken)
 
 -- the tables are sound
-lent : (c : tie.Else1) → (let a = c .before .before .before .before .args in Checked rowBytes (plainForm rowBytes) (now (a .arena)) (now (a .room)))
-unfolding rowBytes
-lent c =
-    let a = c .before .before .before .before .args in
-    by-check (now (a .arena)) (now (a .room)) (sym (c .before .sound .ensures) ∙ not-false (c .before .sound .result) (c .if1 .left))
+lent : (c : tie.Else1) → (let a = c .before .before .before .before .args in Sound (now (a .arena)) (now (a .room)))
+lent c = checked _ _ (c .before .sound .ensures) (c .if1 .left)
 
 locate-requires : tie.Need-locate-requires
 unfolding rowBytes

@@ -1,13 +1,10 @@
 -- By what is counted.
-use Rattle.mem.proofs.Prelude.{_∙_, sym, ap, now, needs, length}
-use Rattle.classes.specs.Classes.{rowBytes}
-use Rattle.model.specs.Answers.{done, listed}
+use Rattle.plain.proofs.Kit.{_∙_, sym, ap, now, needs, length, rowBytes, done, viewBy, bySlots, plainForm, by-check, counted-sound, counted-unsound}
+use Rattle.model.specs.Answers.{listed}
 use Rattle.model.specs.Plans.{reports, totals}
-use Rattle.model.specs.Tables.{soundBy, viewBy}
-use Rattle.model.specs.Plain.{bySlots, plainForm}
+use Rattle.model.specs.Tables.{soundBy}
 use Rattle.model.proofs.Calls.{call-unsound}
 use Rattle.frames.proofs.Calls.{reporting}
-use Rattle.plain.proofs.Calls.{by-check, counted-sound, counted-unsound}
 use Rattle.plain.proofs.report.Statement.{statement}
 use Rattle.plain.proofs.report.Tie as tie
 

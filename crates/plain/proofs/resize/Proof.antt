@@ -1,38 +1,23 @@
 -- By what is located.
-use Rattle.mem.proofs.Prelude.{_∙_, _≡_, sym, ap, subst, _<_, arith, now, needs, not-false, not-true, leb, leb-false, length}
-use Rattle.classes.specs.Classes.{rowBytes, tooLarge}
-use Rattle.classes.specs.Alignments.{enlarged, Askable}
-use Rattle.classes.proofs.Laws.{card-row}
-use Rattle.model.specs.State.{startOf}
+use Rattle.plain.proofs.Kit.{_∙_, _≡_, sym, ap, subst, _<_, arith, now, needs, leb, leb-false, length, rowBytes, tooLarge, enlarged, Askable}
+use Rattle.plain.proofs.Kit.{card-row, startOf, bySlots, plainForm, viewBy, by-slots, CarriedOutBy, Sound, checked, refusing, Called, called-at}
+use Rattle.plain.proofs.Kit.{called-refused, carried-as, holds}
 use Rattle.model.specs.Plans.{resizes, resizeAt, lookup, newSize}
-use Rattle.model.specs.Tables.{viewBy}
-use Rattle.model.specs.Plain.{bySlots, plainForm}
 use Rattle.model.proofs.Lookup.{fits}
 use Rattle.model.proofs.Formed.{code-kept}
-use Rattle.rows.specs.Rows.{Lent, looked, Holds}
-use Rattle.frames.specs.Blocks.{codeFound, judged, located, CarriedOutBy}
-use Rattle.frames.proofs.Places.{held-pool, Known, found-known, found-holds, judged-looked, new-size}
-use Rattle.model.proofs.Calls.{call-unsound}
-use Rattle.frames.proofs.Calls.{Checked, Called, called-at, called-refused, resizing, resize-names, resize-too-large, carried-as}
-use Rattle.plain_tables.proofs.Opens.{by-slots}
-use Rattle.plain.proofs.Calls.{by-check}
+use Rattle.rows.specs.Rows.{Lent, looked}
+use Rattle.frames.specs.Blocks.{codeFound, judged, located}
+use Rattle.frames.proofs.Places.{held-pool, Known, found-known, judged-looked, new-size}
+use Rattle.frames.proofs.Calls.{resizing, resize-names, resize-too-large}
 use Rattle.plain.proofs.resize.Statement.{statement}
 use Rattle.plain.proofs.resize.Tie as tie
 
 returns : tie.Need-returns
-unfolding rowBytes
-returns c =
-    let a = c .before .before .before .before .before .args in
-    let w = c .before .sound in
-    sym (call-unsound rowBytes (plainForm rowBytes) (now (a .arena)) (now (a .room)) (resizes (a .handle) (a .n)) tt
-    (sym (w .ensures) ∙ not-true (w .result) (c .if1 .taken)))
+returns c = refusing _ _ (c .before .sound .ensures) (resizes _ _) tt (c .if1 .taken)
 
 -- the tables are sound
-lent : (c : tie.Else1) → (let a = c .before .before .before .before .before .args in Checked rowBytes (plainForm rowBytes) (now (a .arena)) (now (a .room)))
-unfolding rowBytes
-lent c =
-    let a = c .before .before .before .before .before .args in
-    by-check (now (a .arena)) (now (a .room)) (sym (c .before .sound .ensures) ∙ not-false (c .before .sound .result) (c .if1 .left))
+lent : (c : tie.Else1) → (let a = c .before .before .before .before .before .args in Sound (now (a .arena)) (now (a .room)))
+lent c = checked _ _ (c .before .sound .ensures) (c .if1 .left)
 
 sound-room : (c : tie.Else1) → (let a = c .before .before .before .before .before .args in Lent bySlots rowBytes (length (now (a .arena))) (now (a .room)))
 sound-room c = by-slots (lent c .sound) card-row
@@ -54,10 +39,7 @@ found : (c : tie.After-find-block) → (let i = c .before .before .before in
     let a = i .before .before .before .before .before .args in
     Known (sound-room i) (startOf (a .handle)) (c .find-block .result))
 unfolding rowBytes
-found c =
-    let i = c .before .before .before in
-    let a = i .before .before .before .before .before .args in
-    subst (Known (sound-room i) (startOf (a .handle))) (sym (known c)) (found-known (sound-room i) (startOf (a .handle)))
+found c = subst (Known _ _) (sym (known c)) (found-known _ _)
 
 too-large-requires : tie.Need-too-large-requires
 too-large-requires c κs = omega (arith, c .code-found .ensures, found (c .before) .last-code)
@@ -101,21 +83,7 @@ block : (c : tie.After-known-told) → (let z = c .before .before .before .befor
     let P = viewBy bySlots rowBytes (now (a .room)) in
     Called (lent z) (a .handle) (resizeAt rowBytes P (a .n)) (resize-names rowBytes P (a .n)) (c .before .b .given .0 .0))
 unfolding rowBytes
-block c =
-    let z = c .before .before .before .before .before .before .before .before .before .before .before in
-    let a = z .before .before .before .before .before .args in
-    let P = viewBy bySlots rowBytes (now (a .room)) in
-    called-at (lent z) (a .handle) (resizeAt rowBytes P (a .n)) (resize-names rowBytes P (a .n)) (c .before .b .given .0 .0)
-    (sym (c .before .b .given .1) ∙ judging (c .before .before .before))
-
-holds : (c : tie.After-known-told) → (let z = c .before .before .before .before .before .before .before .before .before .before .before in
-    Holds bySlots rowBytes (now (z .before .before .before .before .before .args .room)) (c .before .b .given .0 .0) (block c .place))
-unfolding rowBytes
-holds c =
-    let z = c .before .before .before .before .before .before .before .before .before .before .before in
-    let b = block c in
-    found-holds (sound-room z) (startOf (z .before .before .before .before .before .args .handle)) (b .place) (b .looked-up) (b .live)
-    (c .before .b .given .0 .0) (b .block)
+block c = called-at _ _ _ _ _ (sym (c .before .b .given .1) ∙ judging (c .before .before .before))
 
 -- its size is one that can be asked for
 small : (c : tie.After-known-told) → (let z = c .before .before .before .before .before .before .before .before .before .before .before in
@@ -126,15 +94,13 @@ small c =
     let z = e .before .before .before .before .before .before in
     let a = z .before .before .before .before .before .args in
     let b = block c in
-    let o = b .looked-up in
-    let k = code-kept (b .place .cls) (b .place .state) (b .live) (fits (b .place) (holds c .formed) .state) in
-    let s = leb-false tooLarge (newSize (lookup rowBytes (viewBy bySlots rowBytes (now (a .room))) (startOf (a .handle))) (a .n))
-    (ap (leb tooLarge) (sym (new-size rowBytes (lookup rowBytes (viewBy bySlots rowBytes (now (a .room))) (startOf (a .handle))) (a .n))) ∙ tested (e .before)
-    ∙ e .if2 .left) in
+    let k = code-kept (b .place .cls) (b .place .state) (b .live) (fits (b .place) (holds (lent z) b .formed) .state) in
+    let q = lookup rowBytes (viewBy bySlots rowBytes (now (a .room))) (startOf (a .handle)) in
+    let s = leb-false tooLarge (newSize q (a .n)) (ap (leb tooLarge) (sym (new-size rowBytes q (a .n))) ∙ tested (e .before) ∙ e .if2 .left) in
     subst (λ v. Askable v (a .n)) (sym (ap (λ b. b .alloc .align) (b .block))) (record {
       some-code = k .0;
       last-code = k .1;
-      small = subst (λ q. newSize q (a .n) < tooLarge) o s;
+      small = subst (λ q. newSize q (a .n) < tooLarge) (b .looked-up) s;
     })
 
 change-size-requires : tie.Need-change-size-requires
@@ -142,7 +108,7 @@ unfolding rowBytes
 change-size-requires c κs =
     let k = c .before .before in
     let z = k .before .before .before .before .before .before .before .before .before .before .before in
-    (lent z .sound, ((block k .place, holds k), (small k, card-row)))
+    (lent z .sound, ((block k .place, holds (lent z) (block k)), (small k, card-row)))
 
 returns-3 : tie.Need-returns-3
 unfolding rowBytes
@@ -155,7 +121,7 @@ returns-3 c =
     let r = c .before .before .before .before .change-size in
     let d = subst (λ P. CarriedOutBy (plainForm rowBytes) (now (a .arena)) (resizeAt rowBytes P (a .n) (b .place)) (r .result) (r .last .1 .0)
     (r .last .1 .1 .0))
-    (sym (held-pool (sound-room z) (holds k))) (r .ensures (b .place) (holds k)) in
+    (sym (held-pool (sound-room z) (holds (lent z) (block k)))) (r .ensures (b .place) (holds (lent z) (block k))) in
     carried-as d (resizing (lent z) (a .handle) (a .n) (tested (e .before) ∙ e .if2 .left) ∙ b .result)
 
 returns-4 : tie.Need-returns-4

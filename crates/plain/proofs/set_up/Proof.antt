@@ -1,11 +1,6 @@
 -- Refused by the room's size, or done: zeros, and tables with no groups.
-use Rattle.mem.proofs.Prelude.{_∙_, sym, refl, _≤_, _*_, arith, now, needs, leb→le, length}
-use Rattle.mem.proofs.Tests.{and-left, and-right}
-use Rattle.classes.specs.Classes.{rowBytes}
-use Rattle.model.specs.Tables.{arenaRight, roomBytes}
-use Rattle.model.specs.Plain.{bySlots, plainForm}
-use Rattle.fresh.proofs.SetUp.{Fitting, fitting, set-up-refused, set-up-made, formatted}
-use Rattle.frames.proofs.Calls.{whole}
+use Rattle.plain.proofs.Kit.{_∙_, sym, refl, now, needs, rowBytes, bySlots, plainForm, whole}
+use Rattle.fresh.proofs.SetUp.{Fitting, fitting, set-up-refused, set-up-made, formatted, formattable}
 use Rattle.plain.proofs.set_up.Statement.{statement}
 use Rattle.plain.proofs.set_up.Tie as tie
 
@@ -32,14 +27,7 @@ fit c =
     (λ z. c .before .if1 .left (r .ensures ∙ z))
 
 format-requires : tie.Need-format-requires
-unfolding rowBytes arenaRight roomBytes
-format-requires c κs =
-    let e = c .before .before .before .before .before in
-    let m = length (now (e .before .before .before .before .before .args .arena)) in
-    let f = fit e in
-    let t = f .lawful in
-    let l : m ≤ 512 * 512 = leb→le m (512 * 512) (search (and-left, and-right)) in
-    (omega (arith, f .long), omega arith)
+format-requires c κs = formattable (fit (c .before .before .before .before .before))
 
 returns-3 : tie.Need-returns-3
 unfolding rowBytes

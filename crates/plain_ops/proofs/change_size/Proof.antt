@@ -44,7 +44,7 @@ returns c p h =
     (record {
       answer = ap (λ v. done (v ∷ [])) (c .handle-of .ensures ∙ ap (handleAt (s .args .row)) (h .block));
       arena = r .ensures p h .0;
-      room = r .ensures p h .1;
+      kept = r .ensures p h .1;
     })
 
 returns-2 : tie.Need-returns-2

@@ -1,5 +1,5 @@
 -- `perform` meets its contract: an operation is a call, or a store of bytes of the trace.
-use Rattle.mem.proofs.Prelude.{_∙_, _≡_, sym, ap, refl, subst, some, none, List, [], _∷_, ℕ, _-_, _≤_, now, needs, length}
+use Rattle.mem.proofs.Prelude.{_∙_, _≡_, sym, ap, ap₂, refl, subst, Option, some, none, List, [], _∷_, ℕ, _-_, _≤_, now, needs, length}
 use Rattle.mem.specs.Lists.{choose}
 use Rattle.mem.specs.Bytes.{part}
 use Rattle.mem.proofs.Tests.{choose-true, choose-false}
@@ -9,16 +9,16 @@ use Rattle.model.specs.declared.Totals.{Totals}
 use Rattle.model.specs.declared.Answered.{Answered}
 use Rattle.model.specs.Answers.{Answer, done, replyAnswer}
 use Rattle.model.specs.Plans.{Call, grants, releases, resizes, measures, reports}
-use Rattle.model.specs.Calls.{KeptBytes, keptIn, Result, engine, call}
+use Rattle.model.specs.Calls.{KeptBytes, keptIn, engine, left, call}
 use Rattle.model.proofs.Kept.{engine-lawful}
-use Rattle.model.proofs.Calls.{LeftAsIs, measure-keeps, report-keeps}
+use Rattle.model.proofs.Calls.{measure-keeps, report-keeps}
 use Rattle.trace.specs.declared.Op.{Op}
 use Rattle.trace.specs.Trace.{Within, operationOf}
 use Rattle.trace.specs.Replay.{Line, Effect, effect, performed}
 use Rattle.line_text.specs.declared.Said.{Said}
 use Rattle.player.specs.declared.Played.{Played}
 use Rattle.line_text.specs.Lines.{lineText, answerOf, Short}
-use Rattle.player.proofs.Laws.{Parts, of-call, of-store}
+use Rattle.player.proofs.Laws.{of-call, of-reading, of-store}
 use Rattle.player.proofs.Lines.{report-short}
 use Rattle.player.proofs.perform.Statement.{statement}
 use Rattle.player.proofs.perform.Tie as tie
@@ -43,23 +43,19 @@ part-store-end : tie.Need-part-store-end
 part-store-end c = inside (c .before .before) .1
 
 -- a call made at the function's entry, for the operation that was read
-asks : (s : tie.Start) (o : Op) (c : Call) (x : Answer) (b u : List ℕ) (z : Totals) → s .args .op ≡ o
+asks : (s : tie.Start) (o : Op) (c : Call) {x : Answer} {b : List ℕ} {k : KeptBytes} → s .args .op ≡ o
     → does s o ≡ effect (call rowBytes (now (s .args .arena)) (keptIn (now (s .args .room)) (s .args .t)) c)
-    → (let r = call rowBytes (now (s .args .arena)) (keptIn (now (s .args .room)) (s .args .t)) c in
-    (x ≡ r .answer) × ((b ≡ r .arena) × ((u ≡ r .room .tables) × (z ≡ r .room .totals))))
-    → Parts (record { tells = some x; arena = b; room = keptIn u z }) (does s (s .args .op))
-asks s o c x b u z e d r = of-call (does s (s .args .op)) (call rowBytes (now (s .args .arena)) (keptIn (now (s .args .room)) (s .args .t)) c) x b u z
-    (ap (does s) e ∙ d) r
+    → left x b k ≡ call rowBytes (now (s .args .arena)) (keptIn (now (s .args .room)) (s .args .t)) c
+    → record { tells = some x; arena = b; kept = k } ≡ does s (s .args .op)
+asks s o c e d r = of-call (ap (does s) e ∙ d) r
 
 -- a call that tells one value and its totals
-tells : (s : tie.Start) (p : Played) (r : Answered) (b u : List ℕ) → (p .told ≡ Said.One (r .reply)) × (p .totals ≡ r .totals)
-    → Parts (record { tells = some (replyAnswer (r .reply)); arena = b; room = keptIn u (r .totals) }) (does s (s .args .op))
-    → Short (p .told) × (let d = does s (s .args .op) in
-    (answerOf (p .told) ≡ d .tells) × ((b ≡ d .arena) × ((u ≡ d .room .tables) × (p .totals ≡ d .room .totals))))
-tells s p r b u e h = (
-  subst Short (sym (e .0)) tt,
-  (ap answerOf (e .0) ∙ h .0, (h .1 .0, (h .1 .1 .0, e .1 ∙ h .1 .1 .1))),
-)
+tells : {d : Effect} (p : Played) (r : Answered) (b u : List ℕ) → (p .told ≡ Said.One (r .reply)) × (p .totals ≡ r .totals)
+    → record { tells = some (replyAnswer (r .reply)); arena = b; kept = keptIn u (r .totals) } ≡ d
+    → Short (p .told) × (record { tells = answerOf (p .told); arena = b; kept = keptIn u (p .totals) } ≡ d)
+tells {d} p r b u (e, f) h =
+    let did : Said → Totals → Effect = λ x z. record { tells = answerOf x; arena = b; kept = keptIn u z } in
+    (subst Short (sym e) tt, ap₂ did e f ∙ h)
 
 returns : tie.Need-returns
 unfolding performed operationOf
@@ -68,8 +64,8 @@ returns c =
     let o = g .before .before .before .before in
     let s = o .before .before .before .before .before in
     let x = o .op .given .0 in
-    tells s (c .tell .result) (g .grant .result) _ _ (c .tell .ensures)
-    (asks s (Op.Grant (x .0)) (grants (x .0)) _ _ _ _ (o .op .given .1) refl (g .grant .ensures))
+    tells (c .tell .result) (g .grant .result) _ _ (c .tell .ensures)
+    (asks s (Op.Grant (x .0)) (grants (x .0)) (o .op .given .1) refl (g .grant .ensures))
 
 returns-2 : tie.Need-returns-2
 unfolding performed operationOf
@@ -78,8 +74,8 @@ returns-2 c =
     let o = g .before .before .before .before in
     let s = o .before .before .before .before .before in
     let x = o .op2 .given .0 in
-    tells s (c .tell2 .result) (g .release .result) _ _ (c .tell2 .ensures)
-    (asks s (Op.Release (x .0)) (releases (x .0)) _ _ _ _ (o .op2 .given .1) refl (g .release .ensures))
+    tells (c .tell2 .result) (g .release .result) _ _ (c .tell2 .ensures)
+    (asks s (Op.Release (x .0)) (releases (x .0)) (o .op2 .given .1) refl (g .release .ensures))
 
 returns-3 : tie.Need-returns-3
 unfolding performed operationOf
@@ -88,12 +84,8 @@ returns-3 c =
     let o = g .before .before .before .before in
     let s = o .before .before .before .before .before in
     let x = o .op3 .given .0 in
-    tells s (c .tell3 .result) (g .resize .result) _ _ (c .tell3 .ensures)
-    (asks s (Op.Resize (x .0) (x .1 .0)) (resizes (x .0) (x .1 .0)) _ _ _ _ (o .op3 .given .1) refl (g .resize .ensures))
-
--- what a call leaves that only reads
-as-they-were : {a : List ℕ} {t : KeptBytes} {r : Result} → LeftAsIs a t r → (a ≡ r .arena) × ((t .tables ≡ r .room .tables) × (t .totals ≡ r .room .totals))
-as-they-were k = (sym (k .arena), (sym (ap (λ (t : KeptBytes). t .tables) (k .room)), sym (ap (λ (t : KeptBytes). t .totals) (k .room))))
+    tells (c .tell3 .result) (g .resize .result) _ _ (c .tell3 .ensures)
+    (asks s (Op.Resize (x .0) (x .1 .0)) (resizes (x .0) (x .1 .0)) (o .op3 .given .1) refl (g .resize .ensures))
 
 returns-4 : tie.Need-returns-4
 unfolding performed operationOf
@@ -102,16 +94,16 @@ returns-4 c =
     let o = c .before .before .before .before .op4 .given in
     let k = measure-keeps rowBytes (engine rowBytes) (engine-lawful rowBytes card-some) (now (s .args .arena)) (keptIn (now (s .args .room)) (s .args .t))
     (o .0 .0) in
-    (tt, asks s (Op.Measure (o .0 .0)) (measures (o .0 .0)) _ _ _ _ (o .1) refl (c .measure .ensures, as-they-were k))
+    (tt, asks s (Op.Measure (o .0 .0)) (measures (o .0 .0)) (o .1) refl (of-reading (c .measure .ensures) k))
+
+-- an effect by its parts
+abbrev effectOf : Option Answer → List ℕ → KeptBytes → Effect
+effectOf x b k = record { tells = x; arena = b; kept = k }
 
 -- a store made of a part of the trace
 stores : (g : tie.After-store)
     → (let s = g .before .before .before .before .before .before .before .before .before in
-    Parts (record {
-      tells = choose (g .store .result) (some (done (0 ∷ []))) none;
-      arena = g .store .last .0;
-      room = keptIn (now (s .args .room)) (s .args .t);
-    }) (does s (s .args .op)))
+    effectOf (choose (g .store .result) (some (done (0 ∷ []))) none) (g .store .last .0) (keptIn (now (s .args .room)) (s .args .t)) ≡ does s (s .args .op))
 unfolding operationOf
 stores g =
     let s = g .before .before .before .before .before .before .before .before .before in
@@ -122,10 +114,10 @@ stores g =
     (ap (does s) (o .1)) (g .store .ensures)
 
 returns-5 : tie.Need-returns-5
-returns-5 c = let w = stores (c .before .before .before) in (tt, (sym (choose-true _ _ _ (c .if1 .taken)) ∙ w .0, w .1))
+returns-5 c = (tt, ap (λ x. effectOf x _ _) (sym (choose-true _ _ _ (c .if1 .taken))) ∙ stores (c .before .before .before))
 
 returns-6 : tie.Need-returns-6
-returns-6 c = let w = stores (c .before .before .before) in (tt, (sym (choose-false _ _ _ (c .if1 .left)) ∙ w .0, w .1))
+returns-6 c = (tt, ap (λ x. effectOf x _ _) (sym (choose-false _ _ _ (c .if1 .left))) ∙ stores (c .before .before .before))
 
 returns-7 : tie.Need-returns-7
 unfolding performed operationOf
@@ -134,7 +126,7 @@ returns-7 c =
     let k = report-keeps rowBytes (engine rowBytes) (engine-lawful rowBytes card-some) (now (s .args .arena)) (keptIn (now (s .args .room)) (s .args .t)) in
     let e = c .report .ensures in (
       subst (λ (r : Answer). length (lineText (Line.told r)) ≤ 45) (sym e) (report-short (now (s .args .arena)) (keptIn (now (s .args .room)) (s .args .t))),
-      asks s Op.Report reports _ _ _ _ (c .before .before .before .enum-told .given .1) refl (e, as-they-were k),
+      asks s Op.Report reports (c .before .before .before .enum-told .given .1) refl (of-reading e k),
     )
 
 pub perform-spec : {M : Type 1} → statement M

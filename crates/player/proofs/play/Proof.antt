@@ -81,9 +81,7 @@ written p =
     (Behind x (d .perform .last .0) (keptIn (d .perform .last .1 .0) (d .perform .result .totals)) (now (a .trace)) (i + 1) (o .op .given .0 .1 .0))
     (k .loop .out) (l .put-line .last .0)
     (turn (k .loop .arena) (keptIn (k .loop .room) (k .loop .kept)) (now (a .trace)) i (k .loop .at) (omega arith) (o .op .given .0 .0) (o .op .given .0 .1 .0)
-    (sym (o .op .given .1) ∙ r .read .ensures) x (d .perform .last .0) (d .perform .last .1 .0) (d .perform .result .totals) (e .1 .0) (e .1 .1 .0)
-    (e .1 .1 .1 .0)
-    (e .1 .1 .1 .1))
+    (sym (o .op .given .1) ∙ r .read .ensures) x (d .perform .last .0) (keptIn (d .perform .last .1 .0) (d .perform .result .totals)) (e .1))
     (l .put-line .ensures .0) (l .put-line .ensures .1 .0) (k .loop .inv .6)
 
 -- a bad record is the last

@@ -5,8 +5,8 @@ use Rattle.mem.proofs.Laws.{put-length}
 use Rattle.io.proofs.Counting.{counts}
 use Rattle.model.specs.Calls.{keptIn}
 use Rattle.trace.specs.Replay.{Line}
-use Rattle.line_text.specs.Lines.{lineText}
-use Rattle.player.specs.Printed.{printed, playedText}
+use Rattle.pool.proofs.Kit.{parts}
+use Rattle.player.specs.Printed.{lineText, printed, playedText}
 use Rattle.trace.proofs.Laws.{right-length}
 use Rattle.player.proofs.Turns.{printed-bad, printed-played}
 use Rattle.player.proofs.replay.Statement.{statement}
@@ -38,7 +38,7 @@ returns-2 c =
     let a = i .before .before .before .before .before .args in
     let e = p .play .ensures in
     let h = sym (i .before .readable .ensures) ∙ not-false (i .before .readable .result) (i .if1 .left) in
-    let v = u .set-up .ensures .1 in
+    let v = parts (u .set-up .ensures) .1 in
     let w = ap₂ (λ b t. playedText b t (now (a .trace))) (v .0) (ap₂ keptIn (v .1 .0) (v .1 .1))
     ∙ sym (printed-played (now (a .arena)) (keptIn (now (a .room)) (a .t)) (now (a .trace)) h) in
     let o = e .1 .0 ∙ ap (λ (t : List ℕ). put 0 t (now (a .out))) w in

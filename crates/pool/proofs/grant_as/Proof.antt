@@ -1,15 +1,8 @@
 -- By what is reserved.
-use Rattle.mem.proofs.Prelude.{_∙_, _≡_, sym, ap, [], _∷_, now, needs, leb-true, leb-false, length}
-use Rattle.classes.specs.Classes.{rowBytes, tooLarge}
-use Rattle.classes.specs.Alignments.{enlarged, Askable}
-use Rattle.classes.proofs.Laws.{card-row}
-use Rattle.model.specs.Answers.{done}
-use Rattle.model.specs.Plans.{totals}
-use Rattle.model.specs.Tables.{view}
-use Rattle.model.specs.Calls.{keptIn}
-use Rattle.model.proofs.Kept.{kept-totals}
-use Rattle.ops.proofs.Calls.{Checked, by-check, grant-too-large, GrantedAt, granted-at, granted-none}
-use Rattle.pool.proofs.Fresh.{refused-out}
+use Rattle.pool.proofs.Kit.{_∙_, sym, ap, [], _∷_, now, needs, leb-true, leb-false, rowBytes, tooLarge, enlarged, Askable, card-row, done, keptIn}
+use Rattle.pool.proofs.Kit.{Checked, by-check, told-out}
+use Rattle.frames.proofs.Calls.{grant-too-large}
+use Rattle.ops.proofs.Calls.{GrantedAt, granted-at, granted-none}
 use Rattle.pool.proofs.grant_as.Statement.{statement}
 use Rattle.pool.proofs.grant_as.Tie as tie
 
@@ -17,32 +10,24 @@ use Rattle.pool.proofs.grant_as.Tie as tie
 lent : (s : tie.Start) → Checked rowBytes (now (s .args .arena)) (keptIn (now (s .args .room)) (s .args .t))
 lent s = by-check (now (s .args .arena)) (keptIn (now (s .args .room)) (s .args .t)) (s .pre .0) card-row
 
-counts : (s : tie.Start) → s .args .t ≡ totals rowBytes (view rowBytes (now (s .args .room)))
-counts s = kept-totals rowBytes (length (now (s .args .arena))) (keptIn (now (s .args .room)) (s .args .t)) (s .pre .0)
-
 returns : tie.Need-returns
 returns c =
     let i = c .before in
     let s = i .before .before .before .before in
-    let a = s .args in
-    refused-out (c .refused .ensures) (grant-too-large (now (a .arena)) (lent s) (a .code) (a .n)
-    (leb-true tooLarge (enlarged (a .code) (a .n)) (sym (i .before .too-large .ensures) ∙ i .if1 .taken)))
+    told-out (c .refused .ensures) (grant-too-large (lent s .form) (s .args .code) (s .args .n)
+    (leb-true tooLarge (enlarged (s .args .code) (s .args .n)) (sym (i .before .too-large .ensures) ∙ i .if1 .taken)))
 
 -- the size is one that can be asked for
 small : (c : tie.Else1) → (let a = c .before .before .before .before .args in Askable (a .code) (a .n))
 small c =
     let s = c .before .before .before .before in
-    let a = s .args in
-    record {
-      some-code = s .pre .1 .0;
-      last-code = s .pre .1 .1;
-      small = leb-false tooLarge (enlarged (a .code) (a .n)) (sym (c .before .too-large .ensures) ∙ c .if1 .left);
-    }
+    let h = leb-false tooLarge (enlarged (s .args .code) (s .args .n)) (sym (c .before .too-large .ensures) ∙ c .if1 .left) in
+    record { some-code = s .pre .1 .0; last-code = s .pre .1 .1; small = h }
 
 reserve-slot-requires : tie.Need-reserve-slot-requires
 unfolding rowBytes
 reserve-slot-requires c κs =
-    let s = c .before .before .before .before .before in (lent s .room .sound, (small (c .before), (counts s, card-row)))
+    let r = lent (c .before .before .before .before .before) in (r .room .sound, (small (c .before), (r .counts, card-row)))
 
 returns-2 : tie.Need-returns-2
 unfolding rowBytes
@@ -51,21 +36,17 @@ returns-2 d =
     let r = c .before .before .before .before in
     let z = r .before .before in
     let s = z .before .before .before .before in
-    let a = s .args in
-    let e = granted-none (now (a .arena)) (lent s) (a .code) (a .n) (small z) (sym (r .reserve-slot .ensures .0) ∙ c .enum-told .given .1) in
-    refused-out (d .refused2 .ensures) (record { answer = e .answer; arena = e .arena; room = r .reserve-slot .ensures .1 ∙ e .room; counts = e .counts })
+    told-out (d .refused2 .ensures) (granted-none (lent s) (s .args .code) (s .args .n) (small z) (sym (r .reserve-slot .ensures .0) ∙ c .enum-told .given .1)
+    (r .reserve-slot .ensures .1))
 
 -- the block that is granted
-block : (c : tie.After-known-told) → (let z = c .before .before .before .before .before .before .before in
-    let s = z .before .before .before .before in
-    GrantedAt (now (s .args .arena)) (lent s) (s .args .code) (s .args .n) (small z) (c .before .b .given .0 .0) (c .before .b .given .0 .1 .0))
-unfolding rowBytes
-block c =
-    let r = c .before .before .before .before .before in
+block : (c : tie.After-known-told) → (let r = c .before .before .before .before .before in
     let z = r .before .before in
     let s = z .before .before .before .before in
-    granted-at (now (s .args .arena)) (lent s) (s .args .code) (s .args .n) (small z) (c .before .b .given .0 .0)
-    (c .before .b .given .0 .1 .0) (sym (r .reserve-slot .ensures .0) ∙ c .before .b .given .1)
+    GrantedAt (lent s) (s .args .code) (s .args .n) (small z) (c .before .b .given .0 .0) (c .before .b .given .0 .1 .0) (r .reserve-slot .last .1 .1 .0))
+unfolding rowBytes
+block c =
+    let r = c .before .before .before .before .before .reserve-slot .ensures in granted-at _ _ _ _ (sym (r .0) ∙ c .before .b .given .1) (r .1)
 
 lay-out-requires : tie.Need-lay-out-requires
 unfolding rowBytes
@@ -74,15 +55,9 @@ lay-out-requires c κs = (block (c .before) .stands, card-row)
 returns-3 : tie.Need-returns-3
 unfolding rowBytes
 returns-3 c =
-    let k = c .before .before .before .before in
-    let x = c .before .before .lay-out in
-    let p = block k .result in
-    record {
-      answer = ap (λ v. done (v ∷ [])) (x .ensures .0) ∙ p .answer;
-      arena = x .ensures .1 ∙ p .arena;
-      room = k .before .before .before .before .before .reserve-slot .ensures .1 ∙ p .room;
-      counts = p .counts;
-    }
+    let x = c .before .before .lay-out .ensures in
+    let p = block (c .before .before .before .before) .result in
+    record { answer = ap (λ v. done (v ∷ [])) (x .0) ∙ p .answer; arena = x .1 ∙ p .arena; kept = p .kept }
 
 pub grant-as-spec : {M : Type 1} → statement M
 grant-as-spec =

@@ -1,32 +1,17 @@
 -- By what is located.
-use Rattle.mem.proofs.Prelude.{_∙_, sym, ap, refl, [], _∷_, now, needs, not-false, not-true}
-use Rattle.classes.specs.Classes.{rowBytes}
-use Rattle.classes.proofs.Laws.{card-row}
-use Rattle.model.specs.Answers.{done}
+use Rattle.pool.proofs.Kit.{_∙_, sym, ap, refl, [], _∷_, now, needs, rowBytes, card-row, done, view, keptIn, Checked, answers}
+use Rattle.pool.proofs.Kit.{called-at, called-refused, checked, refusing}
 use Rattle.model.specs.Plans.{measures, measureAt}
-use Rattle.model.specs.Tables.{view}
-use Rattle.model.specs.Calls.{keptIn, engine}
-use Rattle.model.proofs.Calls.{call-unsound}
-use Rattle.ops.proofs.Calls.{Checked, by-check, called-at, called-refused, measuring}
-use Rattle.pool.proofs.Fresh.{parts}
+use Rattle.frames.proofs.Calls.{measuring}
 use Rattle.pool.proofs.measure.Statement.{statement}
 use Rattle.pool.proofs.measure.Tie as tie
 
 returns : tie.Need-returns
-unfolding rowBytes
-returns c =
-    let a = c .before .before .before .before .args in
-    let w = c .before .sound in
-    parts (sym (call-unsound rowBytes (engine rowBytes) (now (a .arena)) (keptIn (now (a .room)) (a .t)) (measures (a .handle)) tt
-    (sym (w .ensures) ∙ not-true (w .result) (c .if1 .taken)))) .0
+returns c = answers (refusing _ (keptIn _ _) (c .before .sound .ensures) (measures _) tt (c .if1 .taken))
 
 -- the tables are sound
 lent : (c : tie.Else1) → (let a = c .before .before .before .before .args in Checked rowBytes (now (a .arena)) (keptIn (now (a .room)) (a .t)))
-unfolding rowBytes
-lent c =
-    let a = c .before .before .before .before .args in
-    by-check (now (a .arena)) (keptIn (now (a .room)) (a .t)) (sym (c .before .sound .ensures) ∙ not-false (c .before .sound .result) (c .if1 .left))
-    card-row
+lent c = checked _ _ (c .before .sound .ensures) (c .if1 .left)
 
 locate-requires : tie.Need-locate-requires
 unfolding rowBytes
@@ -36,19 +21,20 @@ returns-2 : tie.Need-returns-2
 unfolding rowBytes
 returns-2 c =
     let z = c .before .before .before .before in
+    let r = lent z .form in
     let a = z .before .before .before .before .args in
-    let b = called-at (now (a .arena)) (lent z) (a .handle) (measureAt rowBytes (view rowBytes (now (a .room)))) (λ p. refl) (c .before .b .given .0 .0)
+    let b = called-at r (a .handle) (measureAt rowBytes (view rowBytes (now (a .room)))) (λ p. refl) (c .before .b .given .0 .0)
     (sym (c .before .b .given .1) ∙ c .before .before .before .locate .ensures) in
-    ap (λ b. done (b .alloc .size ∷ [])) (b .holds .block) ∙ parts (sym (measuring (now (a .arena)) (lent z) (a .handle) ∙ b .result)) .0
+    ap (λ b. done (b .alloc .size ∷ [])) (b .block) ∙ answers (sym (measuring r (a .handle) ∙ b .result))
 
 returns-3 : tie.Need-returns-3
 unfolding rowBytes
 returns-3 c =
     let z = c .before .before .before .before in
+    let r = lent z .form in
     let a = z .before .before .before .before .args in
-    parts (sym (measuring (now (a .arena)) (lent z) (a .handle)
-    ∙ called-refused (now (a .arena)) (lent z) (a .handle) (measureAt rowBytes (view rowBytes (now (a .room)))) (λ p. refl) (c .before .r .given .0 .0)
-    (sym (c .before .r .given .1) ∙ c .before .before .before .locate .ensures))) .0
+    answers (sym (measuring r (a .handle) ∙ called-refused r (a .handle) (measureAt rowBytes (view rowBytes (now (a .room)))) (λ p. refl)
+    (c .before .r .given .0 .0) (sym (c .before .r .given .1) ∙ c .before .before .before .locate .ensures)))
 
 pub measure-spec : {M : Type 1} → statement M
 measure-spec = tie.close (tie.spec (λ c κs. search needs) returns locate-requires (λ c. search needs) (λ c. search needs) returns-2 returns-3)

@@ -1,5 +1,5 @@
 -- By whether a list can be planned.
-use Rattle.mem.proofs.Prelude.{_∙_, sym, now, needs, not-false, not-true}
+use Rattle.pool.proofs.Kit.{_∙_, sym, now, needs, not-false, not-true}
 use Rattle.pool.proofs.Lists.{not-planned, is-planned}
 use Rattle.pool.proofs.plan_list.Statement.{statement}
 use Rattle.pool.proofs.plan_list.Tie as tie
@@ -15,10 +15,9 @@ full-caps-requires c κs = let w = c .before .before .plannable in sym (w .ensur
 
 returns-2 : tie.Need-returns-2
 returns-2 c =
-    let s = c .before .before .before .before in
+    let a = c .before .before .before .before .args in
     let g = c .full-caps in
-    is-planned (s .args .total) (s .args .cap) (now (s .args .sizes)) (full-caps-requires (c .before) (g .lifetimes)) (g .result) (g .last .1 .1 .0)
-    (g .ensures .0) (g .ensures .1)
+    is-planned (a .total) (a .cap) (now (a .sizes)) (full-caps-requires (c .before) (g .lifetimes)) (g .ensures .0) (g .ensures .1)
 
 pub plan-list-spec : {M : Type 1} → statement M
 plan-list-spec = tie.close (tie.spec (λ c κs. search needs) returns full-caps-requires returns-2)

@@ -1,47 +1,22 @@
 -- By what is located.
-use Rattle.mem.proofs.Prelude.{_∙_, _≡_, sym, ap, subst, _<_, arith, now, needs, not-false, not-true, leb, leb-false, length}
-use Rattle.classes.specs.Classes.{rowBytes, tooLarge}
-use Rattle.classes.specs.Alignments.{enlarged, Askable}
-use Rattle.classes.proofs.Laws.{card-row}
+use Rattle.pool.proofs.Kit.{_∙_, _≡_, sym, ap, subst, arith, now, needs, leb, rowBytes, tooLarge, enlarged, card-row, view}
+use Rattle.pool.proofs.Kit.{keptIn, engine, CarriedOutBy, Checked, Called, called-at, called-refused, carried-as, holds, told, checked, refusing}
 use Rattle.model.specs.State.{startOf}
-use Rattle.model.specs.Plans.{resizes, resizeAt, lookup, newSize, totals}
-use Rattle.model.specs.Tables.{view}
-use Rattle.model.specs.Calls.{keptIn, engine}
-use Rattle.model.proofs.Kept.{kept-totals}
-use Rattle.model.proofs.Calls.{call-unsound}
-use Rattle.model.proofs.Lookup.{fits}
-use Rattle.model.proofs.Formed.{code-kept}
+use Rattle.model.specs.Plans.{resizes, resizeAt, lookup}
 use Rattle.rows.specs.Rows.{looked}
 use Rattle.frames.specs.Blocks.{codeFound, judged, located}
-use Rattle.ops.specs.Blocks.{CarriedOut}
-use Rattle.frames.proofs.Places.{held-pool, Known, found-known, judged-looked, new-size}
-use Rattle.ops.proofs.Calls.{Checked, by-check, Called, called-at, called-refused, resizing, resize-names, resize-too-large}
-use Rattle.pool.proofs.Fresh.{parts, refused-as, carried-as}
+use Rattle.frames.proofs.Places.{held-pool, Known, found-known, judged-looked}
+use Rattle.ops.proofs.Calls.{askable}
+use Rattle.frames.proofs.Calls.{resizing, resize-names, resize-too-large}
 use Rattle.pool.proofs.resize.Statement.{statement}
 use Rattle.pool.proofs.resize.Tie as tie
 
 returns : tie.Need-returns
-unfolding rowBytes
-returns d =
-    let c = d .before in
-    let a = c .before .before .before .before .before .args in
-    let w = c .before .sound in
-    refused-as (d .refused .ensures)
-    (parts (sym (call-unsound rowBytes (engine rowBytes) (now (a .arena)) (keptIn (now (a .room)) (a .t)) (resizes (a .handle) (a .n)) tt
-    (sym (w .ensures) ∙ not-true (w .result) (c .if1 .taken)))))
+returns d = told (d .refused .ensures) ∙ refusing _ _ (d .before .before .sound .ensures) (resizes _ _) tt (d .before .if1 .taken)
 
 -- the tables are sound
 lent : (c : tie.Else1) → (let a = c .before .before .before .before .before .args in Checked rowBytes (now (a .arena)) (keptIn (now (a .room)) (a .t)))
-unfolding rowBytes
-lent c =
-    let a = c .before .before .before .before .before .args in
-    by-check (now (a .arena)) (keptIn (now (a .room)) (a .t)) (sym (c .before .sound .ensures) ∙ not-false (c .before .sound .result) (c .if1 .left))
-    card-row
-
-counts : (c : tie.Else1) → (let a = c .before .before .before .before .before .args in a .t ≡ totals rowBytes (view rowBytes (now (a .room))))
-unfolding rowBytes
-counts c = let a = c .before .before .before .before .before .args in kept-totals rowBytes (length (now (a .arena))) (keptIn (now (a .room)) (a .t))
-    (lent c .kept)
+lent c = checked _ _ (c .before .sound .ensures) (c .if1 .left)
 
 -- what is found at the handle's start
 known : (c : tie.After-find-block) → (let a = c .before .before .before .before .before .before .before .before .args in
@@ -57,13 +32,9 @@ find-block-requires c κs = (lent (c .before .before) .room .sound, card-row)
 
 -- it lies in the arena, and has an alignment that the tables keep
 found : (c : tie.After-find-block) → (let i = c .before .before .before in
-    let a = i .before .before .before .before .before .args in
-    Known (lent i .room) (startOf (a .handle)) (c .find-block .result))
+    Known (lent i .room) (startOf (i .before .before .before .before .before .args .handle)) (c .find-block .result))
 unfolding rowBytes
-found c =
-    let i = c .before .before .before in
-    let a = i .before .before .before .before .before .args in
-    subst (Known (lent i .room) (startOf (a .handle))) (sym (known c)) (found-known (lent i .room) (startOf (a .handle)))
+found c = subst (Known _ _) (sym (known c)) (found-known _ _)
 
 too-large-requires : tie.Need-too-large-requires
 too-large-requires c κs = omega (arith, c .code-found .ensures, found (c .before) .last-code)
@@ -74,17 +45,14 @@ tested : (c : tie.After-too-large) → (let f = c .before .before in
     leb tooLarge (enlarged (codeFound (looked rowBytes (lookup rowBytes (view rowBytes (now (a .room))) (startOf (a .handle))))) (a .n)) ≡ c .too-large .result)
 unfolding rowBytes
 tested c =
-    let f = c .before .before in
-    let a = f .before .before .before .before .before .before .before .before .args in
-    ap (λ k. leb tooLarge (enlarged k (a .n))) (ap codeFound (sym (known f)) ∙ sym (c .before .code-found .ensures)) ∙ sym (c .too-large .ensures)
+    let n = c .before .before .before .before .before .before .before .before .before .before .args .n in
+    ap (λ k. leb tooLarge (enlarged k n)) (ap codeFound (sym (known (c .before .before))) ∙ sym (c .before .code-found .ensures)) ∙ sym (c .too-large .ensures)
 
 returns-2 : tie.Need-returns-2
 unfolding rowBytes
 returns-2 d =
     let c = d .before in
-    let i = c .before .before .before .before .before .before in
-    let a = i .before .before .before .before .before .args in
-    refused-as (d .refused2 .ensures) (parts (sym (resize-too-large (now (a .arena)) (lent i) (a .handle) (a .n) (tested (c .before) ∙ c .if2 .taken))))
+    told (d .refused2 .ensures) ∙ sym (resize-too-large (lent (c .before .before .before .before .before .before) .form) _ _ (tested (c .before) ∙ c .if2 .taken))
 
 judge-requires : tie.Need-judge-requires
 unfolding rowBytes
@@ -105,41 +73,17 @@ judging c =
 block : (c : tie.After-known-told) → (let z = c .before .before .before .before .before .before .before .before .before .before .before in
     let a = z .before .before .before .before .before .args in
     let P = view rowBytes (now (a .room)) in
-    Called (now (a .arena)) (lent z) (a .handle) (resizeAt rowBytes P (a .n)) (resize-names rowBytes P (a .n)) (c .before .b .given .0 .0))
+    Called (lent z .form) (a .handle) (resizeAt rowBytes P (a .n)) (resize-names rowBytes P (a .n)) (c .before .b .given .0 .0))
 unfolding rowBytes
-block c =
-    let z = c .before .before .before .before .before .before .before .before .before .before .before in
-    let a = z .before .before .before .before .before .args in
-    let P = view rowBytes (now (a .room)) in
-    called-at (now (a .arena)) (lent z) (a .handle) (resizeAt rowBytes P (a .n)) (resize-names rowBytes P (a .n)) (c .before .b .given .0 .0)
-    (sym (c .before .b .given .1) ∙ judging (c .before .before .before))
-
--- its size is one that can be asked for
-small : (c : tie.After-known-told) → (let z = c .before .before .before .before .before .before .before .before .before .before .before in
-    Askable (c .before .b .given .0 .0 .alloc .align) (z .before .before .before .before .before .args .n))
-unfolding rowBytes
-small c =
-    let e = c .before .before .before .before .before in
-    let z = e .before .before .before .before .before .before in
-    let a = z .before .before .before .before .before .args in
-    let b = block c in
-    let o = b .looked-up in
-    let k = code-kept (b .place .cls) (b .place .state) (b .holds .live) (fits (b .place) (b .holds .formed) .state) in
-    let s = leb-false tooLarge (newSize (lookup rowBytes (view rowBytes (now (a .room))) (startOf (a .handle))) (a .n))
-    (ap (leb tooLarge) (sym (new-size rowBytes (lookup rowBytes (view rowBytes (now (a .room))) (startOf (a .handle))) (a .n))) ∙ tested (e .before)
-    ∙ e .if2 .left) in
-    subst (λ v. Askable v (a .n)) (sym (ap (λ b. b .alloc .align) (b .holds .block))) (record {
-      some-code = k .0;
-      last-code = k .1;
-      small = subst (λ q. newSize q (a .n) < tooLarge) o s;
-    })
+block c = called-at _ _ _ _ _ (sym (c .before .b .given .1) ∙ judging (c .before .before .before))
 
 change-size-requires : tie.Need-change-size-requires
 unfolding rowBytes
 change-size-requires c κs =
     let k = c .before .before in
-    let z = k .before .before .before .before .before .before .before .before .before .before .before in
-    ((lent z .room .sound, counts z), ((block k .place, block k .holds), (small k, card-row)))
+    let e = k .before .before .before .before .before in
+    let r = lent (e .before .before .before .before .before .before) in
+    ((r .room .sound, r .counts), ((block k .place, holds r (block k)), (askable r (block k) (tested (e .before) ∙ e .if2 .left), card-row)))
 
 returns-3 : tie.Need-returns-3
 unfolding rowBytes
@@ -149,13 +93,11 @@ returns-3 c =
     let z = e .before .before .before .before .before .before in
     let a = z .before .before .before .before .before .args in
     let b = block k in
+    let h = holds (lent z) b in
     let r = c .before .before .before .before .change-size in
-    let d : CarriedOut rowBytes (now (a .arena)) (resizeAt rowBytes (view rowBytes (now (a .room))) (a .n) (b .place)) (r .result .reply) (r .last .1 .0)
-    (r .last .1 .1 .0) (r .result .totals) =
-    subst (λ P. CarriedOut rowBytes (now (a .arena)) (resizeAt rowBytes P (a .n) (b .place)) (r .result .reply) (r .last .1 .0) (r .last .1 .1 .0)
-    (r .result .totals))
-    (sym (held-pool (lent z .room) (b .holds))) (r .ensures (b .place) (b .holds)) in
-    carried-as d (resizing (now (a .arena)) (lent z) (a .handle) (a .n) (tested (e .before) ∙ e .if2 .left) ∙ b .result)
+    let d = subst (λ P. CarriedOutBy (engine rowBytes) (now (a .arena)) (resizeAt rowBytes P (a .n) (b .place)) (r .result .reply) (r .last .1 .0)
+    (keptIn (r .last .1 .1 .0) (r .result .totals))) (sym (held-pool (lent z .room) h)) (r .ensures (b .place) h) in
+    carried-as d (resizing (lent z .form) (a .handle) (a .n) (tested (e .before) ∙ e .if2 .left) ∙ b .result)
 
 returns-4 : tie.Need-returns-4
 unfolding rowBytes
@@ -166,9 +108,9 @@ returns-4 d =
     let z = e .before .before .before .before .before .before in
     let a = z .before .before .before .before .before .args in
     let P = view rowBytes (now (a .room)) in
-    refused-as (d .refused3 .ensures) (parts (sym (resizing (now (a .arena)) (lent z) (a .handle) (a .n) (tested (e .before) ∙ e .if2 .left)
-    ∙ called-refused (now (a .arena)) (lent z) (a .handle) (resizeAt rowBytes P (a .n)) (resize-names rowBytes P (a .n)) (c .before .r .given .0 .0)
-    (sym (c .before .r .given .1) ∙ judging j))))
+    told (d .refused3 .ensures) ∙ sym (resizing (lent z .form) (a .handle) (a .n) (tested (e .before) ∙ e .if2 .left)
+    ∙ called-refused (lent z .form) (a .handle) (resizeAt rowBytes P (a .n)) (resize-names rowBytes P (a .n)) (c .before .r .given .0 .0)
+    (sym (c .before .r .given .1) ∙ judging j))
 
 pub resize-spec : {M : Type 1} → statement M
 resize-spec =

@@ -1,12 +1,8 @@
 -- Refused by the room's size, or done: zeros, and tables with no groups.
-use Rattle.mem.proofs.Prelude.{_∙_, sym, refl, _≤_, _*_, _/_, arith, now, needs, leb→le, length}
-use Rattle.mem.proofs.Tests.{and-left, and-right}
-use Rattle.classes.specs.Classes.{rowBytes}
-use Rattle.model.specs.Tables.{byMasks, arenaRight, roomBytes}
-use Rattle.model.specs.Calls.{keptIn, engine}
+use Rattle.pool.proofs.Kit.{_∙_, sym, ap₂, refl, _/_, now, needs, length, rowBytes, keptIn, engine, whole, told}
+use Rattle.model.specs.Tables.{byMasks}
 use Rattle.model.proofs.Fresh.{fresh-totals}
-use Rattle.fresh.proofs.SetUp.{Fitting, fitting, set-up-refused, set-up-made, formatted}
-use Rattle.pool.proofs.Fresh.{parts, refused-as}
+use Rattle.fresh.proofs.SetUp.{Fitting, fitting, set-up-refused, set-up-made, formatted, formattable}
 use Rattle.pool.proofs.set_up.Statement.{statement}
 use Rattle.pool.proofs.set_up.Tie as tie
 
@@ -14,54 +10,36 @@ returns : tie.Need-returns
 returns d =
     let c = d .before in
     let a = c .before .before .before .before .args in
-    let r = c .before .room-len in
-    let e = sym (set-up-refused rowBytes (engine rowBytes) (now (a .arena)) (keptIn (now (a .room)) (a .t)) (now (a .room)) refl (λ h. sym (r .ensures)
-    ∙ c .if1 .taken)) in
-    refused-as (d .refused .ensures) (parts e)
+    told (d .refused .ensures) ∙ sym (set-up-refused rowBytes (engine rowBytes) (now (a .arena)) (keptIn (now (a .room)) (a .t)) (now (a .room)) refl
+    (λ h. sym (c .before .room-len .ensures) ∙ c .if1 .taken))
 
 returns-2 : tie.Need-returns-2
 returns-2 d =
     let c = d .before in
     let a = c .before .before .before .before .before .args in
-    let r = c .before .before .room-len in
-    let e = sym (set-up-refused rowBytes (engine rowBytes) (now (a .arena)) (keptIn (now (a .room)) (a .t)) (now (a .room)) refl (λ h. absurd (c .if2 .taken
-    (h ∙ sym (r .ensures))))) in
-    refused-as (d .refused2 .ensures) (parts e)
+    told (d .refused2 .ensures) ∙ sym (set-up-refused rowBytes (engine rowBytes) (now (a .arena)) (keptIn (now (a .room)) (a .t)) (now (a .room)) refl
+    (λ h. absurd (c .if2 .taken (h ∙ sym (c .before .before .room-len .ensures)))))
+
+-- the room has the size that the arena asks for
+fit : (c : tie.Else2) → (let a = c .before .before .before .before .before .args in
+    Fitting rowBytes (engine rowBytes) (now (a .arena)) (keptIn (now (a .room)) (a .t)) (now (a .room)) refl)
+fit c =
+    let e = c .before .before .room-len .ensures in fitting rowBytes _ _ _ _ refl (c .if2 .left ∙ e) (λ z. c .before .if1 .left (e ∙ z))
 
 format-requires : tie.Need-format-requires
-unfolding rowBytes arenaRight roomBytes
-format-requires c κs =
-    let a = c .before .before .before .before .before .before .before .before .before .before .args in
-    let r = c .before .before .before .before .before .before .before .room-len in
-    let m = length (now (a .arena)) in
-    let f : Fitting rowBytes (engine rowBytes) (now (a .arena)) (keptIn (now (a .room)) (a .t)) (now (a .room)) refl =
-    fitting rowBytes (engine rowBytes) (now (a .arena)) (keptIn (now (a .room)) (a .t)) (now (a .room)) refl
-    (c .before .before .before .before .before .if2 .left ∙ r .ensures)
-    (λ z. c .before .before .before .before .before .before .if1 .left (r .ensures ∙ z)) in
-    let t = f .lawful in
-    let l : m ≤ 512 * 512 = leb→le m (512 * 512) (search (and-left, and-right)) in
-    (omega (arith, f .long), omega arith)
+format-requires c κs = formattable (fit (c .before .before .before .before .before))
 
 returns-3 : tie.Need-returns-3
 unfolding rowBytes
 returns-3 c =
-    let a = c .before .before .before .before .before .before .before .before .before .before .before .before .before .args in
-    let r = c .before .before .before .before .before .before .before .before .before .before .room-len in
-    let f =
-    fitting rowBytes (engine rowBytes) (now (a .arena)) (keptIn (now (a .room)) (a .t)) (now (a .room)) refl
-    (c .before .before .before .before .before .before .before .before .if2 .left ∙ r .ensures)
-    (λ z. c .before .before .before .before .before .before .before .before .before .if1 .left (r .ensures ∙ z)) in
-    let e = parts (sym (set-up-made rowBytes (engine rowBytes) (now (a .arena)) (keptIn (now (a .room)) (a .t)) (now (a .room)) refl f)) in (
-      e .0,
-      (
-        c .before .before .before .before .before .before .fill-zero .ensures ∙ e .1 .0,
-        (
-          c .before .before .format .ensures ∙ formatted rowBytes (engine rowBytes) (now (a .arena)) (keptIn (now (a .room)) (a .t)) (now
-              (a .room)) refl byMasks f ∙ e .1 .1 .0,
-          sym (fresh-totals rowBytes (length (now (a .arena)) / rowBytes)) ∙ e .1 .1 .1,
-        ),
-      ),
-    )
+    let w = c .before .before in
+    let z = w .before .before .before .before in
+    let e = z .before .before in
+    let a = e .before .before .before .before .before .args in
+    let k = keptIn (now (a .room)) (a .t) in
+    whole refl (z .fill-zero .ensures) (ap₂ keptIn (w .format .ensures ∙ formatted rowBytes (engine rowBytes) (now (a .arena)) k (now (a .room)) refl byMasks
+    (fit e)) (sym (fresh-totals rowBytes (length (now (a .arena)) / rowBytes))))
+    ∙ sym (set-up-made rowBytes (engine rowBytes) (now (a .arena)) k (now (a .room)) refl (fit e))
 
 pub set-up-spec : {M : Type 1} → statement M
 set-up-spec =

@@ -1,5 +1,5 @@
 -- `slot_at` meets its contract.
-use Rattle.mem.proofs.Prelude.{_∙_, _≡_, sym, ap, ap₂, true, Bool, false, List, _+_, ℕ, _*_, _/_, _^_, _%_, add-zero, add-assoc, now, needs, eq-eqb}
+use Rattle.mem.proofs.Prelude.{_∙_, _≡_, sym, ap, ap₂, true, Bool, false, List, _+_, ℕ, _*_, _/_, _^_, _%_, add-assoc, now, needs, eq-eqb}
 use Rattle.mem.proofs.Prelude.{ne-eqb, eqb, lit≤, drop, getD, drop-drop}
 use Rattle.mem.specs.Lists.{choose}
 use Rattle.mem.specs.Bytes.{number, part}
@@ -24,18 +24,18 @@ module _ (q : ℕ) (t : List ℕ) where
   size = ap number (part-part q 8 4 3 t (lit≤ tt))
 
   ready : (w : Bool) → viewSlot true w (part q 8 t)
-      ≡ choose (eqb (getD t q 0) 0) Slot.Fresh (Slot.Idle true (getD t (q + 1) 0) (number (part (q + 2) 2 t)))
+      ≡ choose (eqb (getD t (q + 0) 0) 0) Slot.Fresh (Slot.Idle true (getD t (q + 1) 0) (number (part (q + 2) 2 t)))
   unfolding viewSlot
-  ready w = rw (getD-part q 8 t 0 0 (lit≤ tt), add-zero, count, disp)
+  ready w = rw (getD-part q 8 t 0 0 (lit≤ tt), count, disp)
 
   waiting : viewSlot false true (part q 8 t) ≡ Slot.Idle false (getD t (q + 1) 0) (number (part (q + 2) 2 t))
   unfolding viewSlot
   waiting = ap₂ (Slot.Idle false) count disp
 
   live : viewSlot false false (part q 8 t)
-      ≡ Slot.Live (record { count = getD t (q + 1) 0; disp = number (part (q + 2) 2 t); size = number (part (q + 4) 3 t); align = getD t q 0 })
+      ≡ Slot.Live (record { count = getD t (q + 1) 0; disp = number (part (q + 2) 2 t); size = number (part (q + 4) 3 t); align = getD t (q + 0) 0 })
   unfolding viewSlot
-  live = rw (getD-part q 8 t 0 0 (lit≤ tt), add-zero, count, disp, size)
+  live = rw (getD-part q 8 t 0 0 (lit≤ tt), count, disp, size)
 
 -- slot j of the row whose record stands at p
 module _ (i j p : ℕ) (m : Masks) (t : List ℕ) (e : p ≡ rowAt i) where
@@ -43,16 +43,16 @@ module _ (i j p : ℕ) (m : Masks) (t : List ℕ) (e : p ≡ rowAt i) where
   unfolding slotIn
   slot = rw (← e, drop-drop, ← add-assoc)
 
-  read-fresh : m .ready / 2 ^ j % 2 ≡ 1 → getD t (p + 16 + 8 * j) 0 ≡ 0 → Slot.Fresh ≡ slotIn m j (drop (rowAt i) t)
+  read-fresh : m .ready / 2 ^ j % 2 ≡ 1 → getD t (p + 16 + 8 * j + 0) 0 ≡ 0 → Slot.Fresh ≡ slotIn m j (drop (rowAt i) t)
   read-fresh h k =
       sym (slot ∙ rw (eq-eqb (m .ready / 2 ^ j % 2) 1 h) (ready (p + 16 + 8 * j) t (has j (m .waiting))
-      ∙ choose-true _ _ _ (eq-eqb (getD t (p + 16 + 8 * j) 0) 0 k)))
+      ∙ choose-true _ _ _ (eq-eqb (getD t (p + 16 + 8 * j + 0) 0) 0 k)))
 
-  read-ready : (d : ℕ) → m .ready / 2 ^ j % 2 ≡ 1 → (getD t (p + 16 + 8 * j) 0 ≡ 0 → ⊥) → d ≡ number (part (p + 16 + 8 * j + 2) 2 t)
+  read-ready : (d : ℕ) → m .ready / 2 ^ j % 2 ≡ 1 → (getD t (p + 16 + 8 * j + 0) 0 ≡ 0 → ⊥) → d ≡ number (part (p + 16 + 8 * j + 2) 2 t)
       → Slot.Idle true (getD t (p + 16 + 8 * j + 1) 0) d ≡ slotIn m j (drop (rowAt i) t)
   read-ready d h k f =
       sym (slot ∙ rw (eq-eqb (m .ready / 2 ^ j % 2) 1 h, f) (ready (p + 16 + 8 * j) t (has j (m .waiting))
-      ∙ choose-false _ _ _ (ne-eqb (getD t (p + 16 + 8 * j) 0) 0 k)))
+      ∙ choose-false _ _ _ (ne-eqb (getD t (p + 16 + 8 * j + 0) 0) 0 k)))
 
   read-waiting : (d : ℕ) → (m .ready / 2 ^ j % 2 ≡ 1 → ⊥) → m .waiting / 2 ^ j % 2 ≡ 1 → d ≡ number (part (p + 16 + 8 * j + 2) 2 t)
       → Slot.Idle false (getD t (p + 16 + 8 * j + 1) 0) d ≡ slotIn m j (drop (rowAt i) t)
@@ -61,7 +61,7 @@ module _ (i j p : ℕ) (m : Masks) (t : List ℕ) (e : p ≡ rowAt i) where
 
   read-live : (d n : ℕ) → (m .ready / 2 ^ j % 2 ≡ 1 → ⊥) → (m .waiting / 2 ^ j % 2 ≡ 1 → ⊥) → d ≡ number (part (p + 16 + 8 * j + 2) 2 t)
       → n ≡ number (part (p + 16 + 8 * j + 4) 3 t)
-      → Slot.Live (record { count = getD t (p + 16 + 8 * j + 1) 0; disp = d; size = n; align = getD t (p + 16 + 8 * j) 0 }) ≡ slotIn m j (drop (rowAt i) t)
+      → Slot.Live (record { count = getD t (p + 16 + 8 * j + 1) 0; disp = d; size = n; align = getD t (p + 16 + 8 * j + 0) 0 }) ≡ slotIn m j (drop (rowAt i) t)
   read-live d n h k f g =
       sym (slot ∙ rw (ne-eqb (m .ready / 2 ^ j % 2) 1 h, ne-eqb (m .waiting / 2 ^ j % 2) 1 k, f, g) (live (p + 16 + 8 * j) t))
 
@@ -95,7 +95,7 @@ returns-4 c =
 
 pub slot-at-spec : {M : Type 1} → statement M
 slot-at-spec =
-    tie.close (tie.spec (λ c κs. search needs) (λ c. search needs) (λ c. search needs) (λ c. search needs) (λ c. search needs) (λ c. search needs) returns
+    tie.close (tie.spec (λ c κs. search needs) (λ c. search needs) (λ c. search needs) (λ c. search needs) (λ c. search needs) (λ c. search needs) (λ c. search needs) returns
     (λ c. search needs) (λ c. search needs) (λ c. search needs) (λ c κs. search needs) returns-2 (λ c. search needs) (λ c. search needs)
     (λ c. search needs) (λ c. search needs) (λ c κs. search needs) returns-3 (λ c. search needs) (λ c. search needs) (λ c. search needs)
-    (λ c κs. search needs) (λ c. search needs) (λ c κs. search needs) (λ c. search needs) returns-4)
+    (λ c κs. search needs) (λ c. search needs) (λ c κs. search needs) (λ c. search needs) (λ c. search needs) returns-4)

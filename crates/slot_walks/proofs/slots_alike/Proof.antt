@@ -14,5 +14,5 @@ returns-3 c e = absurd (true≢false (sym e))
 
 pub slots-alike-spec : {M : Type 1} → statement M
 slots-alike-spec =
-    tie.close (tie.spec (λ c κs. search needs) returns (λ c. search needs) (λ c. search needs) (λ c. search needs) returns-2 returns-3
+    tie.close (tie.spec (λ c κs. search needs) returns (λ c. search needs) (λ c. search needs) (λ c. search needs) (λ c. search needs) returns-2 returns-3
     (λ c κs. search needs) (λ c. search needs))

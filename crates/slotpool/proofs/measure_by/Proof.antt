@@ -1,13 +1,11 @@
 -- `measure_by` meets its contract.
-use Rattle.mem.proofs.Prelude.{_∙_, ap, needs, getD}
-use Rattle.model.specs.Answers.{Answer}
+use Rattle.mem.proofs.Prelude.{needs}
+use Rattle.model.specs.Answers.{replyAnswer}
+use Rattle.answers.proofs.Gives.{tells}
 use Rattle.slotpool.proofs.measure_by.Statement.{statement}
 use Rattle.slotpool.proofs.measure_by.Tie as tie
 
-returns : tie.Need-returns
-returns c =
-    let r = c .before .before .measure .ensures in
-    (c .number-of .ensures ∙ ap (λ (a : Answer). a .number) r, c .before .value-of .ensures ∙ ap (λ (a : Answer). getD (a .values) 0 0) r)
-
 pub measure-by-spec : {M : Type 1} → statement M
-measure-by-spec = tie.close (tie.spec (λ c κs. search needs) (λ c κs. search needs) (λ c κs. search needs) returns)
+measure-by-spec = tie.close (tie.spec (λ c κs. search needs) (λ c κs. search needs) (λ c κs. search needs) (λ c.
+    let k = c .before .before .measure in
+    tells (replyAnswer (k .result)) (c .number-of .ensures) (c .before .value-of .ensures) (k .ensures)))

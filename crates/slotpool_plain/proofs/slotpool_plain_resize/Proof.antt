@@ -1,14 +1,11 @@
+-- `slotpool_plain_resize` meets its contract.
 use Rattle.mem.proofs.Prelude.{needs}
 use Rattle.model.specs.Answers.{replyAnswer}
-use Rattle.slotpool_plain.proofs.Gives.{gives}
+use Rattle.answers.proofs.Gives.{gives}
 use Rattle.slotpool_plain.proofs.slotpool_plain_resize.Statement.{statement}
 use Rattle.slotpool_plain.proofs.slotpool_plain_resize.Tie as tie
 
-returns : tie.Need-returns
-returns c =
-    let k = c .before .before .before .before .before .before .resize in
-    gives (replyAnswer (k .result)) (c .number-of .ensures) (c .before .value-of .ensures) (k .ensures)
-
 pub slotpool-plain-resize-spec : {M : Type 1} → statement M
-slotpool-plain-resize-spec = tie.close (tie.spec (λ c κs. search needs) (λ c κs. search needs) (λ c κs. search needs)
-    (λ c. search needs) (λ c. search needs) returns)
+slotpool-plain-resize-spec = tie.close (tie.spec (λ c κs. search needs) (λ c κs. search needs) (λ c κs. search needs) (λ c. search needs) (λ c. search needs) (λ c.
+    let k = c .before .before .before .before .before .before .resize in
+    gives (replyAnswer (k .result)) (c .number-of .ensures) (c .before .value-of .ensures) (k .ensures)))
