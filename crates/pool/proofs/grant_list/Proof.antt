@@ -1,11 +1,11 @@
 -- Test by test, in the order of the answers; then all sizes are granted.
-use Rattle.pool.proofs.Kit.{_∙_, _≡_, sym, ap₂, true, _&&_, now, needs, not-false, leb, length, rowBytes, card-row, view, keptIn}
+use Rattle.pool.proofs.Kit.{sym, ap₂, now, needs, rowBytes, card-row, keptIn}
 use Rattle.pool.proofs.Kit.{Checked, told-list, checked, refusing}
-use Rattle.mem.specs.Lists.{isSome}
 use Rattle.model.specs.declared.Refusal.the-variants.{Unsound}
-use Rattle.model.specs.Proposals.{entries, accepts, plannable}
-use Rattle.model.specs.Plans.{grantsList, reserveAll}
-use Rattle.frames.proofs.Listed.{refused-list, short-enough, not-plannable, few-places, not-accepted, not-fitting, granted-list, small-sizes, few-sizes}
+use Rattle.model.specs.Proposals.{entries}
+use Rattle.model.specs.Plans.{grantsList}
+use Rattle.frames.proofs.Listed.{Proposal, proposal, passing, refused-list, not-plannable, few-places, not-accepted, not-fitting, granted-list}
+use Rattle.frames.proofs.Listed.{small-sizes, few-sizes}
 use Rattle.pool.proofs.grant_list.Statement.{statement}
 use Rattle.pool.proofs.grant_list.Tie as tie
 
@@ -30,64 +30,48 @@ returns-3 z =
     let c = z .before in
     told-list (z .refused3 .ensures) (few-places (lent (c .before .before .before) .form) _ _ _ _ (c .if3 .taken))
 
--- the list is short enough, and has its places
-short : (c : tie.Else3) → (let a = c .before .before .before .before .before .before .before .before .before .before .args in
-    (plannable (a .total) (a .cap) && leb entries (length (now (a .handles)))) ≡ true)
-unfolding entries
-short c =
-    let a = c .before .before .before .before .before .before .before .before .before .before .args in
-    short-enough (a .total) (a .cap) (now (a .handles)) (c .before .before .plannable .ensures) (c .before .if2 .left) (c .if3 .left)
-
 returns-4 : tie.Need-returns-4
-unfolding rowBytes
+unfolding rowBytes entries
 returns-4 z =
     let c = z .before in
     let d = c .before .before in
-    told-list (z .refused4 .ensures) (not-accepted (lent (d .before .before .before) .form) _ _ _ _ (short d) (c .before .accepts .ensures) (c .if4 .taken))
+    told-list (z .refused4 .ensures) (not-accepted _ _ _ (d .before .before .plannable .ensures) (d .before .if2 .left) (d .if3 .left) (lent (d .before .before .before) .form) _ (c .before .accepts .ensures)
+    (c .if4 .taken))
 
--- the proposal is accepted, so its sizes are small and few
+-- the list is short enough and has its places, and the proposal is accepted
 right : (c : tie.Else4) → (let a = c .before .before .before .before .before .before .before .before .before .before .before .before .args in
-    accepts (a .total) (a .cap) (now (a .sizes)) ≡ true)
-right c = let w = c .before .accepts in sym (w .ensures) ∙ not-false (w .result) (c .if4 .left)
+    Proposal (a .total) (a .cap) (now (a .handles)) (now (a .sizes)))
+unfolding entries
+right c =
+    let d = c .before .before in
+    proposal _ _ _ (d .before .before .plannable .ensures) (d .before .if2 .left) (d .if3 .left) (c .before .accepts .ensures) (c .if4 .left)
 
 fits-requires : tie.Need-fits-requires
 unfolding rowBytes
-fits-requires c κs =
-    let d = c .before in (lent (d .before .before .before .before .before) .room .sound, (small-sizes _ _ _ (right d), card-row))
+fits-requires c κs = (lent (c .before .before .before .before .before .before) .room .sound, (small-sizes (right (c .before)), card-row))
 
 returns-5 : tie.Need-returns-5
 unfolding rowBytes
 returns-5 z =
     let c = z .before in
     let d = c .before .before .before in
-    let k = d .before .before in
-    told-list (z .refused5 .ensures) (not-fitting (lent (k .before .before .before) .form) _ _ _ _ (short k) (right d) (c .before .fits2 .ensures) (c .if5 .taken))
-
--- all of it fits
-fit : (c : tie.Else5) → (let d = c .before .before .before in
-    let a = d .before .before .before .before .before .before .before .before .before .before .before .before .args in
-    isSome (reserveAll rowBytes (view rowBytes (now (a .room))) (now (a .sizes))) ≡ true)
-unfolding rowBytes
-fit c = let w = c .before .fits2 in sym (w .ensures) ∙ not-false (w .result) (c .if5 .left)
+    told-list (z .refused5 .ensures) (not-fitting (lent (d .before .before .before .before .before) .form) (right d) (c .before .fits2 .ensures) (c .if5 .taken))
 
 grant-all-requires : tie.Need-grant-all-requires
-unfolding rowBytes entries
+unfolding rowBytes
 grant-all-requires c κs =
     let e = c .before .before .before in
-    let d = e .before .before .before in
-    let k = d .before .before in
-    let r = lent (k .before .before .before) in
-    let l = now (k .before .before .before .before .before .before .before .before .before .before .args .handles) in
-    (r .room .sound, ((small-sizes _ _ _ (right d), few-sizes _ _ l _ (right d) (k .if3 .left)), ((fit e, r .counts), card-row)))
+    let p = right (e .before .before .before) in
+    let r = lent (e .before .before .before .before .before .before .before .before) in
+    (r .room .sound, ((small-sizes p, few-sizes p), ((passing (e .before .fits2 .ensures) (e .if5 .left), r .counts), card-row)))
 
 returns-6 : tie.Need-returns-6
 unfolding rowBytes
 returns-6 c =
     let g = c .before .before .before .before .before .before .grant-all .ensures in
     let e = c .before .before .before .before .before .before .before .before .before .before in
-    let d = e .before .before .before in
-    let k = d .before .before in
-    granted-list (lent (k .before .before .before) .form) _ _ _ _ (short k) (right d) (fit e) (g .1 .1 .0) (g .0) (ap₂ keptIn (g .1 .0) (g .1 .1 .1))
+    granted-list (lent (e .before .before .before .before .before .before .before .before) .form) (right (e .before .before .before)) (e .before .fits2 .ensures)
+    (e .if5 .left) (g .1 .1 .0) (g .0) (ap₂ keptIn (g .1 .0) (g .1 .1 .1))
 
 pub grant-list-spec : {M : Type 1} → statement M
 grant-list-spec =
