@@ -1,6 +1,6 @@
 -- What a list call leaves, by the tests of the code in their order, in any lawful form of the tables. A test is what a call said, which the code negates.
-use Rattle.mem.proofs.Prelude.{_∙_, _≡_, sym, ap, ap₂, Bool, true, false, _&&_, not, not-true, not-false, and-false, List, map, ℕ, _<_, _≤_, leb, le-leb, lt-leb}
-use Rattle.mem.proofs.Prelude.{length, leb→le, arith}
+use Rattle.mem.proofs.Prelude.{_∙_, _≡_, sym, ap, ap₂, Bool, true, false, _&&_, not, not-true, not-false, and-false, List, map, ℕ, _<_, _≤_, leb, le-leb}
+use Rattle.mem.proofs.Prelude.{lt-leb, length, leb→le, arith}
 use Rattle.mem.specs.Lists.{isSome}
 use Rattle.mem.specs.Bytes.{put}
 use Rattle.mem.proofs.Tests.{and-right, true-T, T-true}

@@ -28,16 +28,15 @@ returns-4 : tie.Need-returns-4
 unfolding rowBytes entries
 returns-4 c =
     let d = c .before .before in
-    not-accepted _ _ _ (d .before .before .plannable .ensures) (d .before .if2 .left) (d .if3 .left) (lent (d .before .before .before)) _ (c .before .accepts .ensures)
-    (c .if4 .taken)
+    not-accepted _ _ _ (d .before .before .plannable .ensures) (d .before .if2 .left) (d .if3 .left) (lent (d .before .before .before))
+    _ (c .before .accepts .ensures) (c .if4 .taken)
 
 -- the list is short enough and has its places, and the proposal is accepted
 right : (c : tie.Else4) → (let a = c .before .before .before .before .before .before .before .before .before .before .before .before .args in
     Proposal (a .total) (a .cap) (now (a .handles)) (now (a .sizes)))
 unfolding entries
-right c =
-    let d = c .before .before in
-    proposal _ _ _ (d .before .before .plannable .ensures) (d .before .if2 .left) (d .if3 .left) (c .before .accepts .ensures) (c .if4 .left)
+right c = proposal _ _ _ (c .before .before .before .before .plannable .ensures) (c .before .before .before .if2 .left) (c .before .before .if3 .left)
+    (c .before .accepts .ensures) (c .if4 .left)
 
 fits-requires : tie.Need-fits-requires
 unfolding rowBytes

@@ -35,8 +35,8 @@ unfolding rowBytes entries
 returns-4 z =
     let c = z .before in
     let d = c .before .before in
-    told-list (z .refused4 .ensures) (not-accepted _ _ _ (d .before .before .plannable .ensures) (d .before .if2 .left) (d .if3 .left) (lent (d .before .before .before) .form) _ (c .before .accepts .ensures)
-    (c .if4 .taken))
+    told-list (z .refused4 .ensures) (not-accepted _ _ _ (d .before .before .plannable .ensures) (d .before .if2 .left) (d .if3 .left)
+    (lent (d .before .before .before) .form) _ (c .before .accepts .ensures) (c .if4 .taken))
 
 -- the list is short enough and has its places, and the proposal is accepted
 right : (c : tie.Else4) → (let a = c .before .before .before .before .before .before .before .before .before .before .before .before .args in
@@ -55,7 +55,8 @@ unfolding rowBytes
 returns-5 z =
     let c = z .before in
     let d = c .before .before .before in
-    told-list (z .refused5 .ensures) (not-fitting (lent (d .before .before .before .before .before) .form) (right d) (c .before .fits2 .ensures) (c .if5 .taken))
+    told-list (z .refused5 .ensures) (not-fitting (lent (d .before .before .before .before .before) .form) (right d) (c .before .fits2 .ensures)
+    (c .if5 .taken))
 
 grant-all-requires : tie.Need-grant-all-requires
 unfolding rowBytes
@@ -70,8 +71,8 @@ unfolding rowBytes
 returns-6 c =
     let g = c .before .before .before .before .before .before .grant-all .ensures in
     let e = c .before .before .before .before .before .before .before .before .before .before in
-    granted-list (lent (e .before .before .before .before .before .before .before .before) .form) (right (e .before .before .before)) (e .before .fits2 .ensures)
-    (e .if5 .left) (g .1 .1 .0) (g .0) (ap₂ keptIn (g .1 .0) (g .1 .1 .1))
+    granted-list (lent (e .before .before .before .before .before .before .before .before) .form) (right (e .before .before .before))
+    (e .before .fits2 .ensures) (e .if5 .left) (g .1 .1 .0) (g .0) (ap₂ keptIn (g .1 .0) (g .1 .1 .1))
 
 pub grant-list-spec : {M : Type 1} → statement M
 grant-list-spec =

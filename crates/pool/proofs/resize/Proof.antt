@@ -41,7 +41,8 @@ returns-2 : tie.Need-returns-2
 unfolding rowBytes
 returns-2 d =
     let c = d .before in
-    told (d .refused2 .ensures) ∙ sym (resize-too-large (lent (c .before .before .before .before .before .before) .form) _ _ (tested (c .before) ∙ c .if2 .taken))
+    told (d .refused2 .ensures) ∙ sym (resize-too-large (lent (c .before .before .before .before .before .before) .form) _ _
+    (tested (c .before) ∙ c .if2 .taken))
 
 judge-requires : tie.Need-judge-requires
 unfolding rowBytes

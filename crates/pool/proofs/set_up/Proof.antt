@@ -35,8 +35,9 @@ returns-3 c =
     let e = c .before .before .before .before .before .before .before .before in
     let a = e .before .before .before .before .before .args in
     let k = keptIn (now (a .room)) (a .t) in
-    whole refl (c .before .before .before .before .before .before .fill-zero .ensures) (ap₂ keptIn (c .before .before .format .ensures ∙ formatted rowBytes (engine rowBytes) (now (a .arena)) k (now (a .room)) refl byMasks
-    (fit e)) (sym (fresh-totals rowBytes (length (now (a .arena)) / rowBytes))))
+    whole refl (c .before .before .before .before .before .before .fill-zero .ensures) (ap₂ keptIn
+    (c .before .before .format .ensures ∙ formatted rowBytes (engine rowBytes) (now (a .arena)) k (now (a .room)) refl byMasks (fit e))
+    (sym (fresh-totals rowBytes (length (now (a .arena)) / rowBytes))))
     ∙ sym (set-up-made rowBytes (engine rowBytes) (now (a .arena)) k (now (a .room)) refl (fit e))
 
 pub set-up-spec : {M : Type 1} → statement M
