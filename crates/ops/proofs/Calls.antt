@@ -1,8 +1,9 @@
 -- The first engine's calls by what the code finds: those over any form (frames/proofs/Calls), for tables that are lent with their totals.
 use Rattle.mem.proofs.Prelude.{_∙_, _≡_, sym, ap, ap₂, subst, true, Bool, false, not, not-false, not-true, Option, List, ℕ, _<_, leb, leb-false, length}
 use Rattle.mem.specs.Bytes.{put}
-use Rattle.classes.specs.Classes.{Lawful, tooLarge}
+use Rattle.classes.specs.Classes.{Lawful, rowBytes, tooLarge}
 use Rattle.classes.specs.Alignments.{enlarged, Askable}
+use Rattle.classes.proofs.Laws.{card-row}
 use Rattle.model.specs.declared.Refusal.the-variants.{NoRoom}
 use Rattle.model.specs.declared.Reply.{Reply}
 use Rattle.model.specs.declared.Totals.{Totals}
@@ -38,13 +39,15 @@ by-check {row} a t s law =
     let r = by-masks (kept-sound row (length a) t s) law in
     record { form = record { laws = engine-lawful row (r .pos); sound = s }; room = r; counts = kept-totals row (length a) t s }
 
--- by what the check said, which the code negates
-module _ (row : ℕ) (a : List ℕ) (t : KeptBytes) {w : Bool} (e : w ≡ soundKept row (length a) t) where
-  pub passed : Lawful row → not w ≡ false → Checked row a t
-  passed law h = by-check a t (sym e ∙ not-false w h) law
+-- by what the check of a row's 512 bytes said, which the code negates
+module _ (a : List ℕ) (t : KeptBytes) {w : Bool} (e : w ≡ soundKept 512 (length a) t) where
+  pub checked : not w ≡ false → Checked rowBytes a t
+  unfolding rowBytes
+  checked h = by-check a t (sym e ∙ not-false w h) card-row
 
-  pub not-sound : (c : Call) → Asks c → not w ≡ true → keeps (unsound c) a t ≡ call row a t c
-  not-sound c k h = sym (call-unsound row (engine row) a t c k (sym e ∙ not-true w h))
+  pub refusing : (c : Call) → Asks c → not w ≡ true → keeps (unsound c) a t ≡ call rowBytes a t c
+  unfolding rowBytes
+  refusing c k h = sym (call-unsound rowBytes (engine rowBytes) a t c k (sym e ∙ not-true w h))
 
 module _ {row : ℕ} {a : List ℕ} {t : KeptBytes} (r : Checked row a t) where
   -- ---- grant

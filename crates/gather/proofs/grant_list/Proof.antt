@@ -1,13 +1,17 @@
 -- Test by test, in the order of the answers; then all sizes are granted.
-use Rattle.pool.proofs.Kit.{sym, ap₂, now, needs, rowBytes, card-row, keptIn}
-use Rattle.pool.proofs.Kit.{Checked, told-list, checked, refusing}
+use Rattle.mem.proofs.Prelude.{sym, ap₂, now, needs}
+use Rattle.classes.specs.Classes.{rowBytes}
+use Rattle.classes.proofs.Laws.{card-row}
+use Rattle.model.specs.Calls.{keptIn}
+use Rattle.ops.proofs.Calls.{Checked, checked, refusing}
+use Rattle.gather.proofs.Lists.{told-list}
 use Rattle.model.specs.declared.Refusal.the-variants.{Unsound}
 use Rattle.model.specs.Proposals.{entries}
 use Rattle.model.specs.Plans.{grantsList}
 use Rattle.frames.proofs.Listed.{Proposal, proposal, passing, refused-list, not-plannable, few-places, not-accepted, not-fitting, granted-list}
 use Rattle.frames.proofs.Listed.{small-sizes, few-sizes}
-use Rattle.pool.proofs.grant_list.Statement.{statement}
-use Rattle.pool.proofs.grant_list.Tie as tie
+use Rattle.gather.proofs.grant_list.Statement.{statement}
+use Rattle.gather.proofs.grant_list.Tie as tie
 
 returns : tie.Need-returns
 returns d = told-list (d .refused .ensures) (refused-list Unsound _ (sym (refusing _ _ (d .before .before .sound .ensures) (grantsList _ _ _ _) tt
