@@ -274,7 +274,7 @@ module _ (row : ℕ) (pos : 0 < row) (F : Form) (L : FormLaws row F) (a : List �
         served =
             ⊎-elim (λ o. inl (record {
               there = o .there .split ∙ ap₂ (λ X Y. X ++ (group c (s .slots) ∷ Y)) (sym b) (sym f);
-              not-live = o .there .kept;
+              not-live = o .there .room;
               lowest = subst (λ X. AllLive X c) (sym b) (o .lowest);
             }))
             (λ o. inr (record {

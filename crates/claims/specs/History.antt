@@ -65,7 +65,7 @@ booked l c r = let e = entered l c r in choose (eqb (r .number) 0) e l
 -- the ledger, and what is lent for the tables after calls; it is always lent as the last call left it
 pub record Books (R : Type 0) : Type 0 where
   pub ledger : Ledger
-  pub booksAfter : R
+  pub kept : R
 
 -- the rules, of totals and the arena's length
 pub record Balances (row : ℕ) (l : Ledger) (s : Totals) (n : ℕ) : Type 0 where
@@ -75,7 +75,7 @@ pub record Balances (row : ℕ) (l : Ledger) (s : Totals) (n : ℕ) : Type 0 whe
 
 module _ (row : ℕ) (F : Form) where
   unfoldable pub booksAfter : Ledger → F .Kept → List Asked → Books (F .Kept)
-  booksAfter l t [] = record { ledger = l; booksAfter = t }
+  booksAfter l t [] = record { ledger = l; kept = t }
   booksAfter l t (c ∷ cs) = let r = callBy row F (c .arena) t (c .asks) in booksAfter (booked l (c .asks) (r .answer)) (r .kept) cs
 
   -- what report answers over an arena b and the tables that calls left: it is done, and its values are totals that keep the rules

@@ -1,9 +1,9 @@
 -- What a list call leaves, by the tests of the code in their order, in any lawful form of the tables. A test is what a call said, which the code negates.
-use Rattle.mem.proofs.Prelude.{_∙_, _≡_, sym, ap, ap₂, Bool, true, false, _&&_, not, not-true, not-false, and-false, List, map, ℕ, _<_, _≤_, leb, le-leb, lt-leb}
-use Rattle.mem.proofs.Prelude.{length, arith}
+use Rattle.mem.proofs.Prelude.{_∙_, _≡_, sym, ap, ap₂, Bool, true, false, _&&_, not, not-true, not-false, and-false, List, map, ℕ, _<_, _≤_, leb, le-leb}
+use Rattle.mem.proofs.Prelude.{lt-leb, length, leb→le, arith}
 use Rattle.mem.specs.Lists.{isSome}
 use Rattle.mem.specs.Bytes.{put}
-use Rattle.mem.proofs.Tests.{true-T, T-true}
+use Rattle.mem.proofs.Tests.{and-right, true-T, T-true}
 use Rattle.model.specs.declared.Refusal.{Refusal}
 use Rattle.model.specs.declared.Refusal.the-variants.{NoRoom, TooLong, BadProposal}
 use Rattle.model.specs.declared.Reply.{Reply}
@@ -25,17 +25,35 @@ refused-list x l e =
     let p = refused-parts x l e in
     record { number-due = p .0; values-due = p .1 .0; list-due = p .1 .1 .0; arena-due = p .1 .1 .1 .0; kept-due = p .1 .1 .1 .1 }
 
--- the sizes of an accepted proposal are small, and few
-pub small-sizes : (total cap : ℕ) (ns : List ℕ) → accepts total cap ns ≡ true → small ns ≡ true
-small-sizes total cap ns h = T-true (small ns) (accepts-small total cap ns (true-T (accepts total cap ns) h))
+-- a test that passed
+pub passing : {w b : Bool} → w ≡ b → not w ≡ false → b ≡ true
+passing {w} e h = sym e ∙ not-false w h
 
-pub few-sizes : (total cap : ℕ) (l ns : List ℕ) → accepts total cap ns ≡ true → entries ≤ length l → length ns ≤ length l
-few-sizes total cap l ns h n = let f = accepts-few total cap ns (true-T (accepts total cap ns) h) in omega arith
+-- a list that is short enough, and has its places, with an accepted proposal
+pub record Proposal (total cap : ℕ) (l ns : List ℕ) : Type 0 where
+  pub short : (plannable total cap && leb entries (length l)) ≡ true
+  pub right : accepts total cap ns ≡ true
 
--- the list is short enough, and has its places
-pub short-enough : (total cap : ℕ) (l : List ℕ) {w : Bool} → w ≡ plannable total cap → not w ≡ false → entries ≤ length l
-    → (plannable total cap && leb entries (length l)) ≡ true
-short-enough total cap l {w} e h n = ap₂ _&&_ (sym e ∙ not-false w h) (le-leb entries (length l) n)
+-- its sizes are small, and few
+pub small-sizes : {total cap : ℕ} {l ns : List ℕ} → Proposal total cap l ns → small ns ≡ true
+small-sizes {total} {cap} {l} {ns} p = T-true (small ns) (accepts-small total cap ns (true-T (accepts total cap ns) (p .right)))
+
+pub few-sizes : {total cap : ℕ} {l ns : List ℕ} → Proposal total cap l ns → length ns ≤ length l
+few-sizes {total} {cap} {l} {ns} p =
+    let f = accepts-few total cap ns (true-T (accepts total cap ns) (p .right)) in
+    let g = leb→le entries (length l) (and-right (plannable total cap) (leb entries (length l)) (true-T _ (p .short))) in
+    omega arith
+
+module _ (total cap : ℕ) (l : List ℕ) {w : Bool} (e : w ≡ plannable total cap) (h : not w ≡ false) (n : entries ≤ length l) where
+  short-enough : (plannable total cap && leb entries (length l)) ≡ true
+  short-enough = ap₂ _&&_ (passing e h) (le-leb entries (length l) n)
+
+  pub proposal : {ns : List ℕ} {v : Bool} → v ≡ accepts total cap ns → not v ≡ false → Proposal total cap l ns
+  proposal f k = record { short = short-enough; right = passing f k }
+
+  pub not-accepted : {row : ℕ} {F : Form} {a : List ℕ} {t : F .Kept} (r : Checked row F a t) (ns : List ℕ) {v : Bool} → v ≡ accepts total cap ns → not v ≡ true
+      → Listed (callBy row F a t (grantsList total cap (length l) ns)) (replyAnswer (Reply.Refused BadProposal)) l l a t
+  not-accepted r ns {v} f k = refused-list BadProposal l (bad-proposal r total cap (length l) ns short-enough (sym f ∙ not-true v k))
 
 module _ {row : ℕ} {F : Form} {a : List ℕ} {t : F .Kept} (r : Checked row F a t) (total cap : ℕ) (l ns : List ℕ) where
   -- what the call does, and that it refuses
@@ -53,25 +71,22 @@ module _ {row : ℕ} {F : Form} {a : List ℕ} {t : F .Kept} (r : Checked row F 
   few-places h = refused-list TooLong l (too-long r total cap (length l) ns
       (ap (λ b. plannable total cap && b) (lt-leb entries (length l) h) ∙ and-false (plannable total cap)))
 
-  module _ (h : (plannable total cap && leb entries (length l)) ≡ true) where
-    pub not-accepted : {w : Bool} → w ≡ accepts total cap ns → not w ≡ true → Refuses BadProposal
-    not-accepted {w} e d = refused-list BadProposal l (bad-proposal r total cap (length l) ns h (sym e ∙ not-true w d))
+module _ {row : ℕ} {F : Form} {a : List ℕ} {t : F .Kept} (r : Checked row F a t) {total cap : ℕ} {l ns : List ℕ} (p : Proposal total cap l ns)
+    {w : Bool} (e : w ≡ isSome (reserveAll row (F .view t) ns)) where
+  pub not-fitting : not w ≡ true → Listed (callBy row F a t (grantsList total cap (length l) ns)) (replyAnswer (Reply.Refused NoRoom)) l l a t
+  not-fitting h = refused-list NoRoom l (no-room r total cap (length l) ns (p .short) (p .right) (sym e ∙ not-true w h))
 
-    module _ (k : accepts total cap ns ≡ true) where
-      pub not-fitting : {w : Bool} → w ≡ isSome (reserveAll row (F .view t) ns) → not w ≡ true → Refuses NoRoom
-      not-fitting {w} e d = refused-list NoRoom l (no-room r total cap (length l) ns h k (sym e ∙ not-true w d))
-
-      -- and one that is granted whole
-      pub granted-list : isSome (reserveAll row (F .view t) ns) ≡ true → {m x : List ℕ} {u : F .Kept}
-          → m ≡ put 0 (map (handle row) (granted (reserveAll row (F .view t) ns))) l
-          → x ≡ written a (map (enframe row) (granted (reserveAll row (F .view t) ns)))
-          → u ≡ F .encode (poolAfter (F .view t) (granted (reserveAll row (F .view t) ns))) → Listed asked (replyAnswer (Reply.Done (length ns))) l m x u
-      granted-list e em ex eu =
-          let w = whole r total cap (length l) ns h k e in
-          record {
-            number-due = w .number;
-            values-due = w .values;
-            list-due = em ∙ ap (λ z. put 0 z l) (w .lent);
-            arena-due = ex ∙ w .arena;
-            kept-due = eu ∙ w .kept;
-          }
+  -- and one that is granted whole
+  pub granted-list : not w ≡ false → {m x : List ℕ} {u : F .Kept} → m ≡ put 0 (map (handle row) (granted (reserveAll row (F .view t) ns))) l
+      → x ≡ written a (map (enframe row) (granted (reserveAll row (F .view t) ns)))
+      → u ≡ F .encode (poolAfter (F .view t) (granted (reserveAll row (F .view t) ns)))
+      → Listed (callBy row F a t (grantsList total cap (length l) ns)) (replyAnswer (Reply.Done (length ns))) l m x u
+  granted-list h em ex eu =
+      let w = whole r total cap (length l) ns (p .short) (p .right) (passing e h) in
+      record {
+        number-due = w .number;
+        values-due = w .values;
+        list-due = em ∙ ap (λ z. put 0 z l) (w .lent);
+        arena-due = ex ∙ w .arena;
+        kept-due = eu ∙ w .kept;
+      }

@@ -1,5 +1,5 @@
 -- A block that moves, with the totals.
-use Rattle.mem.proofs.Prelude.{_∙_, _≡_, sym, ap, ap₂, refl, some, none, Option, List, ℕ, min, arith}
+use Rattle.mem.proofs.Prelude.{_∙_, _≡_, sym, ap, ap₂, some, none, List, ℕ, min}
 use Rattle.mem.specs.Bytes.{put, part}
 use Rattle.classes.specs.Alignments.{Askable}
 use Rattle.model.specs.declared.Refusal.the-variants as refusals

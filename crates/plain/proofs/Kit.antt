@@ -1,9 +1,6 @@
 -- What the proofs of the plain pool's calls share: names, the tables as the calls over any form take them, and what is counted.
 pub use Rattle.mem.proofs.Prelude.{_∙_, _≡_, sym, ap, refl, subst, true, false, some, [], _∷_, _<_, _≤_, _*_, now, needs, arith, lit≤, leb→le, length}
 pub use Rattle.mem.proofs.Prelude.{_&&_, leb, leb-true, leb-false, not-false}
-unfoldable pub use Rattle.classes.specs.Classes.{rowBytes, tooLarge}
-pub use Rattle.classes.specs.Alignments.{enlarged, Askable}
-pub use Rattle.classes.proofs.Laws.{card-row}
 pub use Rattle.model.specs.State.{startOf}
 pub use Rattle.model.specs.Answers.{done}
 pub use Rattle.model.specs.Plain.{bySlots, plainForm}
@@ -12,6 +9,9 @@ pub use Rattle.rows.specs.Rows.{Holds}
 pub use Rattle.frames.specs.Blocks.{CarriedOutBy}
 pub use Rattle.frames.proofs.Calls.{Checked, Called, called-at, called-refused, called, carried-as, whole}
 pub use Rattle.plain_tables.proofs.Opens.{by-slots}
+unfoldable pub use Rattle.classes.specs.Classes.{rowBytes, tooLarge}
+pub use Rattle.classes.specs.Alignments.{enlarged, Askable}
+pub use Rattle.classes.proofs.Laws.{card-row}
 use Rattle.mem.proofs.Prelude.{Bool, List, ℕ, not, not-true}
 use Rattle.mem.specs.Lists.{choose}
 use Rattle.classes.proofs.Laws.{card-some}

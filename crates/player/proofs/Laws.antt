@@ -1,9 +1,8 @@
 -- Laws of what a record does.
-use Rattle.mem.proofs.Prelude.{_∙_, _≡_, sym, ap, Bool, true, false, some, none, List, [], _∷_, ℕ, _+_, leb, length}
+use Rattle.mem.proofs.Prelude.{_∙_, _≡_, sym, ap, ap₂, Bool, true, false, some, none, List, [], _∷_, ℕ, _+_, leb, length}
 use Rattle.mem.specs.Lists.{choose}
 use Rattle.mem.specs.Bytes.{put}
 use Rattle.mem.proofs.Tests.{choose-true, choose-false}
-use Rattle.model.specs.declared.Totals.{Totals}
 use Rattle.model.specs.Answers.{Answer, done}
 use Rattle.model.specs.Calls.{KeptBytes, Result, left}
 use Rattle.model.proofs.Calls.{LeftAsIs}
@@ -17,7 +16,8 @@ of-call e f = ap effect f ∙ sym e
 
 -- a call that only reads, by its answer
 pub of-reading : {r : Result} {x : Answer} {a : List ℕ} {t : KeptBytes} → x ≡ r .answer → LeftAsIs a t r → left x a t ≡ r
-of-reading {r} e k = cc (e, k .arena, k .kept)
+of-reading {r} {x} {a} {t} e k =
+    ap (λ (y : Answer). left y a t) e ∙ ap₂ (λ (b : List ℕ) (u : KeptBytes). left (r .answer) b u) (sym (k .arena)) (sym (k .kept))
 
 -- a record that stores, by what the store promises
 pub of-store : (row : ℕ) (d : Effect) (a : List ℕ) (t : KeptBytes) (bs b : List ℕ) (o : ℕ) (r : Bool) → d ≡ performed row a t (store o bs)

@@ -1,16 +1,15 @@
 -- A record of a trace after the other: the text of those that are left, by what stands at a place.
-use Rattle.mem.proofs.Prelude.{_∙_, _≡_, sym, ap, ap₂, refl, Option, some, none, true, false, true≢false, List, [], _++_, append-nil}
+use Rattle.mem.proofs.Prelude.{_∙_, _≡_, sym, ap, refl, Option, some, none, true, false, true≢false, List, [], _++_, append-nil}
 use Rattle.mem.proofs.Prelude.{ℕ, suc, _+_, _-_, _≤_, arith, length}
 use Rattle.mem.proofs.Tests.{choose-true, choose-false}
 use Rattle.classes.specs.Classes.{rowBytes}
-use Rattle.model.specs.declared.Totals.{Totals}
 use Rattle.model.specs.Answers.{Answer}
 use Rattle.model.specs.Plans.{setsUp}
-use Rattle.model.specs.Calls.{KeptBytes, keptIn, call}
+use Rattle.model.specs.Calls.{KeptBytes, call}
 use Rattle.trace.specs.declared.Op.{Op}
 use Rattle.trace.specs.declared.Step.{Step}
 use Rattle.trace.specs.Trace.{Item, stepAt, operationOf, itemsBy, itemsFrom, items, traceRight}
-use Rattle.trace.specs.Replay.{Line, performed, lineOf, goOn, linesFrom, replayedOver}
+use Rattle.trace.specs.Replay.{Line, Effect, performed, lineThen, lineOf, goOn, linesFrom, replayedOver}
 use Rattle.line_text.specs.Lines.{lineText, isBad}
 use Rattle.player.specs.Printed.{linesText, printed, playedText}
 

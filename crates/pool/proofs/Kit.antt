@@ -1,6 +1,5 @@
 -- What the proofs of the calls share: names, and what a call tells.
 pub use Rattle.mem.proofs.Prelude.{_∙_, _≡_, sym, ap, ap₂, refl, subst, [], _∷_, _<_, _/_, arith, now, needs, lit≤, leb, leb-true, leb-false, length, List, ℕ}
-pub use Rattle.mem.proofs.Prelude.{true, _&&_, not-true, not-false}
 unfoldable pub use Rattle.classes.specs.Classes.{rowBytes, tooLarge}
 pub use Rattle.classes.specs.Alignments.{enlarged, Askable}
 pub use Rattle.classes.proofs.Laws.{card-row}
@@ -9,25 +8,11 @@ pub use Rattle.model.specs.Tables.{view}
 pub use Rattle.model.specs.Calls.{keptIn, engine}
 pub use Rattle.frames.specs.Blocks.{CarriedOutBy}
 pub use Rattle.frames.proofs.Calls.{Called, called-at, called-refused, called, carried-as, whole}
-pub use Rattle.ops.proofs.Calls.{Checked, by-check, holds}
+pub use Rattle.ops.proofs.Calls.{Checked, by-check, checked, refusing, holds}
 use Rattle.model.specs.declared.Answered.{Answered}
-use Rattle.model.specs.Answers.{Answer, replyAnswer}
-use Rattle.mem.proofs.Prelude.{Bool, false, not}
-use Rattle.model.specs.Calls.{KeptBytes, Result, left, soundKept, call, unsound, keeps}
-use Rattle.model.specs.Plans.{Call, Plan}
-use Rattle.model.proofs.Calls.{Asks}
-use Rattle.ops.proofs.Calls.{passed, not-sound}
-use Rattle.frames.specs.Listed.{Listed}
-
--- what is lent, by what the check of a row's 512 bytes said
-module _ (a : List ℕ) (t : KeptBytes) {w : Bool} (e : w ≡ soundKept 512 (length a) t) where
-  pub checked : not w ≡ false → Checked rowBytes a t
-  unfolding rowBytes
-  checked h = passed rowBytes a t e card-row h
-
-  pub refusing : (c : Call) → Asks c → not w ≡ true → keeps (unsound c) a t ≡ call rowBytes a t c
-  unfolding rowBytes
-  refusing c k h = not-sound rowBytes a t e c k h
+use Rattle.model.specs.Answers.{replyAnswer}
+use Rattle.model.specs.Calls.{Result, left}
+use Rattle.model.specs.Plans.{Plan}
 
 -- what is left, by what was told
 pub told : {w v : Answered} {a u : List ℕ} → w ≡ v
@@ -38,15 +23,6 @@ pub told-out : {a x u : List ℕ} {p : Plan} {w v : Answered} → w ≡ v → Ca
     → CarriedOutBy (engine rowBytes) a p (w .reply) x (keptIn u (w .totals))
 told-out {a} {x} {u} {p} e = subst (λ (w : Answered). CarriedOutBy (engine rowBytes) a p (w .reply) x (keptIn u (w .totals))) (sym e)
 
-pub told-list : {o : Result} {l m x u : List ℕ} {w v : Answered} → w ≡ v → Listed o (replyAnswer (v .reply)) l m x (keptIn u (v .totals))
-    → Listed o (replyAnswer (w .reply)) l m x (keptIn u (w .totals))
-told-list {o} {l} {m} {x} {u} e = subst (λ (w : Answered). Listed o (replyAnswer (w .reply)) l m x (keptIn u (w .totals))) (sym e)
-
 -- the answer alone
 pub answers : {r s : Result} → r ≡ s → r .answer ≡ s .answer
 answers e = ap (λ (r : Result). r .answer) e
-
--- equal results leave the same, part by part
-pub parts : {r s : Result} → r ≡ s
-    → (r .answer ≡ s .answer) × ((r .arena ≡ s .arena) × ((r .kept .tables ≡ s .kept .tables) × (r .kept .totals ≡ s .kept .totals)))
-parts e = (answers e, (ap (λ (r : Result). r .arena) e, (ap (λ (r : Result). r .kept .tables) e, ap (λ (r : Result). r .kept .totals) e)))

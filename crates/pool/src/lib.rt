@@ -2,21 +2,17 @@
 // them gives those after it back.
 //
 // Each is a paragraph of document 01. One equation says what it answers and what it leaves of arena, room and totals, for any bytes, totals,
-// handle and size: what the model's call does on them (call, crates/model/specs/Calls.antt). A list call says it with one predicate.
+// handle and size: what the model's call does on them (call, crates/model/specs/Calls.antt).
 ghost use mathlib.Core.Path.{_≡_};
 ghost use mathlib.Core.Bool.{true};
 ghost use Prim.Native.Nat.{_≤_, _<_};
 ghost use lib.ListN.{length};
 ghost use Rattle.classes.specs.Classes.{rowBytes};
-ghost use Rattle.model.specs.declared.Reply.{Reply};
 ghost use Rattle.model.specs.Answers.{replyAnswer, reportAnswer};
-ghost use Rattle.model.specs.Proposals.{accepts};
-ghost use Rattle.model.specs.Plans.{setsUp, grants, grantsAligned, releases, resizes, measures, reports, grantsList, grantAs};
+ghost use Rattle.model.specs.Plans.{setsUp, grants, grantsAligned, releases, resizes, measures, reports, grantAs};
 ghost use Rattle.model.specs.Tables.{roomFor, view};
 ghost use Rattle.model.specs.Calls.{keptIn, engine, soundKept, left, call};
 ghost use Rattle.frames.specs.Blocks.{CarriedOutBy};
-ghost use Rattle.frames.specs.Listed.{Listed};
-ghost use Rattle.pool.specs.Planned.{Planned};
 use frames::Located;
 use model::Answered;
 use model::Refusal;
@@ -32,16 +28,6 @@ pub fn room_len(arena_len: usize) -> usize
     fresh::room_len(arena_len)
 }
 
-// A refusal keeps the totals.
-fn refused(r: Refusal, t: Totals) -> Answered
-    ensures { λ a. ⌜ a ≡ record { reply = Reply.Refused r; totals = t } ⌝ }
-{
-    Answered {
-        reply: Reply::Refused(r),
-        totals: t,
-    }
-}
-
 // Set up: zero over the whole arena, tables with no groups, and their totals, whatever they were.
 pub fn set_up(arena: &mut [u8], room: &mut [u8], t: Totals) -> Answered
     ensures { λ r. ⌜ left (replyAnswer (r .reply)) (now (arena .exit)) (keptIn (now (room .exit)) (r .totals))
@@ -50,10 +36,10 @@ pub fn set_up(arena: &mut [u8], room: &mut [u8], t: Totals) -> Answered
     let len = arena.len();
     let size = room_len(len);
     if size == 0 {
-        return refused(Refusal::BadArena, t);
+        return totals::refused(Refusal::BadArena, t);
     }
     if room.len() != size {
-        return refused(Refusal::BadArena, t);
+        return totals::refused(Refusal::BadArena, t);
     }
     mem::fill_zero(arena);
     fresh::format(room, len);
@@ -78,11 +64,11 @@ fn grant_as(arena: &mut [u8], room: &mut [u8], t: Totals, code: u8, n: usize) ->
         (r .reply) (now (arena .exit)) (keptIn (now (room .exit)) (r .totals)) ⌝ }
 {
     if classes::too_large(code, n) {
-        return refused(Refusal::TooLarge, t);
+        return totals::refused(Refusal::TooLarge, t);
     }
     let len = arena.len();
     let Reserved::Taken(b, taken) = ops::reserve_slot(classes::ROW, len, room, t, code, n) else {
-        return refused(Refusal::NoRoom, t);
+        return totals::refused(Refusal::NoRoom, t);
     };
     let handle = frames::lay_out(classes::ROW, arena, b);
     Answered {
@@ -97,7 +83,7 @@ pub fn grant(arena: &mut [u8], room: &mut [u8], t: Totals, n: usize) -> Answered
         ≡ call rowBytes (now (arena .entry)) (keptIn (now (room .entry)) t) (grants n) ⌝ }
 {
     if !soundness::sound(classes::ROW, arena.len(), room, t) {
-        return refused(Refusal::Unsound, t);
+        return totals::refused(Refusal::Unsound, t);
     }
     grant_as(arena, room, t, classes::ORDINARY, n)
 }
@@ -114,11 +100,11 @@ pub fn grant_aligned(
         ≡ call rowBytes (now (arena .entry)) (keptIn (now (room .entry)) t) (grantsAligned n align) ⌝ }
 {
     if !soundness::sound(classes::ROW, arena.len(), room, t) {
-        return refused(Refusal::Unsound, t);
+        return totals::refused(Refusal::Unsound, t);
     }
     let code = classes::code_of(align);
     if code == 0 {
-        return refused(Refusal::BadAlignment, t);
+        return totals::refused(Refusal::BadAlignment, t);
     }
     grant_as(arena, room, t, code, n)
 }
@@ -129,7 +115,7 @@ pub fn release(arena: &mut [u8], room: &mut [u8], t: Totals, handle: usize) -> A
         ≡ call rowBytes (now (arena .entry)) (keptIn (now (room .entry)) t) (releases handle) ⌝ }
 {
     if !soundness::sound(classes::ROW, arena.len(), room, t) {
-        return refused(Refusal::Unsound, t);
+        return totals::refused(Refusal::Unsound, t);
     }
     match ops::locate(classes::ROW, arena, room, handle) {
         Located::At(b) => {
@@ -139,7 +125,7 @@ pub fn release(arena: &mut [u8], room: &mut [u8], t: Totals, handle: usize) -> A
                 totals: left,
             }
         }
-        Located::Refused(r) => refused(r, t),
+        Located::Refused(r) => totals::refused(r, t),
     }
 }
 
@@ -150,16 +136,16 @@ pub fn resize(arena: &mut [u8], room: &mut [u8], t: Totals, handle: usize, n: us
 {
     let len = arena.len();
     if !soundness::sound(classes::ROW, len, room, t) {
-        return refused(Refusal::Unsound, t);
+        return totals::refused(Refusal::Unsound, t);
     }
     // The size goes by the alignment of a live block, before the handle's bits and the block's damage are looked at.
     let found = search::find_block(classes::ROW, len, room, frames::start_in(handle));
     if classes::too_large(frames::code_found(found), n) {
-        return refused(Refusal::TooLarge, t);
+        return totals::refused(Refusal::TooLarge, t);
     }
     match frames::judge(classes::ROW, arena, found, handle) {
         Located::At(b) => ops::change_size(classes::ROW, arena, room, t, b, n),
-        Located::Refused(r) => refused(r, t),
+        Located::Refused(r) => totals::refused(r, t),
     }
 }
 
@@ -184,60 +170,4 @@ pub fn report(arena: &[u8], room: &[u8], t: Totals) -> Report
         return Report::Refused(Refusal::Unsound);
     }
     Report::Counted(t)
-}
-
-// Check list: whether a proposal for a list of total bytes is accepted.
-pub fn check_list(total: usize, cap: usize, sizes: &[usize]) -> bool
-    ensures { λ r. ⌜ r ≡ accepts «total» cap (now (sizes .entry)) ⌝ }
-{
-    proposals::accepts(total, cap, sizes)
-}
-
-// Plan list: a proposal, which the check accepts, to the front of a lent array; the value is the number of its sizes.
-pub fn plan_list(total: usize, cap: usize, sizes: &mut [usize; 17]) -> Reply
-    ensures { λ r. ⌜ Planned «total» cap (replyAnswer r) (now (sizes .entry)) (now (sizes .exit)) ⌝ }
-{
-    if !proposals::plannable(total, cap) {
-        return Reply::Refused(Refusal::TooLong);
-    }
-    let count = proposals::full_caps(total, cap, sizes);
-    Reply::Done(count)
-}
-
-// Grant list: the sizes of an accepted proposal, all granted or none; the handles to the front of a lent list, and the value is their number.
-// It is found first whether all of them fit; only then is anything written.
-pub fn grant_list(
-    arena: &mut [u8],
-    room: &mut [u8],
-    t: Totals,
-    total: usize,
-    cap: usize,
-    sizes: &[usize],
-    handles: &mut [usize],
-) -> Answered
-    ensures { λ r. ⌜ Listed (call rowBytes (now (arena .entry)) (keptIn (now (room .entry)) t)
-        (grantsList «total» cap (length (now (handles .entry))) (now (sizes .entry))))
-        (replyAnswer (r .reply)) (now (handles .entry)) (now (handles .exit)) (now (arena .exit)) (keptIn (now (room .exit)) (r .totals)) ⌝ }
-{
-    let len = arena.len();
-    if !soundness::sound(classes::ROW, len, room, t) {
-        return refused(Refusal::Unsound, t);
-    }
-    if !proposals::plannable(total, cap) {
-        return refused(Refusal::TooLong, t);
-    }
-    if handles.len() < proposals::ENTRIES {
-        return refused(Refusal::TooLong, t);
-    }
-    if !proposals::accepts(total, cap, sizes) {
-        return refused(Refusal::BadProposal, t);
-    }
-    if !survey::fits(classes::ROW, len, room, sizes) {
-        return refused(Refusal::NoRoom, t);
-    }
-    let granted = lists::grant_all(classes::ROW, arena, room, t, sizes, handles);
-    Answered {
-        reply: Reply::Done(sizes.len()),
-        totals: granted,
-    }
 }

@@ -24,4 +24,5 @@ pub use Rattle.model.specs.Calls.{keptIn}
 pub use Rattle.model.specs.declared.Totals.{Totals}
 pub use Rattle.answers.specs.Gives.{Leaves, Tells, Gives, Reports, Lists}
 pub use Rattle.slotpool.proofs.Walks.{takes, calls-by, hears, turns, frees-all, leaving}
-pub use Rattle.slotpool.proofs.Lent.{relends, copies, reads, tells, does, less, by-value, machine, ReadWalk, read-met, LentWalk, lent-met}
+pub use Rattle.slotpool.proofs.Lent.{stores-slice, stores-number, relends, copies, reads, tells, does, less, by-value, machine}
+pub use Rattle.slotpool.proofs.Lent.{ReadWalk, read-met, LentWalk, lent-met}

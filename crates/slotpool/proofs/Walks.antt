@@ -23,8 +23,8 @@ use prog.Routine.{Env as Names}
 use ghost.Atoms.{Atoms, sem}
 use contract.Monad.{fact, factI, fact-use}
 use contract.Running.{GhostRules, Running, tables, tablesOf, givenOf}
-use types.Kit.{Given, Item, Goal, Post, ‵, raw, _⊛_, some, later, mean, nth, ⋆, push, pop, ++⊢, ⊢++, prop, runs, lands, allocs, frees, params′, atRet, aim, Seq, Step}
-use types.Kit.{Go, step, _$_, _∵_, !, qed, by, move, split, use1, use2, await, pick, frame, done, join}
+use types.Kit.{Given, Item, Goal, Post, ‵, raw, _⊛_, some, later, mean, nth, ⋆, push, pop, ++⊢, ⊢++, prop, runs, lands, allocs, frees, params′, atRet, aim}
+use types.Kit.{Seq, Step, Go, step, _$_, _∵_, !, qed, by, move, split, use1, use2, await, pick, frame, done, join}
 use types.Run.{Opds, look, stop, from, load, and-then, enter}
 use sound.WpLaws.{FmC, WpFn-mono}
 use contract.Lifetimes.{Lfts, Shares, toks, AllOutlive}
@@ -357,8 +357,9 @@ module _ {M : Type 1} {𝓤 : URA M} {H : Heap 𝓤} {A : Atoms 𝓤} (W : Given
 
   -- what a walk goes through: all locals are allocated, and the parameters not yet stored
   abbrev pub Walk : Type 1
-  Walk = (κs : Lfts (T .signature .lifetimes)) (qs : Shares (T .signature .lifetimes)) (bounds : AllOutlive (T .signature .lifetimes) (T .signature .outlives) κs)
-      (a : Args (T .signature) κs) (g : c κs a .ghost) → Are (typesAt (T .signature .params) κs) (Ises (typesAt (T .signature .params) κs)) a (values κs a)
+  Walk = (κs : Lfts (T .signature .lifetimes)) (qs : Shares (T .signature .lifetimes))
+      (bounds : AllOutlive (T .signature .lifetimes) (T .signature .outlives) κs) (a : Args (T .signature) κs) (g : c κs a .ghost)
+      → Are (typesAt (T .signature .params) κs) (Ises (typesAt (T .signature .params) κs)) a (values κs a)
       → (bs : Blocks (fn .locals)) → Seq (Go {0}) W (rooms 𝓤 H A (fn .locals) bs ++ (raw (deaths 𝓤 H A (env 𝓤 H A (fn .locals) bs))
       ∷ (params 𝓤 H A (typesAt (T .signature .params) κs) a (values κs a) ++ tokens 𝓤 H A (T .signature .lifetimes) κs qs)))
       (params′ (env 𝓤 H A (fn .locals) bs) (flat (typesAt (T .signature .params) κs) (values κs a))

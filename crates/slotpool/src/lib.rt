@@ -13,7 +13,7 @@ ghost use Rattle.model.specs.Plans.{setsUp, grants, grantsAligned, releases, re
 ghost use Rattle.model.specs.Tables.{roomFor};
 ghost use Rattle.model.specs.Calls.{keptIn, call};
 ghost use Rattle.answers.specs.Gives.{Leaves, Tells, Gives, Reports, Lists};
-ghost use Rattle.pool.specs.Planned.{PlannedFor};
+ghost use Rattle.gather.specs.Planned.{PlannedFor};
 use model::Totals;
 
 // What a call tells: its number, and the totals after it.
@@ -239,7 +239,7 @@ pub extern "C" fn slotpool_report(
 pub extern "C" fn slotpool_check_list(total: usize, cap: usize, sizes: &[usize]) -> u32
     ensures { λ r. ⌜ r ≡ bit (accepts «total» cap (now (sizes .entry))) ⌝ }
 {
-    if pool::check_list(total, cap, sizes) {
+    if gather::check_list(total, cap, sizes) {
         1
     } else {
         0
@@ -255,7 +255,7 @@ pub extern "C" fn slotpool_plan_list(
 ) -> u32
     ensures { λ r. ⌜ PlannedFor «total» cap r (now (value .exit)) (now (sizes .entry)) (now (sizes .exit)) ⌝ }
 {
-    let r = pool::plan_list(total, cap, sizes);
+    let r = gather::plan_list(total, cap, sizes);
     *value = answers::value_of(r);
     answers::number_of(r)
 }
@@ -274,7 +274,7 @@ fn grant_list_by(
         (grantsList «total» cap (length (now (handles .entry))) (now (sizes .entry))))
         (r .number) (now (value .exit)) (now (handles .entry)) (now (handles .exit)) (now (arena .exit)) (keptIn (now (room .exit)) (r .totals)) ⌝ }
 {
-    let r = pool::grant_list(arena, room, t, total, cap, sizes, handles);
+    let r = gather::grant_list(arena, room, t, total, cap, sizes, handles);
     let reply = r.reply;
     let totals = r.totals;
     *value = answers::value_of(reply);

@@ -1,8 +1,12 @@
 // The six totals, brought up to date by a change of one group: it is made, a slot is taken, given back or gets another size, the group is
 // dropped. Nothing is counted again.
 ghost use mathlib.Core.Path.{_≡_};
+ghost use Rattle.model.specs.declared.Reply.{Reply};
 ghost use Rattle.model.specs.declared.Totals.{Totals};
 ghost use Rattle.totals.specs.Changes.{Small, Makes, Takes, Gives, Drops, Sizes};
+use model::Answered;
+use model::Refusal;
+use model::Reply;
 use model::Totals;
 
 // A group is made of so many free rows, with so many slots, all ready.
@@ -85,4 +89,14 @@ pub fn record(t: &mut Totals, next: Totals)
     ensures { λ _. ⌜ now (t .exit) ≡ next ⌝ }
 {
     *t = next;
+}
+
+// A refusal keeps the totals.
+pub fn refused(r: Refusal, t: Totals) -> Answered
+    ensures { λ a. ⌜ a ≡ record { reply = Reply.Refused r; totals = t } ⌝ }
+{
+    Answered {
+        reply: Reply::Refused(r),
+        totals: t,
+    }
 }

@@ -1,11 +1,11 @@
 -- Test by test, in the order of the answers; then all sizes are granted.
-use Rattle.plain.proofs.Kit.{_∙_, _≡_, sym, true, _&&_, now, needs, not-false, leb, length, rowBytes, card-row, bySlots, viewBy}
+use Rattle.plain.proofs.Kit.{sym, now, needs, rowBytes, card-row}
 use Rattle.plain.proofs.Kit.{Sound, checked, refusing}
-use Rattle.mem.specs.Lists.{isSome}
 use Rattle.model.specs.declared.Refusal.the-variants.{Unsound}
-use Rattle.model.specs.Proposals.{entries, accepts, plannable}
-use Rattle.model.specs.Plans.{grantsList, reserveAll}
-use Rattle.frames.proofs.Listed.{refused-list, short-enough, not-plannable, few-places, not-accepted, not-fitting, granted-list, small-sizes, few-sizes}
+use Rattle.model.specs.Proposals.{entries}
+use Rattle.model.specs.Plans.{grantsList}
+use Rattle.frames.proofs.Listed.{Proposal, proposal, passing, refused-list, not-plannable, few-places, not-accepted, not-fitting, granted-list}
+use Rattle.frames.proofs.Listed.{small-sizes, few-sizes}
 use Rattle.plain.proofs.grant_list.Statement.{statement}
 use Rattle.plain.proofs.grant_list.Tie as tie
 
@@ -24,52 +24,38 @@ returns-3 : tie.Need-returns-3
 unfolding rowBytes entries
 returns-3 c = few-places (lent (c .before .before .before)) _ _ _ _ (c .if3 .taken)
 
--- the list is short enough, and has its places
-short : (c : tie.Else3) → (let a = c .before .before .before .before .before .before .before .before .before .before .args in
-    (plannable (a .total) (a .cap) && leb entries (length (now (a .handles)))) ≡ true)
-unfolding entries
-short c =
-    let a = c .before .before .before .before .before .before .before .before .before .before .args in
-    short-enough (a .total) (a .cap) (now (a .handles)) (c .before .before .plannable .ensures) (c .before .if2 .left) (c .if3 .left)
-
 returns-4 : tie.Need-returns-4
-unfolding rowBytes
+unfolding rowBytes entries
 returns-4 c =
     let d = c .before .before in
-    not-accepted (lent (d .before .before .before)) _ _ _ _ (short d) (c .before .accepts .ensures) (c .if4 .taken)
+    not-accepted _ _ _ (d .before .before .plannable .ensures) (d .before .if2 .left) (d .if3 .left) (lent (d .before .before .before))
+    _ (c .before .accepts .ensures) (c .if4 .taken)
 
--- the proposal is accepted, so its sizes are small and few
+-- the list is short enough and has its places, and the proposal is accepted
 right : (c : tie.Else4) → (let a = c .before .before .before .before .before .before .before .before .before .before .before .before .args in
-    accepts (a .total) (a .cap) (now (a .sizes)) ≡ true)
-right c = let w = c .before .accepts in sym (w .ensures) ∙ not-false (w .result) (c .if4 .left)
+    Proposal (a .total) (a .cap) (now (a .handles)) (now (a .sizes)))
+unfolding entries
+right c = proposal _ _ _ (c .before .before .before .before .plannable .ensures) (c .before .before .before .if2 .left) (c .before .before .if3 .left)
+    (c .before .accepts .ensures) (c .if4 .left)
 
 fits-requires : tie.Need-fits-requires
 unfolding rowBytes
-fits-requires c κs =
-    let d = c .before in (lent (d .before .before .before .before .before) .sound, (small-sizes _ _ _ (right d), card-row))
+fits-requires c κs = (lent (c .before .before .before .before .before .before) .sound, (small-sizes (right (c .before)), card-row))
 
 returns-5 : tie.Need-returns-5
 unfolding rowBytes
 returns-5 c =
     let d = c .before .before .before in
-    let k = d .before .before in
-    not-fitting (lent (k .before .before .before)) _ _ _ _ (short k) (right d) (c .before .fits2 .ensures) (c .if5 .taken)
-
--- all of it fits
-fit : (c : tie.Else5) → (let d = c .before .before .before in
-    let a = d .before .before .before .before .before .before .before .before .before .before .before .before .args in
-    isSome (reserveAll rowBytes (viewBy bySlots rowBytes (now (a .room))) (now (a .sizes))) ≡ true)
-unfolding rowBytes
-fit c = let w = c .before .fits2 in sym (w .ensures) ∙ not-false (w .result) (c .if5 .left)
+    not-fitting (lent (d .before .before .before .before .before)) (right d) (c .before .fits2 .ensures) (c .if5 .taken)
 
 grant-all-requires : tie.Need-grant-all-requires
-unfolding rowBytes entries
+unfolding rowBytes
 grant-all-requires c κs =
     let e = c .before .before .before in
-    let d = e .before .before .before in
-    let s = d .before .before .before .before .before .before .before .before .before .before .before .before in
-    let few = few-sizes _ _ (now (s .args .handles)) _ (right d) (d .before .before .if3 .left) in
-    (lent (d .before .before .before .before .before) .sound, ((small-sizes _ _ _ (right d), few), (fit e, card-row)))
+    let d = e .before .before .before in (
+      lent (d .before .before .before .before .before) .sound,
+      ((small-sizes (right d), few-sizes (right d)), (passing (e .before .fits2 .ensures) (e .if5 .left), card-row)),
+    )
 
 returns-6 : tie.Need-returns-6
 unfolding rowBytes
@@ -77,8 +63,7 @@ returns-6 c =
     let g = c .before .before .before .before .before .before .grant-all .ensures in
     let e = c .before .before .before .before .before .before .before .before .before .before in
     let d = e .before .before .before in
-    let k = d .before .before in
-    granted-list (lent (k .before .before .before)) _ _ _ _ (short k) (right d) (fit e) (g .1 .1) (g .0) (g .1 .0)
+    granted-list (lent (d .before .before .before .before .before)) (right d) (e .before .fits2 .ensures) (e .if5 .left) (g .1 .1) (g .0) (g .1 .0)
 
 pub grant-list-spec : {M : Type 1} → statement M
 grant-list-spec =

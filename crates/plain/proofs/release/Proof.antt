@@ -24,9 +24,10 @@ block c = called-at _ _ _ _ _ (sym (c .before .b .given .1) ∙ c .before .befor
 
 discard-requires : tie.Need-discard-requires
 unfolding rowBytes
-discard-requires c κs =
-    let k = c .before .before in
-    let r = lent (k .before .before .before .before .before .before) in (r .sound, ((block k .place, holds r (block k)), card-row))
+discard-requires c κs = (
+  lent (c .before .before .before .before .before .before .before .before) .sound,
+  ((block (c .before .before) .place, holds _ (block (c .before .before))), card-row),
+)
 
 returns-2 : tie.Need-returns-2
 unfolding rowBytes

@@ -113,12 +113,12 @@ change-size-requires c κs =
 returns-3 : tie.Need-returns-3
 unfolding rowBytes
 returns-3 c =
+    let r = c .before .before .before .before .change-size in
     let k = c .before .before .before .before .before .before .before in
     let e = k .before .before .before .before .before in
     let z = e .before .before .before .before .before .before in
     let a = z .before .before .before .before .before .args in
     let b = block k in
-    let r = c .before .before .before .before .change-size in
     let d = subst (λ P. CarriedOutBy (plainForm rowBytes) (now (a .arena)) (resizeAt rowBytes P (a .n) (b .place)) (r .result) (r .last .1 .0)
     (r .last .1 .1 .0))
     (sym (held-pool (sound-room z) (holds (lent z) (block k)))) (r .ensures (b .place) (holds (lent z) (block k))) in

@@ -114,10 +114,16 @@ stores g =
     (ap (does s) (o .1)) (g .store .ensures)
 
 returns-5 : tie.Need-returns-5
-returns-5 c = (tt, ap (λ x. effectOf x _ _) (sym (choose-true _ _ _ (c .if1 .taken))) ∙ stores (c .before .before .before))
+returns-5 c =
+    let g = c .before .before .before in
+    let s = g .before .before .before .before .before .before .before .before .before in
+    (tt, ap (λ x. effectOf x (g .store .last .0) (keptIn (now (s .args .room)) (s .args .t))) (sym (choose-true _ _ _ (c .if1 .taken))) ∙ stores g)
 
 returns-6 : tie.Need-returns-6
-returns-6 c = (tt, ap (λ x. effectOf x _ _) (sym (choose-false _ _ _ (c .if1 .left))) ∙ stores (c .before .before .before))
+returns-6 c =
+    let g = c .before .before .before in
+    let s = g .before .before .before .before .before .before .before .before .before in
+    (tt, ap (λ x. effectOf x (g .store .last .0) (keptIn (now (s .args .room)) (s .args .t))) (sym (choose-false _ _ _ (c .if1 .left))) ∙ stores g)
 
 returns-7 : tie.Need-returns-7
 unfolding performed operationOf

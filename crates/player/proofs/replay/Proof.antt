@@ -1,12 +1,12 @@
 -- `replay` meets its contract: a trace that is not read is one line, any other is played over a pool that was set up.
-use Rattle.mem.proofs.Prelude.{_∙_, sym, ap, ap₂, List, ℕ, arith, not-false, not-true, now, needs, length}
+use Rattle.mem.proofs.Prelude.{_∙_, sym, ap, List, ℕ, arith, not-false, not-true, now, needs, length}
 use Rattle.mem.specs.Bytes.{put}
 use Rattle.mem.proofs.Laws.{put-length}
 use Rattle.io.proofs.Counting.{counts}
-use Rattle.model.specs.Calls.{keptIn}
+use Rattle.model.specs.Calls.{keptIn, Result}
 use Rattle.trace.specs.Replay.{Line}
-use Rattle.pool.proofs.Kit.{parts}
-use Rattle.player.specs.Printed.{lineText, printed, playedText}
+use Rattle.line_text.specs.Lines.{lineText}
+use Rattle.player.specs.Printed.{printed, playedText}
 use Rattle.trace.proofs.Laws.{right-length}
 use Rattle.player.proofs.Turns.{printed-bad, printed-played}
 use Rattle.player.proofs.replay.Statement.{statement}
@@ -38,8 +38,7 @@ returns-2 c =
     let a = i .before .before .before .before .before .args in
     let e = p .play .ensures in
     let h = sym (i .before .readable .ensures) ∙ not-false (i .before .readable .result) (i .if1 .left) in
-    let v = parts (u .set-up .ensures) .1 in
-    let w = ap₂ (λ b t. playedText b t (now (a .trace))) (v .0) (ap₂ keptIn (v .1 .0) (v .1 .1))
+    let w = ap (λ (r : Result). playedText (r .arena) (r .kept) (now (a .trace))) (u .set-up .ensures)
     ∙ sym (printed-played (now (a .arena)) (keptIn (now (a .room)) (a .t)) (now (a .trace)) h) in
     let o = e .1 .0 ∙ ap (λ (t : List ℕ). put 0 t (now (a .out))) w in
     let l = put-length 0 (printed (now (a .arena)) (keptIn (now (a .room)) (a .t)) (now (a .trace))) (now (a .out)) in

@@ -30,11 +30,9 @@ returns-2 c =
 returns-3 : tie.Need-returns-3
 unfolding rowBytes
 returns-3 c =
-    let z = c .before .before .before .before in
-    let r = lent z .form in
-    let a = z .before .before .before .before .args in
-    answers (sym (measuring r (a .handle) ∙ called-refused r (a .handle) (measureAt rowBytes (view rowBytes (now (a .room)))) (λ p. refl)
-    (c .before .r .given .0 .0) (sym (c .before .r .given .1) ∙ c .before .before .before .locate .ensures)))
+    let r = lent (c .before .before .before .before) .form in
+    let e = sym (c .before .r .given .1) ∙ c .before .before .before .locate .ensures in
+    answers (sym (measuring r _ ∙ called-refused r _ (measureAt rowBytes _) (λ p. refl) _ e))
 
 pub measure-spec : {M : Type 1} → statement M
 measure-spec = tie.close (tie.spec (λ c κs. search needs) returns locate-requires (λ c. search needs) (λ c. search needs) returns-2 returns-3)

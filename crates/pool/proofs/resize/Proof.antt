@@ -1,12 +1,12 @@
 -- By what is located.
-use Rattle.pool.proofs.Kit.{_∙_, _≡_, sym, ap, subst, arith, now, needs, leb, rowBytes, tooLarge, enlarged, card-row, view}
+use Rattle.pool.proofs.Kit.{_∙_, _≡_, sym, subst, arith, now, needs, leb, rowBytes, tooLarge, enlarged, card-row, view}
 use Rattle.pool.proofs.Kit.{keptIn, engine, CarriedOutBy, Checked, Called, called-at, called-refused, carried-as, holds, told, checked, refusing}
 use Rattle.model.specs.State.{startOf}
 use Rattle.model.specs.Plans.{resizes, resizeAt, lookup}
 use Rattle.rows.specs.Rows.{looked}
-use Rattle.frames.specs.Blocks.{codeFound, judged, located}
-use Rattle.frames.proofs.Places.{held-pool, Known, found-known, judged-looked}
-use Rattle.ops.proofs.Calls.{askable}
+use Rattle.frames.specs.Blocks.{codeFound}
+use Rattle.frames.proofs.Places.{held-pool}
+use Rattle.ops.proofs.Calls.{Seen, seen, judging, sized, askable}
 use Rattle.frames.proofs.Calls.{resizing, resize-names, resize-too-large}
 use Rattle.pool.proofs.resize.Statement.{statement}
 use Rattle.pool.proofs.resize.Tie as tie
@@ -18,56 +18,35 @@ returns d = told (d .refused .ensures) ∙ refusing _ _ (d .before .before .soun
 lent : (c : tie.Else1) → (let a = c .before .before .before .before .before .args in Checked rowBytes (now (a .arena)) (keptIn (now (a .room)) (a .t)))
 lent c = checked _ _ (c .before .sound .ensures) (c .if1 .left)
 
--- what is found at the handle's start
-known : (c : tie.After-find-block) → (let a = c .before .before .before .before .before .before .before .before .args in
-    c .find-block .result ≡ looked rowBytes (lookup rowBytes (view rowBytes (now (a .room))) (startOf (a .handle))))
-unfolding rowBytes
-known c =
-    let a = c .before .before .before .before .before .before .before .before .args in
-    c .find-block .ensures ∙ ap (λ o. looked rowBytes (lookup rowBytes (view rowBytes (now (a .room))) o)) (c .before .start-in .ensures)
-
 find-block-requires : tie.Need-find-block-requires
 unfolding rowBytes
 find-block-requires c κs = (lent (c .before .before) .room .sound, card-row)
 
--- it lies in the arena, and has an alignment that the tables keep
+-- what is found at the handle's start
 found : (c : tie.After-find-block) → (let i = c .before .before .before in
-    Known (lent i .room) (startOf (i .before .before .before .before .before .args .handle)) (c .find-block .result))
+    Seen (lent i) (i .before .before .before .before .before .args .handle) (c .find-block .result))
 unfolding rowBytes
-found c = subst (Known _ _) (sym (known c)) (found-known _ _)
+found c = seen _ (c .before .start-in .ensures) (c .find-block .ensures)
 
 too-large-requires : tie.Need-too-large-requires
-too-large-requires c κs = omega (arith, c .code-found .ensures, found (c .before) .last-code)
+too-large-requires c κs = omega (arith, c .code-found .ensures, found (c .before) .known .last-code)
 
 -- the size by what is looked up
-tested : (c : tie.After-too-large) → (let f = c .before .before in
-    let a = f .before .before .before .before .before .before .before .before .args in
+tested : (c : tie.After-too-large) → (let a = c .before .before .before .before .before .before .before .before .before .before .args in
     leb tooLarge (enlarged (codeFound (looked rowBytes (lookup rowBytes (view rowBytes (now (a .room))) (startOf (a .handle))))) (a .n)) ≡ c .too-large .result)
 unfolding rowBytes
-tested c =
-    let n = c .before .before .before .before .before .before .before .before .before .before .args .n in
-    ap (λ k. leb tooLarge (enlarged k n)) (ap codeFound (sym (known (c .before .before))) ∙ sym (c .before .code-found .ensures)) ∙ sym (c .too-large .ensures)
+tested c = sized _ _ (found (c .before .before)) (c .before .code-found .ensures) (c .too-large .ensures)
 
 returns-2 : tie.Need-returns-2
 unfolding rowBytes
 returns-2 d =
     let c = d .before in
-    told (d .refused2 .ensures) ∙ sym (resize-too-large (lent (c .before .before .before .before .before .before) .form) _ _ (tested (c .before) ∙ c .if2 .taken))
+    told (d .refused2 .ensures) ∙ sym (resize-too-large (lent (c .before .before .before .before .before .before) .form) _ _
+    (tested (c .before) ∙ c .if2 .taken))
 
 judge-requires : tie.Need-judge-requires
 unfolding rowBytes
-judge-requires c κs = (found (c .before .before .before .before) .lies, card-row)
-
--- what is judged is what is located
-judging : (c : tie.After-judge) → (let f = c .before .before .before .before .before in
-    let a = f .before .before .before .before .before .before .before .before .args in
-    c .judge .result ≡ located rowBytes (now (a .arena)) (a .handle) (lookup rowBytes (view rowBytes (now (a .room))) (startOf (a .handle))))
-unfolding rowBytes
-judging c =
-    let f = c .before .before .before .before .before in
-    let a = f .before .before .before .before .before .before .before .before .args in
-    c .judge .ensures ∙ ap (judged rowBytes (now (a .arena)) (a .handle)) (known f)
-    ∙ judged-looked rowBytes (now (a .arena)) (a .handle) (lookup rowBytes (view rowBytes (now (a .room))) (startOf (a .handle)))
+judge-requires c κs = (found (c .before .before .before .before) .known .lies, card-row)
 
 -- the block that is located
 block : (c : tie.After-known-told) → (let z = c .before .before .before .before .before .before .before .before .before .before .before in
@@ -75,7 +54,9 @@ block : (c : tie.After-known-told) → (let z = c .before .before .before .befor
     let P = view rowBytes (now (a .room)) in
     Called (lent z .form) (a .handle) (resizeAt rowBytes P (a .n)) (resize-names rowBytes P (a .n)) (c .before .b .given .0 .0))
 unfolding rowBytes
-block c = called-at _ _ _ _ _ (sym (c .before .b .given .1) ∙ judging (c .before .before .before))
+block c =
+    let j = c .before .before .before in
+    called-at _ _ _ _ _ (sym (c .before .b .given .1) ∙ judging _ (found (j .before .before .before .before .before)) (j .judge .ensures))
 
 change-size-requires : tie.Need-change-size-requires
 unfolding rowBytes
@@ -110,7 +91,7 @@ returns-4 d =
     let P = view rowBytes (now (a .room)) in
     told (d .refused3 .ensures) ∙ sym (resizing (lent z .form) (a .handle) (a .n) (tested (e .before) ∙ e .if2 .left)
     ∙ called-refused (lent z .form) (a .handle) (resizeAt rowBytes P (a .n)) (resize-names rowBytes P (a .n)) (c .before .r .given .0 .0)
-    (sym (c .before .r .given .1) ∙ judging j))
+    (sym (c .before .r .given .1) ∙ judging _ (found (j .before .before .before .before .before)) (j .judge .ensures)))
 
 pub resize-spec : {M : Type 1} → statement M
 resize-spec =

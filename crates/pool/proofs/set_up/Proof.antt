@@ -32,13 +32,12 @@ format-requires c κs = formattable (fit (c .before .before .before .before .bef
 returns-3 : tie.Need-returns-3
 unfolding rowBytes
 returns-3 c =
-    let w = c .before .before in
-    let z = w .before .before .before .before in
-    let e = z .before .before in
+    let e = c .before .before .before .before .before .before .before .before in
     let a = e .before .before .before .before .before .args in
     let k = keptIn (now (a .room)) (a .t) in
-    whole refl (z .fill-zero .ensures) (ap₂ keptIn (w .format .ensures ∙ formatted rowBytes (engine rowBytes) (now (a .arena)) k (now (a .room)) refl byMasks
-    (fit e)) (sym (fresh-totals rowBytes (length (now (a .arena)) / rowBytes))))
+    whole refl (c .before .before .before .before .before .before .fill-zero .ensures) (ap₂ keptIn
+    (c .before .before .format .ensures ∙ formatted rowBytes (engine rowBytes) (now (a .arena)) k (now (a .room)) refl byMasks (fit e))
+    (sym (fresh-totals rowBytes (length (now (a .arena)) / rowBytes))))
     ∙ sym (set-up-made rowBytes (engine rowBytes) (now (a .arena)) k (now (a .room)) refl (fit e))
 
 pub set-up-spec : {M : Type 1} → statement M

@@ -3,7 +3,7 @@
 use Rattle.slotpool.proofs.Kit.{refl, sym, subst, _+_, [], _∷_, w32, w64, vint, id⊢, Lfts, _$_, !, move, keep, look, init, stop, hop}
 use Rattle.slotpool.proofs.Kit.{from, addr, no-more, assigns, params1, pass1, pass0, Spells, valss, uint-vals, ptr-vals, slice-vals}
 use Rattle.slotpool.proofs.Kit.{typesAt, Vals, grantsAligned, keptIn, Totals, Gives, takes, calls-by, hears, turns, frees-all, leaving}
-use Rattle.slotpool.proofs.Kit.{relends, copies, tells, does, less, by-value, machine, LentWalk, lent-met}
+use Rattle.slotpool.proofs.Kit.{stores-slice, stores-number, relends, copies, tells, does, less, by-value, machine, LentWalk, lent-met}
 use Rattle.slotpool.proofs.grant_aligned_by as first
 use Rattle.slotpool.proofs.grant_aligned_by.Symbol as first-def
 use Rattle.slotpool.proofs.grant_aligned_by.Symbol.{name as #slotpool·grant-aligned-by}
@@ -20,10 +20,8 @@ spells κs = (slice-vals, (slice-vals, (ptr-vals, (uint-vals w64, (uint-vals w64
 walk : LentWalk f.ended (λ M. f.clauses {M = M}) code.function spells #slotpool·grant-aligned-by first.ended (λ M. first.clauses {M = M})
 walk M 𝓤 H A W at-mem run C Λ fm known-first known-then κs qs bounds a g are bs =
     let vs : Vals f.signature κs = valss (typesAt (f.signature .params) κs) (spells κs) a in
-    params1 ! $ pass1 ! (init ! 1 refl (tt, (tt, (record { fits = are .0 .0 .1 .0 }, tt)))) $
-    pass1 ! (init ! 2 refl (tt, (tt, (record { fits = are .1 .0 .0 .1 .0 }, tt)))) $ pass1 ! (init ! 3 refl (tt, tt)) $
-    pass1 ! (init ! 4 refl (tt, record { fits = are .1 .1 .1 .0 .1 })) $ pass1 ! (init ! 5 refl (tt, record { fits = are .1 .1 .1 .1 .0 .1 })) $
-    pass1 ! (init ! 6 refl (tt, tt)) $ pass0 ! $
+    params1 ! $ stores-slice ! 1 refl (are .0 .0 .1 .0) $ stores-slice ! 2 refl (are .1 .0 .0 .1 .0) $ pass1 ! (init ! 3 refl (tt, tt)) $
+    stores-number ! 4 refl (are .1 .1 .1 .0 .1) $ stores-number ! 5 refl (are .1 .1 .1 .1 .0 .1) $ pass1 ! (init ! 6 refl (tt, tt)) $ pass0 ! $
     -- [_0 … _15; what frees them; arena, room, totals, n, align, value; tokens: arena, room, totals, value]
     relends ! 1 8 9 refl refl refl (are .0 .0 .1 .0) $ relends ! 2 10 11 refl refl refl (are .1 .0 .0 .1 .0) $ move ! (19 ∷ 25 ∷ []) $
     copies ! 3 12 (a .1 .1 .0) refl refl $ turns ! 3 $

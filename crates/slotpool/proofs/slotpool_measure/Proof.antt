@@ -3,7 +3,8 @@
 use Rattle.slotpool.proofs.Kit.{refl, sym, ap, subst, _+_, [], _∷_, Holds, tyInt, w32, w64, Val, hasTy, WT, id⊢, Lfts, _$_, !, move, keep}
 use Rattle.slotpool.proofs.Kit.{look, init, stop, hop, from, addr, no-more, assigns, land, returns, params1, pass1, pass0, Is, Spells}
 use Rattle.slotpool.proofs.Kit.{shows, valss, uint-vals, u32, ptr-vals, slice-vals, only, peeks, typesAt, Vals, measures, Tells, takes}
-use Rattle.slotpool.proofs.Kit.{calls-by, hears, turns, frees-all, leaving, reads, does, less, by-value, machine, ReadWalk, read-met}
+use Rattle.slotpool.proofs.Kit.{calls-by, hears, turns, frees-all, leaving, stores-slice, stores-number, reads, does, less, by-value}
+use Rattle.slotpool.proofs.Kit.{machine, ReadWalk, read-met}
 use Rattle.slotpool.proofs.measure_by as first
 use Rattle.slotpool.proofs.measure_by.Symbol as first-def
 use Rattle.slotpool.proofs.measure_by.Symbol.{name as #slotpool·measure-by}
@@ -20,9 +21,8 @@ spells κs = (slice-vals, (slice-vals, (ptr-vals, (uint-vals w64, (ptr-vals, tt)
 walk : ReadWalk f.ended (λ M. f.clauses {M = M}) code.function spells #slotpool·measure-by first.ended (λ M. first.clauses {M = M})
 walk M 𝓤 H A W at-mem run C Λ fm known-first κs qs bounds a g are bs =
     let vs : Vals f.signature κs = valss (typesAt (f.signature .params) κs) (spells κs) a in
-    params1 ! $ pass1 ! (init ! 1 refl (tt, (tt, (record { fits = are .0 .0 .1 .0 }, tt)))) $
-    pass1 ! (init ! 2 refl (tt, (tt, (record { fits = are .1 .0 .0 .1 .0 }, tt)))) $ pass1 ! (init ! 3 refl (tt, tt)) $
-    pass1 ! (init ! 4 refl (tt, record { fits = are .1 .1 .1 .0 .1 })) $ pass1 ! (init ! 5 refl (tt, tt)) $ pass0 ! $
+    params1 ! $ stores-slice ! 1 refl (are .0 .0 .1 .0) $ stores-slice ! 2 refl (are .1 .0 .0 .1 .0) $ pass1 ! (init ! 3 refl (tt, tt)) $
+    stores-number ! 4 refl (are .1 .1 .1 .0 .1) $ pass1 ! (init ! 5 refl (tt, tt)) $ pass0 ! $
     -- [_0 … _7; what frees them; arena, room, totals, handle, value; tokens: arena, room, totals, value]
     move ! (11 ∷ 16 ∷ []) $ reads ! 3 6 (a .1 .1 .0) refl refl $ turns ! 2 $
     -- [_0 … _7; what frees them; arena, room, handle, value; tokens: arena, room, value; the totals; tokens: totals]

@@ -2,8 +2,8 @@
 -- Assumes nothing.
 use Rattle.slotpool.proofs.Kit.{refl, sym, subst, _+_, [], _∷_, w32, w64, vint, id⊢, Lfts, _$_, !, move, keep, init, no-more, params1}
 use Rattle.slotpool.proofs.Kit.{pass1, pass0, Spells, valss, uint-vals, ptr-vals, slice-vals, typesAt, Vals, releases, keptIn, Totals}
-use Rattle.slotpool.proofs.Kit.{Leaves, takes, calls-by, hears, turns, frees-all, leaving, relends, copies, tells, does, less, by-value}
-use Rattle.slotpool.proofs.Kit.{machine, LentWalk, lent-met}
+use Rattle.slotpool.proofs.Kit.{Leaves, takes, calls-by, hears, turns, frees-all, leaving, stores-slice, stores-number, relends, copies}
+use Rattle.slotpool.proofs.Kit.{tells, does, less, by-value, machine, LentWalk, lent-met}
 use Rattle.slotpool.proofs.release_by as first
 use Rattle.slotpool.proofs.release_by.Symbol as first-def
 use Rattle.slotpool.proofs.release_by.Symbol.{name as #slotpool·release-by}
@@ -20,9 +20,8 @@ spells κs = (slice-vals, (slice-vals, (ptr-vals, (uint-vals w64, tt))))
 walk : LentWalk f.ended (λ M. f.clauses {M = M}) code.function spells #slotpool·release-by first.ended (λ M. first.clauses {M = M})
 walk M 𝓤 H A W at-mem run C Λ fm known-first known-then κs qs bounds a g are bs =
     let vs : Vals f.signature κs = valss (typesAt (f.signature .params) κs) (spells κs) a in
-    params1 ! $ pass1 ! (init ! 1 refl (tt, (tt, (record { fits = are .0 .0 .1 .0 }, tt)))) $
-    pass1 ! (init ! 2 refl (tt, (tt, (record { fits = are .1 .0 .0 .1 .0 }, tt)))) $ pass1 ! (init ! 3 refl (tt, tt)) $
-    pass1 ! (init ! 4 refl (tt, record { fits = are .1 .1 .1 .0 .1 })) $ pass0 ! $
+    params1 ! $ stores-slice ! 1 refl (are .0 .0 .1 .0) $ stores-slice ! 2 refl (are .1 .0 .0 .1 .0) $ pass1 ! (init ! 3 refl (tt, tt)) $
+    stores-number ! 4 refl (are .1 .1 .1 .0 .1) $ pass0 ! $
     -- [_0 … _12; what frees them; arena, room, totals, handle; tokens: arena, room, totals]
     relends ! 1 6 7 refl refl refl (are .0 .0 .1 .0) $ relends ! 2 8 9 refl refl refl (are .1 .0 .0 .1 .0) $ move ! (16 ∷ 20 ∷ []) $
     copies ! 3 10 (a .1 .1 .0) refl refl $ turns ! 3 $
@@ -41,7 +40,6 @@ walk M 𝓤 H A W at-mem run C Λ fm known-first known-then κs qs bounds a g ar
 
 pub slotpool-release-spec : {M : Type 1} → stated.statement M
 unfolding code.routine
-slotpool-release-spec {M} 𝓤 H 𝓜 𝓖 𝓡 = lent-met f.ended spells
-    (λ κs. (λ x v p. p .0 .0, (λ x v p. p .0 .0, (λ x v p. p .0, (λ x v p. p .0, tt)))))
+slotpool-release-spec {M} 𝓤 H 𝓜 𝓖 𝓡 = lent-met f.ended spells (λ κs. (λ x v p. p .0 .0, (λ x v p. p .0 .0, (λ x v p. p .0, (λ x v p. p .0, tt)))))
     (λ M. f.clauses {M = M}) code.function #slotpool·release-by first.ended (λ M. first.clauses {M = M}) M 𝓤 H 𝓜 𝓖 𝓡 code.env #slotpool·slotpool-release
     (code.unfolded 𝓤 H 𝓜 𝓡) first-def.routine code.calls-slotpool·release-by (first-thm.met 𝓤 H 𝓜 𝓖 𝓡) walk code.calls-totals·record

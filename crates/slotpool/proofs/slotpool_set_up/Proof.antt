@@ -2,8 +2,8 @@
 -- Assumes nothing.
 use Rattle.slotpool.proofs.Kit.{refl, sym, subst, _+_, [], _∷_, w32, vint, id⊢, Lfts, _$_, !, move, keep, init, no-more, params1, pass1}
 use Rattle.slotpool.proofs.Kit.{pass0, Spells, valss, ptr-vals, slice-vals, typesAt, Vals, setsUp, keptIn, Totals, Leaves, takes}
-use Rattle.slotpool.proofs.Kit.{calls-by, hears, turns, frees-all, leaving, relends, copies, tells, does, less, by-value, machine}
-use Rattle.slotpool.proofs.Kit.{LentWalk, lent-met}
+use Rattle.slotpool.proofs.Kit.{calls-by, hears, turns, frees-all, leaving, stores-slice, relends, copies, tells, does, less, by-value}
+use Rattle.slotpool.proofs.Kit.{machine, LentWalk, lent-met}
 use Rattle.slotpool.proofs.set_up_by as first
 use Rattle.slotpool.proofs.set_up_by.Symbol as first-def
 use Rattle.slotpool.proofs.set_up_by.Symbol.{name as #slotpool·set-up-by}
@@ -20,8 +20,7 @@ spells κs = (slice-vals, (slice-vals, (ptr-vals, tt)))
 walk : LentWalk f.ended (λ M. f.clauses {M = M}) code.function spells #slotpool·set-up-by first.ended (λ M. first.clauses {M = M})
 walk M 𝓤 H A W at-mem run C Λ fm known-first known-then κs qs bounds a g are bs =
     let vs : Vals f.signature κs = valss (typesAt (f.signature .params) κs) (spells κs) a in
-    params1 ! $ pass1 ! (init ! 1 refl (tt, (tt, (record { fits = are .0 .0 .1 .0 }, tt)))) $
-    pass1 ! (init ! 2 refl (tt, (tt, (record { fits = are .1 .0 .0 .1 .0 }, tt)))) $ pass1 ! (init ! 3 refl (tt, tt)) $ pass0 ! $
+    params1 ! $ stores-slice ! 1 refl (are .0 .0 .1 .0) $ stores-slice ! 2 refl (are .1 .0 .0 .1 .0) $ pass1 ! (init ! 3 refl (tt, tt)) $ pass0 ! $
     -- [_0 … _11; what frees them; arena, room, totals; tokens: arena, room, totals]
     relends ! 1 5 6 refl refl refl (are .0 .0 .1 .0) $ relends ! 2 7 8 refl refl refl (are .1 .0 .0 .1 .0) $ move ! (15 ∷ 18 ∷ []) $
     copies ! 3 9 (a .1 .1 .0) refl refl $ turns ! 3 $
@@ -39,7 +38,6 @@ walk M 𝓤 H A W at-mem run C Λ fm known-first known-then κs qs bounds a g ar
 
 pub slotpool-set-up-spec : {M : Type 1} → stated.statement M
 unfolding code.routine
-slotpool-set-up-spec {M} 𝓤 H 𝓜 𝓖 𝓡 = lent-met f.ended spells
-    (λ κs. (λ x v p. p .0 .0, (λ x v p. p .0 .0, (λ x v p. p .0, tt))))
+slotpool-set-up-spec {M} 𝓤 H 𝓜 𝓖 𝓡 = lent-met f.ended spells (λ κs. (λ x v p. p .0 .0, (λ x v p. p .0 .0, (λ x v p. p .0, tt))))
     (λ M. f.clauses {M = M}) code.function #slotpool·set-up-by first.ended (λ M. first.clauses {M = M}) M 𝓤 H 𝓜 𝓖 𝓡 code.env #slotpool·slotpool-set-up
     (code.unfolded 𝓤 H 𝓜 𝓡) first-def.routine code.calls-slotpool·set-up-by (first-thm.met 𝓤 H 𝓜 𝓖 𝓡) walk code.calls-totals·record

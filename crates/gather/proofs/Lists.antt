@@ -1,15 +1,22 @@
--- The planner, by whether a list can be planned: what it answers, and what it leaves in the array s.
-use Rattle.pool.proofs.Kit.{_∙_, _≡_, sym, ap, true, List, [], _∷_, ℕ, arith, length}
-use Rattle.mem.proofs.Prelude.{false}
+-- What a list call tells; and the planner, by whether a list can be planned: what it answers, and what it leaves in the array s.
+use Rattle.mem.proofs.Prelude.{_∙_, _≡_, sym, ap, subst, true, false, List, [], _∷_, ℕ, arith, length}
 use Rattle.mem.specs.Bytes.{put}
 use Rattle.mem.proofs.Tests.{choose-true, choose-false, T-true, true-T}
 use Rattle.mem.proofs.Laws.{put-nil}
 use Rattle.model.specs.declared.Refusal.the-variants.{TooLong}
 use Rattle.model.specs.declared.Reply.{Reply}
+use Rattle.model.specs.declared.Answered.{Answered}
 use Rattle.model.specs.Answers.{Answer, listDone, refusal, replyAnswer}
 use Rattle.model.specs.Proposals.{entries, accepts, plannable, fullCaps, planned}
+use Rattle.model.specs.Calls.{Result, keptIn}
 use Rattle.model.proofs.Proposals.{planned-accepted}
-use Rattle.pool.specs.Planned.{Planned}
+use Rattle.frames.specs.Listed.{Listed}
+use Rattle.gather.specs.Planned.{Planned}
+
+-- what is left, by what was told
+pub told-list : {o : Result} {l m x u : List ℕ} {w v : Answered} → w ≡ v → Listed o (replyAnswer (v .reply)) l m x (keptIn u (v .totals))
+    → Listed o (replyAnswer (w .reply)) l m x (keptIn u (w .totals))
+told-list {o} {l} {m} {x} {u} e = subst (λ (w : Answered). Listed o (replyAnswer (w .reply)) l m x (keptIn u (w .totals))) (sym e)
 
 module _ (total cap : ℕ) (s : List ℕ) where
   pub not-planned : plannable total cap ≡ false → Planned total cap (replyAnswer (Reply.Refused TooLong)) s s

@@ -1,8 +1,8 @@
 -- By whether a list can be planned.
-use Rattle.pool.proofs.Kit.{_∙_, sym, now, needs, not-false, not-true}
-use Rattle.pool.proofs.Lists.{not-planned, is-planned}
-use Rattle.pool.proofs.plan_list.Statement.{statement}
-use Rattle.pool.proofs.plan_list.Tie as tie
+use Rattle.mem.proofs.Prelude.{_∙_, sym, now, needs, not-false, not-true}
+use Rattle.gather.proofs.Lists.{not-planned, is-planned}
+use Rattle.gather.proofs.plan_list.Statement.{statement}
+use Rattle.gather.proofs.plan_list.Tie as tie
 
 returns : tie.Need-returns
 returns c =
