@@ -47,7 +47,7 @@ returns-2 c =
     record {
       answer = d .answer;
       arena = d .arena;
-      kept = r .reserve-slot .ensures .1 ∙ ap (roomAfterBy bySlots rowBytes (now (a .room))) q ∙ d .room;
+      kept = r .reserve-slot .ensures .1 ∙ ap (roomAfterBy bySlots rowBytes (now (a .room))) q ∙ d .kept;
     }
 
 -- the place that is reserved
