@@ -1,11 +1,10 @@
 -- Laws of what a record does.
-use Rattle.mem.proofs.Prelude.{_∙_, _≡_, sym, ap, ap₂, Bool, true, false, some, none, List, [], _∷_, ℕ, _+_, leb, length}
+use Rattle.mem.proofs.Prelude.{_∙_, _≡_, sym, ap, Bool, true, false, some, none, List, [], _∷_, ℕ, _+_, leb, length}
 use Rattle.mem.specs.Lists.{choose}
 use Rattle.mem.specs.Bytes.{put}
 use Rattle.mem.proofs.Tests.{choose-true, choose-false}
 use Rattle.model.specs.Answers.{Answer, done}
 use Rattle.model.specs.Calls.{KeptBytes, Result, left}
-use Rattle.model.proofs.Calls.{LeftAsIs}
 use Rattle.trace.specs.Trace.{store}
 use Rattle.trace.specs.Replay.{Effect, effect, performed}
 
@@ -13,11 +12,6 @@ use Rattle.trace.specs.Replay.{Effect, effect, performed}
 pub of-call : {d : Effect} {r : Result} {x : Answer} {b : List ℕ} {k : KeptBytes} → d ≡ effect r → left x b k ≡ r
     → record { tells = some x; arena = b; kept = k } ≡ d
 of-call e f = ap effect f ∙ sym e
-
--- a call that only reads, by its answer
-pub of-reading : {r : Result} {x : Answer} {a : List ℕ} {t : KeptBytes} → x ≡ r .answer → LeftAsIs a t r → left x a t ≡ r
-of-reading {r} {x} {a} {t} e k =
-    ap (λ (y : Answer). left y a t) e ∙ ap₂ (λ (b : List ℕ) (u : KeptBytes). left (r .answer) b u) (sym (k .arena)) (sym (k .kept))
 
 -- a record that stores, by what the store promises
 pub of-store : (row : ℕ) (d : Effect) (a : List ℕ) (t : KeptBytes) (bs b : List ℕ) (o : ℕ) (r : Bool) → d ≡ performed row a t (store o bs)

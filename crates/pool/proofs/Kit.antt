@@ -11,7 +11,7 @@ pub use Rattle.frames.proofs.Calls.{Called, called-at, called-refused, called, 
 pub use Rattle.ops.proofs.Calls.{Checked, by-check, checked, refusing, holds}
 use Rattle.model.specs.declared.Answered.{Answered}
 use Rattle.model.specs.Answers.{replyAnswer}
-use Rattle.model.specs.Calls.{Result, left}
+use Rattle.model.specs.Calls.{left}
 use Rattle.model.specs.Plans.{Plan}
 
 -- what is left, by what was told
@@ -22,7 +22,3 @@ told {a = a} {u = u} e = ap (λ (w : Answered). left (replyAnswer (w .reply)) a 
 pub told-out : {a x u : List ℕ} {p : Plan} {w v : Answered} → w ≡ v → CarriedOutBy (engine rowBytes) a p (v .reply) x (keptIn u (v .totals))
     → CarriedOutBy (engine rowBytes) a p (w .reply) x (keptIn u (w .totals))
 told-out {a} {x} {u} {p} e = subst (λ (w : Answered). CarriedOutBy (engine rowBytes) a p (w .reply) x (keptIn u (w .totals))) (sym e)
-
--- the answer alone
-pub answers : {r s : Result} → r ≡ s → r .answer ≡ s .answer
-answers e = ap (λ (r : Result). r .answer) e

@@ -151,7 +151,8 @@ pub fn resize(arena: &mut [u8], room: &mut [u8], t: Totals, handle: usize, n: us
 
 // Measure: the requested size.
 pub fn measure(arena: &[u8], room: &[u8], t: Totals, handle: usize) -> Reply
-    ensures { λ r. ⌜ replyAnswer r ≡ call rowBytes (now (arena .entry)) (keptIn (now (room .entry)) t) (measures handle) .answer ⌝ }
+    ensures { λ r. ⌜ left (replyAnswer r) (now (arena .entry)) (keptIn (now (room .entry)) t)
+        ≡ call rowBytes (now (arena .entry)) (keptIn (now (room .entry)) t) (measures handle) ⌝ }
 {
     if !soundness::sound(classes::ROW, arena.len(), room, t) {
         return Reply::Refused(Refusal::Unsound);
@@ -164,7 +165,8 @@ pub fn measure(arena: &[u8], room: &[u8], t: Totals, handle: usize) -> Reply
 
 // Report: the six totals, as the record has them.
 pub fn report(arena: &[u8], room: &[u8], t: Totals) -> Report
-    ensures { λ r. ⌜ reportAnswer r ≡ call rowBytes (now (arena .entry)) (keptIn (now (room .entry)) t) reports .answer ⌝ }
+    ensures { λ r. ⌜ left (reportAnswer r) (now (arena .entry)) (keptIn (now (room .entry)) t)
+        ≡ call rowBytes (now (arena .entry)) (keptIn (now (room .entry)) t) reports ⌝ }
 {
     if !soundness::sound(classes::ROW, arena.len(), room, t) {
         return Report::Refused(Refusal::Unsound);

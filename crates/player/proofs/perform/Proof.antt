@@ -4,21 +4,18 @@ use Rattle.mem.specs.Lists.{choose}
 use Rattle.mem.specs.Bytes.{part}
 use Rattle.mem.proofs.Tests.{choose-true, choose-false}
 use Rattle.classes.specs.Classes.{rowBytes}
-use Rattle.classes.proofs.Laws.{card-some}
 use Rattle.model.specs.declared.Totals.{Totals}
 use Rattle.model.specs.declared.Answered.{Answered}
 use Rattle.model.specs.Answers.{Answer, done, replyAnswer}
 use Rattle.model.specs.Plans.{Call, grants, releases, resizes, measures, reports}
-use Rattle.model.specs.Calls.{KeptBytes, keptIn, engine, left, call}
-use Rattle.model.proofs.Kept.{engine-lawful}
-use Rattle.model.proofs.Calls.{measure-keeps, report-keeps}
+use Rattle.model.specs.Calls.{KeptBytes, keptIn, Result, left, call}
 use Rattle.trace.specs.declared.Op.{Op}
 use Rattle.trace.specs.Trace.{Within, operationOf}
 use Rattle.trace.specs.Replay.{Line, Effect, effect, performed}
 use Rattle.line_text.specs.declared.Said.{Said}
 use Rattle.player.specs.declared.Played.{Played}
 use Rattle.line_text.specs.Lines.{lineText, answerOf, Short}
-use Rattle.player.proofs.Laws.{of-call, of-reading, of-store}
+use Rattle.player.proofs.Laws.{of-call, of-store}
 use Rattle.player.proofs.Lines.{report-short}
 use Rattle.player.proofs.perform.Statement.{statement}
 use Rattle.player.proofs.perform.Tie as tie
@@ -92,9 +89,7 @@ unfolding performed operationOf
 returns-4 c =
     let s = c .before .before .before .before .before .before .before .before .before in
     let o = c .before .before .before .before .op4 .given in
-    let k = measure-keeps rowBytes (engine rowBytes) (engine-lawful rowBytes card-some) (now (s .args .arena)) (keptIn (now (s .args .room)) (s .args .t))
-    (o .0 .0) in
-    (tt, asks s (Op.Measure (o .0 .0)) (measures (o .0 .0)) (o .1) refl (of-reading (c .measure .ensures) k))
+    (tt, asks s (Op.Measure (o .0 .0)) (measures (o .0 .0)) (o .1) refl (c .measure .ensures))
 
 -- an effect by its parts
 abbrev effectOf : Option Answer → List ℕ → KeptBytes → Effect
@@ -129,10 +124,9 @@ returns-7 : tie.Need-returns-7
 unfolding performed operationOf
 returns-7 c =
     let s = c .before .before .before .before .before .before .before .before in
-    let k = report-keeps rowBytes (engine rowBytes) (engine-lawful rowBytes card-some) (now (s .args .arena)) (keptIn (now (s .args .room)) (s .args .t)) in
     let e = c .report .ensures in (
-      subst (λ (r : Answer). length (lineText (Line.told r)) ≤ 45) (sym e) (report-short (now (s .args .arena)) (keptIn (now (s .args .room)) (s .args .t))),
-      asks s Op.Report reports (c .before .before .before .enum-told .given .1) refl (of-reading e k),
+      subst (λ (r : Result). length (lineText (Line.told (r .answer))) ≤ 45) (sym e) (report-short (now (s .args .arena)) (keptIn (now (s .args .room)) (s .args .t))),
+      asks s Op.Report reports (c .before .before .before .enum-told .given .1) refl e,
     )
 
 pub perform-spec : {M : Type 1} → statement M
