@@ -1,7 +1,5 @@
 // What the calls do with a block, over arena and tables: locate it, give it back, change its size; a slot is reserved in `reserving`. What changes
 // the tables takes the totals of those that are lent, and gives the totals of those that it leaves.
-pub use reserving::Reserved;
-pub use reserving::reserve_slot;
 ghost use mathlib.Core.Path.{_≡_};
 ghost use mathlib.Core.Bool.{true};
 ghost use lib.ListN.{length};
@@ -19,6 +17,7 @@ use model::Answered;
 use model::Refusal;
 use model::Reply;
 use model::Totals;
+use reserving::Reserved;
 use rows::Block;
 
 // The block of a handle, if it is live, the handle its present one, and undamaged.
@@ -104,7 +103,8 @@ fn resize_by_move(
         → CarriedOutBy (engine row) (now (arena .entry)) (resizeMove row (poolOf p) p n) (r .reply) (now (arena .exit))
         (keptIn (now (room .exit)) (r .totals))) ⌝ }
 {
-    let Reserved::Taken(q, s) = reserve_slot(row, arena.len(), room, t, b.alloc.align, n) else {
+    let Reserved::Taken(q, s) = reserving::reserve_slot(row, arena.len(), room, t, b.alloc.align, n)
+    else {
         return Answered {
             reply: Reply::Refused(Refusal::NoRoom),
             totals: t,

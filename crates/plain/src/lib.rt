@@ -170,7 +170,7 @@ pub fn grant_list(
     if !proposals::accepts(total, cap, sizes) {
         return Reply::Refused(Refusal::BadProposal);
     }
-    if !plain_ops::fits(classes::ROW, len, room, sizes) {
+    if !plain_survey::fits(classes::ROW, len, room, sizes) {
         return Reply::Refused(Refusal::NoRoom);
     }
     plain_ops::grant_all(classes::ROW, arena, room, sizes, handles);

@@ -3,7 +3,6 @@
 mod list;
 
 pub use list::grant_all;
-pub use plain_survey::fits;
 ghost use mathlib.Core.Path.{_≡_};
 ghost use mathlib.Core.Bool.{true};
 ghost use Prim.Native.Nat.{_<_};

@@ -19,7 +19,7 @@ use model::Refusal;
 use model::Reply;
 use model::Report;
 use model::Totals;
-use ops::Reserved;
+use reserving::Reserved;
 
 // The exact size of the table room for an arena, or 0 where the arena's length is outside the rule.
 pub fn room_len(arena_len: usize) -> usize
@@ -67,7 +67,8 @@ fn grant_as(arena: &mut [u8], room: &mut [u8], t: Totals, code: u8, n: usize) ->
         return totals::refused(Refusal::TooLarge, t);
     }
     let len = arena.len();
-    let Reserved::Taken(b, taken) = ops::reserve_slot(classes::ROW, len, room, t, code, n) else {
+    let Reserved::Taken(b, taken) = reserving::reserve_slot(classes::ROW, len, room, t, code, n)
+    else {
         return totals::refused(Refusal::NoRoom, t);
     };
     let handle = frames::lay_out(classes::ROW, arena, b);
