@@ -25,7 +25,7 @@ use Rattle.model.proofs.Reserve.{Served, served, reserve-size}
 use Rattle.model.proofs.Formed.{any-middle, plan-formed}
 use Rattle.model.proofs.Calls.{Asks}
 use Rattle.model.proofs.Moves.{Old, old, old-released}
-use Rattle.claims.specs.History.{LedgerBlock, Ledger, opening, without, enteredGrant, enteredEach, entered, Asked, booked, booksAfter, Balances, Tells, History}
+use Rattle.claims.specs.History.{LedgerBlock, Ledger, opening, without, enteredGrant, enteredEach, entered, Asked, booked, booksAfter, Balances, ReportTells, History}
 use Rattle.model.proofs.Handles.{same-start, stays-handle}
 use Rattle.claims.proofs.Cases.{reserve-live, taken-same, refuses, by-call, Named, on-named, on-grant, on-aligned, on-resize}
 use Rattle.claims.proofs.Demand1.{demand1}
@@ -436,7 +436,7 @@ module _ (row : ℕ) (pos : 0 < row) (F : Form) (L : FormLaws row F) (n : ℕ) w
   calls-kept l t (c ∷ cs) k = calls-kept _ (callBy row F (c .arena) t (c .asks) .kept) cs (call-kept l (c .arena) t k (c .asks))
 
   -- what report gives over an arena of n bytes
-  kept-told : (b : List ℕ) → length b ≡ n → (l : Ledger) (t : F .Kept) → Kept l t → Tells row F b (record { ledger = l; kept = t }) n
+  kept-told : (b : List ℕ) → length b ≡ n → (l : Ledger) (t : F .Kept) → Kept l t → ReportTells row F b (record { ledger = l; kept = t }) n
   kept-told b e l t k = record {
     totals = totals row (F .view t);
     given = reports-as-said row F b t (subst (λ m. T (F .sound m t)) (sym e) (k .tables));

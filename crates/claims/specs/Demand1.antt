@@ -133,6 +133,7 @@ module _ (row : ℕ) where
       when TooLong (TooLongList total cap places) ∷ when BadProposal (T (not (accepts total cap ns))) ∷ when NoRoom (Meets P ns) ∷ []
 
   module _ (F : Form) where
+    -- "unsound: arena or table room length wrong, or a soundness rule is broken"
     abbrev pub unsoundReason : List ℕ → F .Kept → Reason
     unsoundReason a t = when Unsound (T (not (F .sound (length a) t)))
 

@@ -79,7 +79,7 @@ module _ (row : ℕ) (F : Form) where
   booksAfter l t (c ∷ cs) = let r = callBy row F (c .arena) t (c .asks) in booksAfter (booked l (c .asks) (r .answer)) (r .kept) cs
 
   -- what report answers over an arena b and the tables that calls left: it is done, and its values are totals that keep the rules
-  pub record Tells (b : List ℕ) (k : Books (F .Kept)) (n : ℕ) : Type 0 where
+  pub record ReportTells (b : List ℕ) (k : Books (F .Kept)) (n : ℕ) : Type 0 where
     pub totals : Totals
     pub given : callBy row F b (k .kept) reports .answer ≡ done (listed totals)
     pub counts : Balances row (k .ledger) totals n
@@ -87,4 +87,4 @@ module _ (row : ℕ) (F : Form) where
   -- HISTORY: from an accepted set up, for every list of calls over any arena at each, and then a report over any arena of the pool's length
   abbrev pub History : Type 0
   History = (a : List ℕ) (t : F .Kept) (cs : List Asked) (b : List ℕ) → T (setUpRightBy row F a t) → length b ≡ length a
-      → Tells b (booksAfter opening (setUpBy row F a t .kept) cs) (length a)
+      → ReportTells b (booksAfter opening (setUpBy row F a t .kept) cs) (length a)

@@ -9,41 +9,19 @@ pub use Rattle.rows.specs.Rows.{Holds}
 pub use Rattle.frames.specs.Blocks.{CarriedOutBy}
 pub use Rattle.frames.proofs.Calls.{Checked, Called, called-at, called-refused, called, carried-as, whole}
 pub use Rattle.plain_tables.proofs.Opens.{by-slots}
+pub use Rattle.plain_ops.proofs.Calls.{Sound, by-check, checked, refusing}
 unfoldable pub use Rattle.classes.specs.Classes.{rowBytes, tooLarge}
 pub use Rattle.classes.specs.Alignments.{enlarged, Askable}
 pub use Rattle.classes.proofs.Laws.{card-row}
-use Rattle.mem.proofs.Prelude.{Bool, List, ℕ, not, not-true}
+use Rattle.mem.proofs.Prelude.{Bool, List, ℕ}
 use Rattle.mem.specs.Lists.{choose}
-use Rattle.classes.proofs.Laws.{card-some}
 use Rattle.model.specs.declared.Totals.{Totals}
 use Rattle.model.specs.State.{Place}
-use Rattle.model.specs.Plans.{Call, Plan}
-use Rattle.model.specs.Tables.{soundBy}
-use Rattle.model.specs.Calls.{keeps, unsound}
-use Rattle.model.specs.Plain.{plainCall}
-use Rattle.model.proofs.Calls.{Asks, call-unsound}
-use Rattle.model.proofs.Plain.{plain-lawful}
+use Rattle.model.specs.Plans.{Plan}
 use Rattle.rows.specs.declared.Block.{Block}
 use Rattle.rows.specs.declared.Counted.{Counted}
 use Rattle.rows.specs.Counts.{countedIf}
 use Rattle.frames.proofs.Places.{found-holds}
-
--- what is lent passed the check
-abbrev pub Sound : (a t : List ℕ) → Type 0
-Sound a t = Checked rowBytes (plainForm rowBytes) a t
-
-pub by-check : (a t : List ℕ) → soundBy bySlots rowBytes (length a) t ≡ true → Sound a t
-by-check a t e = record { laws = plain-lawful rowBytes card-some; sound = e }
-
--- by what the check of a row's 512 bytes said, which the code negates
-module _ (a t : List ℕ) {w : Bool} (e : w ≡ soundBy bySlots 512 (length a) t) where
-  pub checked : not w ≡ false → Sound a t
-  unfolding rowBytes
-  checked h = by-check a t (sym e ∙ not-false w h)
-
-  pub refusing : (c : Call) → Asks c → not w ≡ true → keeps (unsound c) a t ≡ plainCall rowBytes a t c
-  unfolding rowBytes
-  refusing c k h = sym (call-unsound rowBytes (plainForm rowBytes) a t c k (sym e ∙ not-true w h))
 
 -- the tables hold the block that is located
 pub holds : {a t : List ℕ} (r : Sound a t) {h : ℕ} {k : Place → Plan} {named : (p : Place) → k p .checks ≡ some p} {b : Block} (d : Called r h k named b)

@@ -1,17 +1,16 @@
 // The calls of the plain pool, over a lent arena and a lent table room. Each takes any bytes, handle and size, and one equation says what it answers
-// and leaves: what the model's call does on these bytes (plainCall, crates/model/specs/Plain.antt). For C: slotpool_plain.
+// and leaves: what the model's call does on these bytes (plainCall, crates/model/specs/Plain.antt). Lists are plain_gather's. For C: slotpool_plain.
 ghost use mathlib.Core.Path.{_≡_};
 ghost use mathlib.Core.Bool.{true};
 ghost use Prim.Native.Nat.{_≤_};
 ghost use lib.ListN.{length};
 ghost use Rattle.classes.specs.Classes.{rowBytes};
 ghost use Rattle.model.specs.Answers.{replyAnswer, reportAnswer};
-ghost use Rattle.model.specs.Plans.{setsUp, grants, grantsAligned, releases, resizes, measures, reports, grantsList, grantAs};
+ghost use Rattle.model.specs.Plans.{setsUp, grants, grantsAligned, releases, resizes, measures, reports, grantAs};
 ghost use Rattle.model.specs.Tables.{soundBy, viewBy};
 ghost use Rattle.model.specs.Plain.{bySlots, plainForm, plainCall};
 ghost use Rattle.model.specs.Calls.{left};
 ghost use Rattle.frames.specs.Blocks.{CarriedOutBy};
-ghost use Rattle.frames.specs.Listed.{Listed};
 use frames::Located;
 use model::Refusal;
 use model::Reply;
@@ -141,38 +140,4 @@ pub fn report(arena: &[u8], room: &[u8]) -> Report
         Counted::Sound(t) => Report::Counted(t),
         Counted::Unsound => Report::Refused(Refusal::Unsound),
     }
-}
-
-// 02 §3: "The list call takes a proposal, grants its sizes in order, writes the starts to the front of a lent list, keeps its later places and gives
-// the number of entries"; "Order: 2, 9, 17, 8. A refused list leaves arena, tables and lent list unchanged, use counts included."
-pub fn grant_list(
-    arena: &mut [u8],
-    room: &mut [u8],
-    total: usize,
-    cap: usize,
-    sizes: &[usize],
-    handles: &mut [usize],
-) -> Reply
-    ensures { λ r. ⌜ Listed (plainCall rowBytes (now (arena .entry)) (now (room .entry))
-        (grantsList «total» cap (length (now (handles .entry))) (now (sizes .entry))))
-        (replyAnswer r) (now (handles .entry)) (now (handles .exit)) (now (arena .exit)) (now (room .exit)) ⌝ }
-{
-    let len = arena.len();
-    if !plain_sound::sound(classes::ROW, len, room) {
-        return Reply::Refused(Refusal::Unsound);
-    }
-    if !proposals::plannable(total, cap) {
-        return Reply::Refused(Refusal::TooLong);
-    }
-    if handles.len() < proposals::ENTRIES {
-        return Reply::Refused(Refusal::TooLong);
-    }
-    if !proposals::accepts(total, cap, sizes) {
-        return Reply::Refused(Refusal::BadProposal);
-    }
-    if !plain_survey::fits(classes::ROW, len, room, sizes) {
-        return Reply::Refused(Refusal::NoRoom);
-    }
-    plain_ops::grant_all(classes::ROW, arena, room, sizes, handles);
-    Reply::Done(sizes.len())
 }

@@ -27,8 +27,8 @@ idle-sum (Live a ∷ ss) = omega (arith, idle-sum ss)
 pub live-inside : (c : ℕ) (t : List ℕ) → liveIn (plainGroup c t) ≤ slotsOf c
 live-inside c t = omega (arith, live-few (plainGroup c t), group-length c t)
 
-module _ {row len : ℕ} {t : List ℕ} {i : ℕ} {X : Pool} {s : Span} {Y : Pool} {spare map : List ℕ} (x : Next bySlots row len t i X s Y)
-    (n : Noted row (len / row) X spare map) (h : Holder) (e : h ≡ viewHolder (drop (rowAt i) t)) (k : ℕ) (g : h ≡ First k) where
+module _ {row len : ℕ} {t : List ℕ} {i : ℕ} {X : Pool} {s : Span} {Y : Pool} {spare gaps : List ℕ} (x : Next bySlots row len t i X s Y)
+    (n : Noted row (len / row) X spare gaps) (h : Holder) (e : h ≡ viewHolder (drop (rowAt i) t)) (k : ℕ) (g : h ≡ First k) where
   pub slots-idle : slotsOf k - liveIn (plainGroup k (drop (rowAt i) t)) ≡ sum (λ x. bit (not (isLive x))) (the-group x n h e k g .0)
   slots-idle =
       let ss = the-group x n h e k g .0 in

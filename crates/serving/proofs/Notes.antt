@@ -20,7 +20,7 @@ use Rattle.model.proofs.Tables.{group-few}
 use Rattle.model.proofs.Rooms.{rows-append}
 use Rattle.rows.specs.Rows.{Lent}
 use Rattle.rows.proofs.Rooms.{holderOf, some-rows, row-count, few-rows, row-inside, facts, before-sound, span-sound, span-rows, span-holder}
-use Rattle.serving.specs.Survey.{openIn, openSlots, rowMap, mapOf, Tells}
+use Rattle.serving.specs.Survey.{openIn, openSlots, rowMap, mapOf, NotesOf}
 use Rattle.serving.specs.Walk.{Next, Noted}
 
 -- ---- one span more
@@ -98,8 +98,8 @@ module _ {L : Layout} {row len : ℕ} {t : List ℕ} {i : ℕ} {X : Pool} {s : S
   holder : viewHolder (drop (rowAt i) t) ≡ holderOf s
   holder = ap (λ k. viewHolder (drop (rowAt k) t)) (x .first) ∙ span-holder (x .lent) X s Y (x .split)
 
-  module _ {spare map : List ℕ} (n : Noted row (len / row) X spare map) where
-    pub span-place : i < length map
+  module _ {spare gaps : List ℕ} (n : Noted row (len / row) X spare gaps) where
+    pub span-place : i < length gaps
     span-place =
         omega (
           arith,
@@ -113,11 +113,11 @@ module _ {L : Layout} {row len : ℕ} {t : List ℕ} {i : ℕ} {X : Pool} {s : S
         )
 
 -- the notes after a span
-module _ {L : Layout} {row len : ℕ} {t : List ℕ} {i : ℕ} {X Y : Pool} {spare map : List ℕ} (n : Noted row (len / row) X spare map) where
-  free-noted : Next L row len t i X free Y → Noted row (len / row) (X ++ (free ∷ [])) spare (set map i 1)
+module _ {L : Layout} {row len : ℕ} {t : List ℕ} {i : ℕ} {X Y : Pool} {spare gaps : List ℕ} (n : Noted row (len / row) X spare gaps) where
+  free-noted : Next L row len t i X free Y → Noted row (len / row) (X ++ (free ∷ [])) spare (set gaps i 1)
   free-noted x =
       let m = len / row in
-      let e : map ≡ mapOf row X ++ (0 ∷ zeros (m - (rows row X + 1))) =
+      let e : gaps ≡ mapOf row X ++ (0 ∷ zeros (m - (rows row X + 1))) =
       n .rows-free ∙ ap (λ l. mapOf row X ++ l) (zeros-left m (rows row X) (omega (arith, x .first, span-fits x))) in
       record {
         classes = n .classes;
@@ -144,7 +144,7 @@ module _ {L : Layout} {row len : ℕ} {t : List ℕ} {i : ℕ} {X Y : Pool} {spa
         (omega (arith, getD-set-same spare k (getD spare k 0 + v) 0 (omega (arith, n .classes, group-class)), n .counts k group-class)))
         (λ q. omega (arith, getD-set-other spare k c (getD spare k 0 + v) 0 (λ z. eqb-false k c q (sym z)), n .counts c h))
 
-    group-noted : (v : ℕ) → v ≡ sum (λ x. bit (not (isLive x))) ss → Noted row (len / row) (X ++ (group k ss ∷ [])) (set spare k (getD spare k 0 + v)) map
+    group-noted : (v : ℕ) → v ≡ sum (λ x. bit (not (isLive x))) ss → Noted row (len / row) (X ++ (group k ss ∷ [])) (set spare k (getD spare k 0 + v)) gaps
     group-noted v e =
         let m = len / row in
         let r = rowsOf row k in
@@ -169,12 +169,12 @@ module _ {L : Layout} {row len : ℕ} {t : List ℕ} {i : ℕ} {X Y : Pool} {spa
     }
 
 -- by who holds the row
-module _ {L : Layout} {row len : ℕ} {t : List ℕ} {i : ℕ} {X : Pool} {s : Span} {Y : Pool} {spare map : List ℕ} (x : Next L row len t i X s Y)
-    (n : Noted row (len / row) X spare map) (h : Holder) (e : h ≡ viewHolder (drop (rowAt i) t)) where
-  pub free-next : OneOf (0 ∷ 2 ∷ []) (tagOf the-type h) → (1 ≡ rowsIn row s) × Noted row (len / row) (X ++ (s ∷ [])) spare (set map i 1)
+module _ {L : Layout} {row len : ℕ} {t : List ℕ} {i : ℕ} {X : Pool} {s : Span} {Y : Pool} {spare gaps : List ℕ} (x : Next L row len t i X s Y)
+    (n : Noted row (len / row) X spare gaps) (h : Holder) (e : h ≡ viewHolder (drop (rowAt i) t)) where
+  pub free-next : OneOf (0 ∷ 2 ∷ []) (tagOf the-type h) → (1 ≡ rowsIn row s) × Noted row (len / row) (X ++ (s ∷ [])) spare (set gaps i 1)
   free-next o =
       let f : s ≡ free = free-held s h (e ∙ holder x) o in
-      subst (λ s. (1 ≡ rowsIn row s) × Noted row (len / row) (X ++ (s ∷ [])) spare (set map i 1)) (sym f)
+      subst (λ s. (1 ≡ rowsIn row s) × Noted row (len / row) (X ++ (s ∷ [])) spare (set gaps i 1)) (sym f)
       (refl, free-noted n (subst (λ s. Next L row len t i X s Y) f x))
 
   module _ (k : ℕ) (g : h ≡ First k) where
@@ -191,32 +191,32 @@ module _ {L : Layout} {row len : ℕ} {t : List ℕ} {i : ℕ} {X : Pool} {s : S
     idle-slots = omega (arith, idle-few (the-group .0), group-few k (the-group .0) (span-sound (x .lent) X (group k (the-group .0)) Y (group-here .split)))
 
     pub group-next : (v : ℕ) → v ≡ sum (λ x. bit (not (isLive x))) (the-group .0)
-        → (rowsOf row k ≡ rowsIn row s) × Noted row (len / row) (X ++ (s ∷ [])) (set spare k (getD spare k 0 + v)) map
+        → (rowsOf row k ≡ rowsIn row s) × Noted row (len / row) (X ++ (s ∷ [])) (set spare k (getD spare k 0 + v)) gaps
     group-next v f =
-        subst (λ s. (rowsOf row k ≡ rowsIn row s) × Noted row (len / row) (X ++ (s ∷ [])) (set spare k (getD spare k 0 + v)) map) (sym (the-group .1))
+        subst (λ s. (rowsOf row k ≡ rowsIn row s) × Noted row (len / row) (X ++ (s ∷ [])) (set spare k (getD spare k 0 + v)) gaps) (sym (the-group .1))
         (refl, group-noted n group-here v f)
 
 -- ---- the walk
 
 -- the walk has come to row i
-pub record Passed (L : Layout) (row len : ℕ) (t : List ℕ) (i : ℕ) (spare map : List ℕ) : Type 0 where
+pub record Passed (L : Layout) (row len : ℕ) (t : List ℕ) (i : ℕ) (spare gaps : List ℕ) : Type 0 where
   pub before : Pool
   pub after : Pool
   pub split : viewBy L row t ≡ before ++ after
   pub first : i ≡ rows row before
-  pub noted : Noted row (len / row) before spare map
+  pub noted : Noted row (len / row) before spare gaps
 
 -- the walk has passed k rows more
-pub record Further (L : Layout) (row len : ℕ) (t : List ℕ) (i k : ℕ) (spare map : List ℕ) : Type 0 where
+pub record Further (L : Layout) (row len : ℕ) (t : List ℕ) (i k : ℕ) (spare gaps : List ℕ) : Type 0 where
   pub some : 1 ≤ k
   pub inside : i + k ≤ len / row
   pub few : len / row ≤ 512
-  pub again : Passed L row len t (i + k) spare map
+  pub again : Passed L row len t (i + k) spare gaps
 
 -- at first nothing is noted
-pub begin : (L : Layout) (row len : ℕ) (t spare map : List ℕ) → spare ≡ zeros 48 → map ≡ zeros (len / row) → Passed L row len t 0 spare map
+pub begin : (L : Layout) (row len : ℕ) (t spare gaps : List ℕ) → spare ≡ zeros 48 → gaps ≡ zeros (len / row) → Passed L row len t 0 spare gaps
 unfolding openSlots mapOf
-begin L row len t spare map e f = record {
+begin L row len t spare gaps e f = record {
   before = [];
   after = viewBy L row t;
   split = refl;
@@ -228,15 +228,15 @@ begin L row len t spare map e f = record {
   };
 }
 
-module _ {L : Layout} {row len : ℕ} {t : List ℕ} (r : Lent L row len t) {i : ℕ} {spare map : List ℕ} where
+module _ {L : Layout} {row len : ℕ} {t : List ℕ} (r : Lent L row len t) {i : ℕ} {spare gaps : List ℕ} where
   -- behind the last row all is noted
-  pub end : Passed L row len t i spare map → len / row ≤ i → Tells row (viewBy L row t) spare map
+  pub end : Passed L row len t i spare gaps → len / row ≤ i → NotesOf row (viewBy L row t) spare gaps
   end p h = go (p .after) (p .split)
     where
-      go : (Y : Pool) → viewBy L row t ≡ p .before ++ Y → Tells row (viewBy L row t) spare map
+      go : (Y : Pool) → viewBy L row t ≡ p .before ++ Y → NotesOf row (viewBy L row t) spare gaps
       go [] e =
           let f : p .before ≡ viewBy L row t = sym (e ∙ append-nil (p .before)) in
-          let n : Noted row (len / row) (viewBy L row t) spare map = subst (λ P. Noted row (len / row) P spare map) f (p .noted) in
+          let n : Noted row (len / row) (viewBy L row t) spare gaps = subst (λ P. Noted row (len / row) P spare gaps) f (p .noted) in
           let z : len / row - rows row (viewBy L row t) ≡ 0 = omega (arith, row-count r) in
           record {
             formed = facts r .formed;
@@ -248,17 +248,17 @@ module _ {L : Layout} {row len : ℕ} {t : List ℕ} (r : Lent L row len t) {i :
       go (s ∷ Y) e = absurd (omega (arith, row-count r, p .first, span-rows r (p .before) s Y e, some-rows row (r .pos) s))
 
   -- the span at row i
-  pub ahead : Passed L row len t i spare map → i < len / row
-      → (X : Pool) × (s : Span) × (Y : Pool) × Next L row len t i X s Y × Noted row (len / row) X spare map
+  pub ahead : Passed L row len t i spare gaps → i < len / row
+      → (X : Pool) × (s : Span) × (Y : Pool) × Next L row len t i X s Y × Noted row (len / row) X spare gaps
   ahead p h = go (p .after) (p .split)
     where
-      go : (Y : Pool) → viewBy L row t ≡ p .before ++ Y → (X : Pool) × (s : Span) × (Y : Pool) × Next L row len t i X s Y × Noted row (len / row) X spare map
+      go : (Y : Pool) → viewBy L row t ≡ p .before ++ Y → (X : Pool) × (s : Span) × (Y : Pool) × Next L row len t i X s Y × Noted row (len / row) X spare gaps
       go [] e = absurd (omega (arith, row-count r, p .first, ap (rows row) (e ∙ append-nil (p .before))))
       go (s ∷ Y) e = (p .before, s, Y, record { lent = r; split = e; first = p .first }, p .noted)
 
   -- what holds once it is noted
-  pub further : Passed L row len t i spare map → i < len / row → {k : ℕ} {spare′ map′ : List ℕ}
-      → ((len : ℕ) (X : Pool) (s : Span) (Y : Pool) → Next L row len t i X s Y → Noted row (len / row) X spare map
+  pub further : Passed L row len t i spare gaps → i < len / row → {k : ℕ} {spare′ map′ : List ℕ}
+      → ((len : ℕ) (X : Pool) (s : Span) (Y : Pool) → Next L row len t i X s Y → Noted row (len / row) X spare gaps
       → (k ≡ rowsIn row s) × Noted row (len / row) (X ++ (s ∷ [])) spare′ map′)
       → Further L row len t i k spare′ map′
   further p h {k} f =
@@ -278,7 +278,7 @@ module _ {L : Layout} {row len : ℕ} {t : List ℕ} (r : Lent L row len t) {i :
       }
 
 -- the map has a place for each row
-pub whole-map : {L : Layout} {row len : ℕ} {t spare map : List ℕ} → Lent L row len t → Tells row (viewBy L row t) spare map → length map ≡ len / row
+pub whole-map : {L : Layout} {row len : ℕ} {t spare gaps : List ℕ} → Lent L row len t → NotesOf row (viewBy L row t) spare gaps → length gaps ≡ len / row
 whole-map {L} {row} {len} {t} r w = ap length (w .rows-free) ∙ map-length row (viewBy L row t) ∙ sym (row-count r)
 
 -- ---- the rows in use of a map that has more
@@ -291,6 +291,6 @@ zeros-front n m h =
     let e : m ≡ n + (m - n) = omega arith in
     rw (e, zeros-add n (m - n)) (front-part (zeros n) (zeros (m - n)) n (zeros-length n))
 
-pub told-front : {row : ℕ} {P : Pool} {spare map : List ℕ} (q : List ℕ) (n : ℕ) → length map ≡ n → Tells row P spare map
-    → Tells row P spare (part 0 (n - 0) (map ++ q))
-told-front {row} {P} {spare} {map} q n e w = rw (front-part map q n e) w
+pub told-front : {row : ℕ} {P : Pool} {spare gaps : List ℕ} (q : List ℕ) (n : ℕ) → length gaps ≡ n → NotesOf row P spare gaps
+    → NotesOf row P spare (part 0 (n - 0) (gaps ++ q))
+told-front {row} {P} {spare} {gaps} q n e w = rw (front-part gaps q n e) w

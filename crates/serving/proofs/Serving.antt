@@ -17,7 +17,7 @@ use Rattle.model.specs.State.{Span, Pool, Place, free, group, isLive, isReady, 
 use Rattle.model.specs.Plans.{Site, slotsIn, opens, openFrom, run, turnReady, refill, grantSlot, grantIn, runFrom, siteOr, site, reserveIn, reserve, freshPool}
 use Rattle.model.proofs.Rooms.{rows-append}
 use Rattle.model.proofs.Reserve.{plain, Open, open-found, New, run-found, ground, Taken, grant-taken, reserve-formed}
-use Rattle.serving.specs.Survey.{openIn, openSlots, lowestRun, rowMap, mapOf, Tells, Serves}
+use Rattle.serving.specs.Survey.{openIn, openSlots, lowestRun, rowMap, mapOf, NotesOf, Serves}
 use Rattle.serving.proofs.MapRuns.{lowest-inside}
 
 -- ---- the slots that are not live
@@ -279,7 +279,7 @@ module _ (row : ℕ) (P : Pool) (n c : ℕ) (class : c ≡ classOf n) where
   pub record FromOpen (q : Place) : Type 0 where
     pub found : reserve row P ordinary n ≡ some q
     pub slots : (k : ℕ) → openSlots k (poolOf q) + bit (eqb k c) ≡ openSlots k P
-    pub map : mapOf row (poolOf q) ≡ mapOf row P
+    pub gaps : mapOf row (poolOf q) ≡ mapOf row P
 
   pub from-open : 0 < openSlots c P → (q : Place) × FromOpen q
   unfolding site
@@ -290,7 +290,7 @@ module _ (row : ℕ) (P : Pool) (n c : ℕ) (class : c ≡ classOf n) where
         record {
           found = reserve-site ∙ ap (λ o. reserveIn row c ordinary n (siteOr o (runFrom row [] c P))) e;
           slots = λ k. slots-taken row c n s (o .room) k ∙ sym (slots-around k (s .before) c (s .slots) (s .after)) ∙ ap (openSlots k) (sym (o .split));
-          map = map-taken row c n s (o .room) ∙ sym (map-around row (s .before) c (s .slots) (s .after)) ∙ ap (mapOf row) (sym (o .split));
+          gaps = map-taken row c n s (o .room) ∙ sym (map-around row (s .before) c (s .slots) (s .after)) ∙ ap (mapOf row) (sym (o .split));
         },
       )
 
@@ -299,7 +299,7 @@ module _ (row : ℕ) (P : Pool) (n c : ℕ) (class : c ≡ classOf n) where
     pub found : reserve row P ordinary n ≡ some q
     pub own : openSlots c (poolOf q) ≡ slotsOf c - 1
     pub others : (k : ℕ) → (k ≡ c → ⊥) → openSlots k (poolOf q) ≡ openSlots k P
-    pub map : mapOf row (poolOf q) ≡ put r (zeros (rowsOf row c)) (mapOf row P)
+    pub gaps : mapOf row (poolOf q) ≡ put r (zeros (rowsOf row c)) (mapOf row P)
     pub inside : r + rowsOf row c ≤ length (mapOf row P)
 
   module _ (pos : 0 < row) (shut : openSlots c P ≡ 0) where
@@ -325,7 +325,7 @@ module _ (row : ℕ) (P : Pool) (n c : ℕ) (class : c ≡ classOf n) where
                 λ k no.
                 let a : eqb k c ≡ false = ne-eqb k c no in
                 omega (arith, slots-taken row c n s t k, ap bit a, choose-false (eqb k c) (sum spare (s .slots)) 0 a, d k);
-            map =
+            gaps =
                 map-taken row c n s t
                 ∙ sym (ap (put r (zeros (rowsOf row c))) (ap (mapOf row) (m .split) ∙ map-apart row (s .before) (rowsOf row c) (s .after))
                 ∙ put-at r (mapOf row (s .before)) (replicate (rowsOf row c) 1) (zeros (rowsOf row c)) (mapOf row (s .after))
@@ -339,7 +339,7 @@ module _ (row : ℕ) (P : Pool) (n c : ℕ) (class : c ≡ classOf n) where
 
 -- ---- what counts and a map tell after a grant
 
-module _ (row : ℕ) (P : Pool) (n c : ℕ) (os m : List ℕ) (t : Tells row P os m) (class : c ≡ classOf n) (small : n < tooLarge) where
+module _ (row : ℕ) (P : Pool) (n c : ℕ) (os m : List ℕ) (t : NotesOf row P os m) (class : c ≡ classOf n) (small : n < tooLarge) where
   inside-counts : c < length os
   inside-counts = omega (arith, t .classes, class-facts n small .inside)
 
@@ -351,7 +351,7 @@ module _ (row : ℕ) (P : Pool) (n c : ℕ) (os m : List ℕ) (t : Tells row P o
       → ((k : ℕ) → (k ≡ c → ⊥) → openSlots k (poolOf q) ≡ openSlots k P) → l ≡ mapOf row (poolOf q) → Serves row P n true (set os c v) l
   granted q v l e own others kept =
       let f = reserve-formed row P ordinary n q (t .formed) (plain small) e in
-      let told : Tells row (poolOf q) (set os c v) l =
+      let told : NotesOf row (poolOf q) (set os c v) l =
       record {
         formed = f .formed;
         few = omega (arith, f .long, t .few);
@@ -361,7 +361,7 @@ module _ (row : ℕ) (P : Pool) (n c : ℕ) (os m : List ℕ) (t : Tells row P o
       } in
       record {
         found = ap isSome (sym e);
-        left = λ p g. let same : q ≡ p = cc in subst (λ p. Tells row (poolOf p) (set os c v) l) same told;
+        left = λ p g. let same : q ≡ p = cc in subst (λ p. NotesOf row (poolOf p) (set os c v) l) same told;
       }
     where
       count : (k : ℕ) → k < 48 → (b : Bool) → eqb k c ≡ b → getD (set os c v) k 0 ≡ openSlots k (poolOf q)
@@ -377,14 +377,14 @@ module _ (row : ℕ) (P : Pool) (n c : ℕ) (os m : List ℕ) (t : Tells row P o
       let (q, f) = from-open row P n c class (omega (arith, own-count)) in
       let b : eqb c c ≡ true = eq-eqb c c refl in
       granted q (getD os c 0 - 1) m (f .found) (omega (arith, f .slots c, ap bit b, own-count))
-      (λ k i. let a : eqb k c ≡ false = ne-eqb k c i in omega (arith, f .slots k, ap bit a)) (t .rows-free ∙ sym (f .map))
+      (λ k i. let a : eqb k c ≡ false = ne-eqb k c i in omega (arith, f .slots k, ap bit a)) (t .rows-free ∙ sym (f .gaps))
 
   module _ (pos : 0 < row) (shut : getD os c 0 ≡ 0) where
     pub serves-new : (r : ℕ) → lowestRun (rowsOf row c) 0 m ≡ some r → Serves row P n true (set os c (slotsOf c - 1)) (put r (zeros (rowsOf row c)) m)
     serves-new r e =
         let (q, f) = from-new row P n c class pos (sym own-count ∙ shut) (t .formed) r (ap (lowestRun (rowsOf row c) 0) (sym (t .rows-free)) ∙ e) in
         granted q (slotsOf c - 1) (put r (zeros (rowsOf row c)) m) (f .found) (f .own) (f .others)
-        (ap (put r (zeros (rowsOf row c))) (t .rows-free) ∙ sym (f .map))
+        (ap (put r (zeros (rowsOf row c))) (t .rows-free) ∙ sym (f .gaps))
 
     pub serves-none : lowestRun (rowsOf row c) 0 m ≡ none → Serves row P n false os m
     serves-none e =

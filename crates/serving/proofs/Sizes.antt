@@ -7,28 +7,28 @@ use Rattle.classes.specs.Alignments.{ordinary}
 use Rattle.model.specs.State.{Pool, Place, poolOf}
 use Rattle.model.specs.Plans.{reserve, placedBy, reserveAll}
 use Rattle.model.proofs.Lists.{small-at, some-placed, all-placed, next-placed}
-use Rattle.serving.specs.Survey.{Tells, Serves}
+use Rattle.serving.specs.Survey.{NotesOf, Serves}
 
 pub class-zero : 0 ≡ classOf 0
 unfolding classOf choose
 class-zero = refl
 
 -- counts and a map tell of a pool in which the sizes from place i on fit exactly if all of them fit in P
-pub record ToGo (row : ℕ) (sizes : List ℕ) (P : Pool) (i : ℕ) (spare map : List ℕ) : Type 0 where
+pub record ToGo (row : ℕ) (sizes : List ℕ) (P : Pool) (i : ℕ) (spare gaps : List ℕ) : Type 0 where
   pub pool : Pool
-  pub tells : Tells row pool spare map
+  pub tells : NotesOf row pool spare gaps
   pub same : isSome (reserveAll row P sizes) ≡ isSome (reserveAll row pool (drop i sizes))
 
-pub all-to-go : {row : ℕ} {P : Pool} {spare map : List ℕ} (sizes : List ℕ) → Tells row P spare map → ToGo row sizes P 0 spare map
+pub all-to-go : {row : ℕ} {P : Pool} {spare gaps : List ℕ} (sizes : List ℕ) → NotesOf row P spare gaps → ToGo row sizes P 0 spare gaps
 all-to-go {P = P} sizes t = record { pool = P; tells = t; same = refl }
 
-module _ {row : ℕ} {sizes : List ℕ} {P : Pool} {i : ℕ} {spare map : List ℕ} (g : ToGo row sizes P i spare map) where
+module _ {row : ℕ} {sizes : List ℕ} {P : Pool} {i : ℕ} {spare gaps : List ℕ} (g : ToGo row sizes P i spare gaps) where
   pub none-to-go : length sizes ≤ i → true ≡ isSome (reserveAll row P sizes)
   none-to-go h = sym (g .same ∙ ap isSome (all-placed row (g .pool) sizes i h))
 
   -- size i is tried, for which a slot of class c is asked
   module _ (h : i < length sizes) (small : every (λ n. ltb n tooLarge) sizes ≡ true) {c : ℕ} (e : c ≡ classOf (getD sizes i 0)) {r : Bool}
-      {spare′ map′ : List ℕ} (f : (P : Pool) (n : ℕ) → Tells row P spare map → c ≡ classOf n → n < tooLarge → Serves row P n r spare′ map′) where
+      {spare′ map′ : List ℕ} (f : (P : Pool) (n : ℕ) → NotesOf row P spare gaps → c ≡ classOf n → n < tooLarge → Serves row P n r spare′ map′) where
     serves : Serves row (g .pool) (getD sizes i 0) r spare′ map′
     serves = f (g .pool) (getD sizes i 0) (g .tells) e (small-at sizes i small h)
 

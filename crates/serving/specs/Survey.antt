@@ -43,14 +43,14 @@ module _ (row : ℕ) where
   mapOf P = join rowMap P
 
   -- counts and a map tell what a pool has
-  pub record Tells (P : Pool) (spare map : List ℕ) : Type 0 where
+  pub record NotesOf (P : Pool) (spare gaps : List ℕ) : Type 0 where
     pub formed : T (wellFormed P)
     pub few : rows row P ≤ mostRows
     pub classes : length spare ≡ 48
     pub counts : (c : ℕ) → c < 48 → getD spare c 0 ≡ openSlots c P
-    pub rows-free : map ≡ mapOf P
+    pub rows-free : gaps ≡ mapOf P
 
   -- what a grant of n bytes would find, and what counts and map then tell
-  pub record Serves (P : Pool) (n : ℕ) (r : Bool) (spare map : List ℕ) : Type 0 where
+  pub record Serves (P : Pool) (n : ℕ) (r : Bool) (spare gaps : List ℕ) : Type 0 where
     pub found : r ≡ isSome (reserve row P ordinary n)
-    pub left : (q : Place) → reserve row P ordinary n ≡ some q → Tells (poolOf q) spare map
+    pub left : (q : Place) → reserve row P ordinary n ≡ some q → NotesOf (poolOf q) spare gaps

@@ -16,7 +16,7 @@ pub record Next (L : Layout) (row len : ℕ) (t : List ℕ) (i : ℕ) (X : Pool)
   pub first : i ≡ rows row X
 
 -- counts and a map of n rows tell what the spans X have, and nothing yet of the rows behind them
-pub record Noted (row n : ℕ) (X : Pool) (spare map : List ℕ) : Type 0 where
+pub record Noted (row n : ℕ) (X : Pool) (spare gaps : List ℕ) : Type 0 where
   pub classes : length spare ≡ 48
   pub counts : (c : ℕ) → c < 48 → getD spare c 0 ≡ openSlots c X
-  pub rows-free : map ≡ mapOf row X ++ zeros (n - rows row X)
+  pub rows-free : gaps ≡ mapOf row X ++ zeros (n - rows row X)

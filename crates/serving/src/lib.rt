@@ -8,19 +8,19 @@ ghost use Rattle.mem.specs.Lists.{every, isSome};
 ghost use Rattle.classes.specs.Classes.{Lawful, classOf, tooLarge};
 ghost use Rattle.model.specs.State.{Pool};
 ghost use Rattle.model.specs.Plans.{reserveAll};
-ghost use Rattle.serving.specs.Survey.{lowestRun, runFound, Tells, Serves};
+ghost use Rattle.serving.specs.Survey.{lowestRun, runFound, NotesOf, Serves};
 use classes::Sized;
 use rows::Found;
 
 // The lowest run of free rows in a map, where 1 stands for a free row.
-fn lowest_run(map: &[u8], need: usize) -> Found
+fn lowest_run(gaps: &[u8], need: usize) -> Found
     requires { ⌜ 1 ≤ need ⌝ }
-    ensures { λ r. ⌜ r ≡ runFound (lowestRun need 0 (now (map .entry))) ⌝ }
+    ensures { λ r. ⌜ r ≡ runFound (lowestRun need 0 (now (gaps .entry))) ⌝ }
 {
     let mut from = 0;
     let mut i = 0;
-    while i < map.len() {
-        if map[i] != 1 {
+    while i < gaps.len() {
+        if gaps[i] != 1 {
             from = i + 1;
         }
         i += 1;
@@ -32,12 +32,12 @@ fn lowest_run(map: &[u8], need: usize) -> Found
 }
 
 // Whether a slot of class c can be taken, and what is left then: a slot of a group that is there, or of a new one.
-fn serve(row: usize, c: usize, spare: &mut [usize], map: &mut [u8]) -> bool
-    requires { ⌜ ((P : Pool) × Tells row P (now spare) (now map)) ⌝ }
+fn serve(row: usize, c: usize, spare: &mut [usize], gaps: &mut [u8]) -> bool
+    requires { ⌜ ((P : Pool) × NotesOf row P (now spare) (now gaps)) ⌝ }
     requires { ⌜ c < 48 ⌝ }
     requires { ⌜ Lawful row ⌝ }
-    ensures { λ r. ⌜ ((P : Pool) (n : ℕ) → Tells row P (now (spare .entry)) (now (map .entry)) → c ≡ classOf n → n < tooLarge
-        → Serves row P n r (now (spare .exit)) (now (map .exit))) ⌝ }
+    ensures { λ r. ⌜ ((P : Pool) (n : ℕ) → NotesOf row P (now (spare .entry)) (now (gaps .entry)) → c ≡ classOf n → n < tooLarge
+        → Serves row P n r (now (spare .exit)) (now (gaps .exit))) ⌝ }
 {
     let k = spare[c];
     if 0 < k {
@@ -45,26 +45,26 @@ fn serve(row: usize, c: usize, spare: &mut [usize], map: &mut [u8]) -> bool
         return true;
     }
     let need = classes::rows(row, c);
-    let Found::At(i) = lowest_run(map, need) else {
+    let Found::At(i) = lowest_run(gaps, need) else {
         return false;
     };
-    mem::clear(map, i, i + need);
+    mem::clear(gaps, i, i + need);
     spare[c] = classes::slots(c) - 1;
     true
 }
 
 // Whether slots for sizes can be taken, one after the other.
-pub fn serve_all(row: usize, sizes: &[usize], spare: &mut [usize], map: &mut [u8]) -> bool
-    requires { ⌜ ((P : Pool) × Tells row P (now spare) (now map)) ⌝ }
+pub fn serve_all(row: usize, sizes: &[usize], spare: &mut [usize], gaps: &mut [u8]) -> bool
+    requires { ⌜ ((P : Pool) × NotesOf row P (now spare) (now gaps)) ⌝ }
     requires { ⌜ every (λ n. ltb n tooLarge) (now sizes) ≡ true ⌝ }
     requires { ⌜ Lawful row ⌝ }
-    ensures { λ r. ⌜ ((P : Pool) → Tells row P (now (spare .entry)) (now (map .entry)) → r ≡ isSome (reserveAll row P (now (sizes .entry)))) ⌝ }
+    ensures { λ r. ⌜ ((P : Pool) → NotesOf row P (now (spare .entry)) (now (gaps .entry)) → r ≡ isSome (reserveAll row P (now (sizes .entry)))) ⌝ }
 {
     let mut last = Sized { size: 0, class: 0 };
     let mut i = 0;
     while i < sizes.len() {
         last = classes::with_class(sizes[i], last);
-        if !serve(row, last.class, spare, map) {
+        if !serve(row, last.class, spare, gaps) {
             return false;
         }
         i += 1;

@@ -116,7 +116,7 @@ pub extern "C" fn slotpool_plain_grant_list(
         (grantsList «total» cap (length (now (handles .entry))) (now (sizes .entry))))
         r (now (value .exit)) (now (handles .entry)) (now (handles .exit)) (now (arena .exit)) (now (room .exit)) ⌝ }
 {
-    let r = plain::grant_list(arena, room, total, cap, sizes, handles);
+    let r = plain_gather::grant_list(arena, room, total, cap, sizes, handles);
     *value = answers::value_of(r);
     answers::number_of(r)
 }

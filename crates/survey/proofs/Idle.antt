@@ -23,8 +23,8 @@ idle-sum (Idle true k d ∷ ss) = omega (arith, idle-sum ss)
 idle-sum (Idle false k d ∷ ss) = omega (arith, idle-sum ss)
 idle-sum (Live a ∷ ss) = omega (arith, idle-sum ss)
 
-module _ {row len : ℕ} {t : List ℕ} {i : ℕ} {X : Pool} {s : Span} {Y : Pool} {spare map : List ℕ} (x : Next byMasks row len t i X s Y)
-    (n : Noted row (len / row) X spare map) (h : Holder) (e : h ≡ viewHolder (drop (rowAt i) t)) (k : ℕ) (g : h ≡ First k) where
+module _ {row len : ℕ} {t : List ℕ} {i : ℕ} {X : Pool} {s : Span} {Y : Pool} {spare gaps : List ℕ} (x : Next byMasks row len t i X s Y)
+    (n : Noted row (len / row) X spare gaps) (h : Holder) (e : h ≡ viewHolder (drop (rowAt i) t)) (k : ℕ) (g : h ≡ First k) where
   pub masks-idle : ones (masksIn (drop (rowAt i) t) .ready) + ones (masksIn (drop (rowAt i) t) .waiting)
       ≡ sum (λ x. bit (not (isLive x))) (the-group x n h e k g .0)
   masks-idle =

@@ -9,15 +9,15 @@ use Rattle.plain_survey.proofs.note.Statement.{statement}
 use Rattle.plain_survey.proofs.note.Tie as tie
 
 abbrev Inv-loop : tie.InvT-loop
-Inv-loop row len room spare₀ map₀ n i₀ spare map i = Passed bySlots row len room i spare map
+Inv-loop row len room spare₀ map₀ n i₀ spare gaps i = Passed bySlots row len room i spare gaps
 
 abbrev μ-loop : tie.MeasureT-loop
-μ-loop row len room spare₀ map₀ n i₀ spare map i = n - i
+μ-loop row len room spare₀ map₀ n i₀ spare gaps i = n - i
 
 loop-holds : tie.Need-loop-holds Inv-loop μ-loop
 loop-holds c =
     let s = c .before .before .before in
-    begin bySlots (s .args .row) (s .args .len) (now (s .args .room)) (now (s .args .spare)) (now (s .args .map)) (s .pre .1 .0 .0) (s .pre .1 .0 .1)
+    begin bySlots (s .args .row) (s .args .len) (now (s .args .room)) (now (s .args .spare)) (now (s .args .gaps)) (s .pre .1 .0 .0) (s .pre .1 .0 .1)
 
 -- the room as its laws take it
 lent : (s : tie.Start Inv-loop μ-loop) → Lent bySlots (s .args .row) (s .args .len) (now (s .args .room))

@@ -6,21 +6,21 @@ use Rattle.serving.proofs.lowest_run.Statement.{statement}
 use Rattle.serving.proofs.lowest_run.Tie as tie
 
 abbrev Inv-loop : tie.InvT-loop
-Inv-loop map need from₀ i₀ from i = (i ≤ length map) × Scanned need map from i
+Inv-loop gaps need from₀ i₀ from i = (i ≤ length gaps) × Scanned need gaps from i
 
 abbrev μ-loop : tie.MeasureT-loop
-μ-loop map need from₀ i₀ from i = length map - i
+μ-loop gaps need from₀ i₀ from i = length gaps - i
 
 loop-holds : tie.Need-loop-holds Inv-loop μ-loop
-loop-holds c = (omega arith, scan-start (c .args .need) (now (c .args .map)) (c .pre))
+loop-holds c = (omega arith, scan-start (c .args .need) (now (c .args .gaps)) (c .pre))
 
 -- one row further
 further : (c : tie.After-row-known Inv-loop μ-loop)
-    → (let d = c .before .before .before .before in Scan (d .before .args .need) (now (d .before .args .map)) (c .before .if1 .from) (d .loop .i + 1))
+    → (let d = c .before .before .before .before in Scan (d .before .args .need) (now (d .before .args .gaps)) (c .before .if1 .from) (d .loop .i + 1))
 further c =
     let l = c .before .before .before .before .loop in
     let a = c .before .before .before .before .before .args in
-    let m = now (a .map) in
+    let m = now (a .gaps) in
     let h : l .i < length m = omega arith in
     ⊎-elim (λ w. subst (λ f. Scan (a .need) m f (l .i + 1)) (sym (w .1)) (scan-held (a .need) m (l .from) (l .i) (l .inv .1) h (w .0 .taken)))
     (λ w. subst (λ f. Scan (a .need) m f (l .i + 1)) (sym (w .1)) (scan-free (a .need) m (l .from) (l .i) (l .inv .1) h (w .0 .left))) (c .before .if1 .came)
@@ -38,7 +38,7 @@ returns-2 : tie.Need-returns-2 Inv-loop μ-loop
 returns-2 c =
     let a = c .before .before .args in
     let l = c .before .loop in
-    sym (ap runFound (scan-end (a .need) (now (a .map)) (l .from) (l .i) (l .inv .1) (omega arith)))
+    sym (ap runFound (scan-end (a .need) (now (a .gaps)) (l .from) (l .i) (l .inv .1) (omega arith)))
 
 pub lowest-run-spec : {M : Type 1} → statement M
 lowest-run-spec =

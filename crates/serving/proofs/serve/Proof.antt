@@ -10,35 +10,35 @@ use Rattle.serving.proofs.serve.Tie as tie
 returns : tie.Need-returns
 returns c P n t e l =
     let a = c .before .before .before .before .args in
-    serves-open (a .row) P n (a .c) (now (a .spare)) (now (a .map)) t e l (c .if1 .taken)
+    serves-open (a .row) P n (a .c) (now (a .spare)) (now (a .gaps)) t e l (c .if1 .taken)
 
 -- what the search for a run finds
 searched : (c : tie.After-lowest-run) → (let a = c .before .before .before .before .before .before .before .args in
-    c .lowest-run .result ≡ runFound (lowestRun (rowsOf (a .row) (a .c)) 0 (now (a .map))))
+    c .lowest-run .result ≡ runFound (lowestRun (rowsOf (a .row) (a .c)) 0 (now (a .gaps))))
 searched c =
     let a = c .before .before .before .before .before .before .before .args in
-    c .lowest-run .ensures ∙ ap (λ k. runFound (lowestRun k 0 (now (a .map)))) (c .before .before .rows .ensures .0)
+    c .lowest-run .ensures ∙ ap (λ k. runFound (lowestRun k 0 (now (a .gaps)))) (c .before .before .rows .ensures .0)
 
 returns-2 : tie.Need-returns-2
 returns-2 c P n t e l =
     let s = c .before .before .before .before .before .before .before .before .before in
     let a = s .args in
     let z : getD (now (a .spare)) (a .c) 0 ≡ 0 = omega (arith, c .before .before .before .before .before .if1 .left) in
-    serves-none (a .row) P n (a .c) (now (a .spare)) (now (a .map)) t e l (omega (arith, s .pre .1 .1)) z
+    serves-none (a .row) P n (a .c) (now (a .spare)) (now (a .gaps)) t e l (omega (arith, s .pre .1 .1)) z
     (found-nothing _ (sym (c .enum-told .given .1) ∙ searched (c .before .before)))
 
 -- the run that is found
 run : (c : tie.After-known-told) → (let a = c .before .before .before .before .before .before .before .before .before .before .args in
-    lowestRun (rowsOf (a .row) (a .c)) 0 (now (a .map)) ≡ some (c .before .i .given .0 .0))
+    lowestRun (rowsOf (a .row) (a .c)) 0 (now (a .gaps)) ≡ some (c .before .i .given .0 .0))
 run c = found-at _ _ (sym (c .before .i .given .1) ∙ searched (c .before .before .before))
 
 -- it lies in the map
 within : (c : tie.After-known-told) → (let r = c .before .before .before .before .before in
-    c .before .i .given .0 .0 + r .rows .result ≤ length (now (r .before .before .before .before .before .args .map)))
+    c .before .i .given .0 .0 + r .rows .result ≤ length (now (r .before .before .before .before .before .args .gaps)))
 within c =
     let r = c .before .before .before .before .before in
     let a = r .before .before .before .before .before .args in
-    omega (arith, lowest-inside (rowsOf (a .row) (a .c)) (now (a .map)) (c .before .i .given .0 .0) (run c), r .rows .ensures .0)
+    omega (arith, lowest-inside (rowsOf (a .row) (a .c)) (now (a .gaps)) (c .before .i .given .0 .0) (run c), r .rows .ensures .0)
 
 add-clear : tie.Need-add-clear
 add-clear c = omega (arith, within (c .before))
@@ -56,7 +56,7 @@ returns-3 c P n t e l =
     let z : getD (now (a .spare)) (a .c) 0 ≡ 0 = omega (arith, k .before .before .before .before .before .before .if1 .left) in
     let d : i + need - i ≡ rowsOf (a .row) (a .c) = omega (arith, k .before .before .before .before .before .rows .ensures .0) in
     rw (c .slots .ensures .0, c .before .before .before .clear .ensures, d)
-    (serves-new (a .row) P n (a .c) (now (a .spare)) (now (a .map)) t e l (omega (arith, s .pre .1 .1)) z i (run k))
+    (serves-new (a .row) P n (a .c) (now (a .spare)) (now (a .gaps)) t e l (omega (arith, s .pre .1 .1)) z i (run k))
 
 pub serve-spec : {M : Type 1} → statement M
 serve-spec =

@@ -2,19 +2,19 @@
 use Rattle.mem.proofs.Prelude.{_∙_, _≡_, sym, ap, refl, _<_, _≤_, _-_, now, needs, length}
 use Rattle.classes.specs.Classes.{classOf}
 use Rattle.model.specs.State.{Pool}
-use Rattle.serving.specs.Survey.{Tells}
+use Rattle.serving.specs.Survey.{NotesOf}
 use Rattle.model.proofs.Lists.{small-at}
 use Rattle.serving.proofs.Sizes.{ToGo, class-zero, all-to-go, none-to-go, one-refused, one-served}
 use Rattle.serving.proofs.serve_all.Statement.{statement}
 use Rattle.serving.proofs.serve_all.Tie as tie
 
 abbrev Inv-loop : tie.InvT-loop
-Inv-loop row sizes spare₀ map₀ last₀ i₀ spare map last i =
-    (i ≤ length sizes) × (length spare ≡ length spare₀) × (length map ≡ length map₀) × (last .class ≡ classOf (last .size)) × (last .class < 48)
-    × ((P : Pool) → Tells row P spare₀ map₀ → ToGo row sizes P i spare map)
+Inv-loop row sizes spare₀ map₀ last₀ i₀ spare gaps last i =
+    (i ≤ length sizes) × (length spare ≡ length spare₀) × (length gaps ≡ length map₀) × (last .class ≡ classOf (last .size)) × (last .class < 48)
+    × ((P : Pool) → NotesOf row P spare₀ map₀ → ToGo row sizes P i spare gaps)
 
 abbrev μ-loop : tie.MeasureT-loop
-μ-loop row sizes spare₀ map₀ last₀ i₀ spare map last i = length sizes - i
+μ-loop row sizes spare₀ map₀ last₀ i₀ spare gaps last i = length sizes - i
 
 loop-holds : tie.Need-loop-holds Inv-loop μ-loop
 loop-holds c = (search needs, refl, refl, class-zero, search needs, λ P t. all-to-go (now (c .before .before .before .args .sizes)) t)

@@ -1,13 +1,15 @@
 -- Test by test, in the order of the answers; then all sizes are granted.
-use Rattle.plain.proofs.Kit.{sym, now, needs, rowBytes, card-row}
-use Rattle.plain.proofs.Kit.{Sound, checked, refusing}
+use Rattle.mem.proofs.Prelude.{sym, now, needs}
+use Rattle.classes.specs.Classes.{rowBytes}
+use Rattle.classes.proofs.Laws.{card-row}
+use Rattle.plain_ops.proofs.Calls.{Sound, checked, refusing}
 use Rattle.model.specs.declared.Refusal.the-variants.{Unsound}
 use Rattle.model.specs.Proposals.{entries}
 use Rattle.model.specs.Plans.{grantsList}
 use Rattle.frames.proofs.Listed.{Proposal, proposal, passing, refused-list, not-plannable, few-places, not-accepted, not-fitting, granted-list}
 use Rattle.frames.proofs.Listed.{small-sizes, few-sizes}
-use Rattle.plain.proofs.grant_list.Statement.{statement}
-use Rattle.plain.proofs.grant_list.Tie as tie
+use Rattle.plain_gather.proofs.grant_list.Statement.{statement}
+use Rattle.plain_gather.proofs.grant_list.Tie as tie
 
 returns : tie.Need-returns
 returns c = refused-list Unsound _ (sym (refusing _ _ (c .before .sound .ensures) (grantsList _ _ _ _) tt (c .if1 .taken)))
