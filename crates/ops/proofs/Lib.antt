@@ -1,3 +1,4 @@
 pub mod Counts
 pub mod Moves
 pub mod Calls
+pub mod Kit

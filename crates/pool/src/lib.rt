@@ -1,5 +1,5 @@
 // The calls of the slot pool, over a lent arena, a lent table room and the totals in the record beside it, by value: a call that can change
-// them gives those after it back. The calls for gather lists are the crate gather's.
+// them gives those after it back. Resize is the crate resizing's, the calls for gather lists are gather's.
 //
 // Each is a paragraph of document 01. One equation says what it answers and what it leaves of arena, room and totals, for any bytes, totals,
 // handle and size: what the model's call does on them (call, crates/model/specs/Calls.antt).
@@ -9,7 +9,7 @@ ghost use Prim.Native.Nat.{_≤_, _<_};
 ghost use lib.ListN.{length};
 ghost use Rattle.classes.specs.Classes.{rowBytes};
 ghost use Rattle.model.specs.Answers.{replyAnswer, reportAnswer};
-ghost use Rattle.model.specs.Plans.{setsUp, grants, grantsAligned, releases, resizes, measures, reports, grantAs};
+ghost use Rattle.model.specs.Plans.{setsUp, grants, grantsAligned, releases, measures, reports, grantAs};
 ghost use Rattle.model.specs.Tables.{roomFor, view};
 ghost use Rattle.model.specs.Calls.{keptIn, engine, soundKept, left, call};
 ghost use Rattle.frames.specs.Blocks.{CarriedOutBy};
@@ -126,26 +126,6 @@ pub fn release(arena: &mut [u8], room: &mut [u8], t: Totals, handle: usize) -> A
                 totals: left,
             }
         }
-        Located::Refused(r) => totals::refused(r, t),
-    }
-}
-
-// Resize: in place where the block's slot serves the new size, or else by a move.
-pub fn resize(arena: &mut [u8], room: &mut [u8], t: Totals, handle: usize, n: usize) -> Answered
-    ensures { λ r. ⌜ left (replyAnswer (r .reply)) (now (arena .exit)) (keptIn (now (room .exit)) (r .totals))
-        ≡ call rowBytes (now (arena .entry)) (keptIn (now (room .entry)) t) (resizes handle n) ⌝ }
-{
-    let len = arena.len();
-    if !soundness::sound(classes::ROW, len, room, t) {
-        return totals::refused(Refusal::Unsound, t);
-    }
-    // The size goes by the alignment of a live block, before the handle's bits and the block's damage are looked at.
-    let found = search::find_block(classes::ROW, len, room, frames::start_in(handle));
-    if classes::too_large(frames::code_found(found), n) {
-        return totals::refused(Refusal::TooLarge, t);
-    }
-    match frames::judge(classes::ROW, arena, found, handle) {
-        Located::At(b) => ops::change_size(classes::ROW, arena, room, t, b, n),
         Located::Refused(r) => totals::refused(r, t),
     }
 }

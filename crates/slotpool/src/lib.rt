@@ -159,7 +159,7 @@ fn resize_by(
     ensures { λ r. ⌜ Gives (call rowBytes (now (arena .entry)) (keptIn (now (room .entry)) t) (resizes handle n))
         (r .number) (now (value .exit)) (now (arena .exit)) (keptIn (now (room .exit)) (r .totals)) ⌝ }
 {
-    let r = pool::resize(arena, room, t, handle, n);
+    let r = resizing::resize(arena, room, t, handle, n);
     let reply = r.reply;
     let totals = r.totals;
     *value = answers::value_of(reply);

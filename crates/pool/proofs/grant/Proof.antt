@@ -1,5 +1,5 @@
 -- An ordinary grant.
-use Rattle.pool.proofs.Kit.{_∙_, now, needs, lit≤, rowBytes, keptIn, Checked, called, carried-as, told, checked, refusing}
+use Rattle.ops.proofs.Kit.{_∙_, now, needs, lit≤, rowBytes, keptIn, Checked, called, carried-as, told, checked, refusing}
 use Rattle.model.specs.Plans.{grants}
 use Rattle.frames.proofs.Calls.{grant-does}
 use Rattle.pool.proofs.grant.Statement.{statement}

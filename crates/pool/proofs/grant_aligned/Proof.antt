@@ -1,6 +1,6 @@
 -- By the code of the alignment.
-use Rattle.pool.proofs.Kit.{_∙_, sym, subst, _<_, arith, now, needs, rowBytes, keptIn, engine, view, CarriedOutBy}
-use Rattle.pool.proofs.Kit.{Checked, called, carried-as, told, told-out, checked, refusing}
+use Rattle.ops.proofs.Kit.{_∙_, sym, subst, _<_, arith, now, needs, rowBytes, keptIn, engine, view, CarriedOutBy}
+use Rattle.ops.proofs.Kit.{Checked, called, carried-as, told, told-out, checked, refusing}
 use Rattle.model.specs.declared.Refusal.the-variants.{BadAlignment}
 use Rattle.model.specs.Plans.{grantsAligned, grantAs}
 use Rattle.frames.proofs.Calls.{refused-out, aligned-none, aligned-does}

@@ -1,6 +1,6 @@
 -- By what is reserved.
-use Rattle.pool.proofs.Kit.{_∙_, sym, ap, [], _∷_, now, needs, leb-true, leb-false, rowBytes, tooLarge, enlarged, Askable, card-row, done, keptIn}
-use Rattle.pool.proofs.Kit.{Checked, by-check, told-out}
+use Rattle.ops.proofs.Kit.{_∙_, sym, ap, [], _∷_, now, needs, leb-true, leb-false, rowBytes, tooLarge, enlarged, Askable, card-row, done, keptIn}
+use Rattle.ops.proofs.Kit.{Checked, by-check, told-out}
 use Rattle.frames.proofs.Calls.{grant-too-large}
 use Rattle.ops.proofs.Calls.{GrantedAt, granted-at, granted-none}
 use Rattle.pool.proofs.grant_as.Statement.{statement}

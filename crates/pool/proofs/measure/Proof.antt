@@ -1,6 +1,6 @@
 -- By what is located.
-use Rattle.pool.proofs.Kit.{_∙_, sym, ap, refl, [], _∷_, now, needs, rowBytes, card-row, done, view, keptIn, Checked}
-use Rattle.pool.proofs.Kit.{called-at, called-refused, checked, refusing}
+use Rattle.ops.proofs.Kit.{_∙_, sym, ap, refl, [], _∷_, now, needs, rowBytes, card-row, done, view, keptIn, Checked}
+use Rattle.ops.proofs.Kit.{called-at, called-refused, checked, refusing}
 use Rattle.model.specs.Plans.{measures, measureAt}
 use Rattle.frames.proofs.Calls.{measuring, kept-as}
 use Rattle.pool.proofs.measure.Statement.{statement}

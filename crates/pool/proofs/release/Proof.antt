@@ -1,6 +1,6 @@
 -- By what is located.
-use Rattle.pool.proofs.Kit.{_∙_, sym, ap₂, now, needs, rowBytes, card-row, keptIn, Checked, Called, called-at, called-refused}
-use Rattle.pool.proofs.Kit.{holds, whole, told, checked, refusing}
+use Rattle.ops.proofs.Kit.{_∙_, sym, ap₂, now, needs, rowBytes, card-row, keptIn, Checked, Called, called-at, called-refused}
+use Rattle.ops.proofs.Kit.{holds, whole, told, checked, refusing}
 use Rattle.model.specs.Plans.{releases, releaseAt}
 use Rattle.frames.proofs.Calls.{releasing, release-names, release-done}
 use Rattle.pool.proofs.release.Statement.{statement}

@@ -1,5 +1,5 @@
 -- The totals of the record, which are those of the tables.
-use Rattle.pool.proofs.Kit.{ap, now, needs, rowBytes, done, keptIn, checked, refusing}
+use Rattle.ops.proofs.Kit.{ap, now, needs, rowBytes, done, keptIn, checked, refusing}
 use Rattle.model.specs.Answers.{listed}
 use Rattle.model.specs.Plans.{reports}
 use Rattle.frames.proofs.Calls.{reporting}

@@ -1,5 +1,5 @@
 -- Refused by the room's size, or done: zeros, and tables with no groups.
-use Rattle.pool.proofs.Kit.{_∙_, sym, ap₂, refl, _/_, now, needs, length, rowBytes, keptIn, engine, whole, told}
+use Rattle.ops.proofs.Kit.{_∙_, sym, ap₂, refl, _/_, now, needs, length, rowBytes, keptIn, engine, whole, told}
 use Rattle.model.specs.Tables.{byMasks}
 use Rattle.model.proofs.Fresh.{fresh-totals}
 use Rattle.fresh.proofs.SetUp.{Fitting, fitting, set-up-refused, set-up-made, formatted, formattable}

@@ -1,6 +1,6 @@
 -- By what is located.
-use Rattle.pool.proofs.Kit.{_∙_, _≡_, sym, subst, arith, now, needs, leb, rowBytes, tooLarge, enlarged, card-row, view}
-use Rattle.pool.proofs.Kit.{keptIn, engine, CarriedOutBy, Checked, Called, called-at, called-refused, carried-as, holds, told, checked, refusing}
+use Rattle.ops.proofs.Kit.{_∙_, _≡_, sym, subst, arith, now, needs, leb, rowBytes, tooLarge, enlarged, card-row, view}
+use Rattle.ops.proofs.Kit.{keptIn, engine, CarriedOutBy, Checked, Called, called-at, called-refused, carried-as, holds, told, checked, refusing}
 use Rattle.model.specs.State.{startOf}
 use Rattle.model.specs.Plans.{resizes, resizeAt, lookup}
 use Rattle.rows.specs.Rows.{looked}
@@ -8,8 +8,8 @@ use Rattle.frames.specs.Blocks.{codeFound}
 use Rattle.frames.proofs.Places.{held-pool}
 use Rattle.ops.proofs.Calls.{Seen, seen, judging, sized, askable}
 use Rattle.frames.proofs.Calls.{resizing, resize-names, resize-too-large}
-use Rattle.pool.proofs.resize.Statement.{statement}
-use Rattle.pool.proofs.resize.Tie as tie
+use Rattle.resizing.proofs.resize.Statement.{statement}
+use Rattle.resizing.proofs.resize.Tie as tie
 
 returns : tie.Need-returns
 returns d = told (d .refused .ensures) ∙ refusing _ _ (d .before .before .sound .ensures) (resizes _ _) tt (d .before .if1 .taken)
