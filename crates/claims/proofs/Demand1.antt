@@ -26,7 +26,8 @@ use Rattle.model.specs.Calls.{Form, FormLaws, Stands, Outcome, keeps, applied, 
 use Rattle.model.proofs.Lookup.{fits, lookup-start, lookup-found}
 use Rattle.model.proofs.Formed.{code-kept}
 use Rattle.model.proofs.Lowest.{reserve-none, reserve-some}
-use Rattle.claims.specs.Demand1.{StaysInPlace, Reason, when, FirstDue, RefusedValues, six-zeros, one-zero, StartsAt, LiveAt, headerDue, guardDue, TooLargeAt}
+use Rattle.claims.specs.Demand1.{StaysInPlace, Reason, when, FirstDue, RefusedValues, six-zeros}
+use Rattle.claims.specs.Demand1.{one-zero, StartsAt, LiveAt, headerDue, guardDue, TooLargeAt}
 use Rattle.claims.specs.Demand1.{alreadyFree, stale, headerDamaged, overrun, blockReasons, sizeReasons, NoRoomToMove, listReasons}
 use Rattle.claims.specs.Demand1.{NoAlignment, Meets, unsoundReason, reasons, Demand1}
 use Rattle.claims.proofs.StaysInPlace.{in-place-serves}
@@ -316,7 +317,8 @@ module _ (row : ℕ) (pos : 0 < row) (F : Form) (L : FormLaws row F) (a : List �
     lists-right total cap places ns =
         choose-case (M (listReasons row P total cap places ns)) (plannable total cap && leb entries places) _ (refused TooLong P)
         (λ e. later-right c (short-enough total cap places e)
-        (choose-case (M (when BadProposal (T (not (accepts total cap ns))) ∷ when NoRoom (Meets row P ns) ∷ [])) (accepts total cap ns) (grantAllAt row P (reserveAll row P ns)) (refused BadProposal P)
+        (choose-case (M (when BadProposal (T (not (accepts total cap ns))) ∷ when NoRoom (Meets row P ns) ∷ [])) (accepts total cap ns) (grantAllAt row P
+        (reserveAll row P ns)) (refused BadProposal P)
         (λ f. later-right c (λ d. T-not (accepts total cap ns) d (true-T (accepts total cap ns) f))
         (room (reserveAll row P ns) refl))
         (λ f. refused-right s c refl (rw f tt))))

@@ -25,7 +25,8 @@ use Rattle.model.proofs.Reserve.{Served, served, reserve-size}
 use Rattle.model.proofs.Formed.{any-middle, plan-formed}
 use Rattle.model.proofs.Calls.{Asks}
 use Rattle.model.proofs.Moves.{Old, old, old-released}
-use Rattle.claims.specs.History.{LedgerBlock, Ledger, opening, without, enteredGrant, enteredEach, entered, Asked, booked, booksAfter, Balances, ReportTells, History}
+use Rattle.claims.specs.History.{LedgerBlock, Ledger, opening, without, enteredGrant, enteredEach}
+use Rattle.claims.specs.History.{entered, Asked, booked, booksAfter, Balances, ReportTells, History}
 use Rattle.model.proofs.Handles.{same-start, stays-handle}
 use Rattle.claims.proofs.Cases.{reserve-live, taken-same, refuses, by-call, Named, on-named, on-grant, on-aligned, on-resize}
 use Rattle.claims.proofs.Demand1.{demand1}

@@ -19,7 +19,8 @@ use Rattle.model.proofs.Formed.{plan-formed}
 use Rattle.model.proofs.Calls.{Asks}
 use Rattle.claims.specs.Demand2.{Intact}
 use Rattle.claims.specs.History.{Asked}
-use Rattle.claims.specs.Stale.{Uses, uses-release, uses-resize, uses-measure, Ends, ends-release, ends-move, Steps, StartsCleared, CountsStep, Remains, RemainsAll, after, StaleRefused}
+use Rattle.claims.specs.Stale.{Uses, uses-release, uses-resize, uses-measure, Ends, ends-release, ends-move}
+use Rattle.claims.specs.Stale.{Steps, StartsCleared, CountsStep, Remains, RemainsAll, after, StaleRefused}
 use Rattle.model.proofs.Handles.{start-cleared}
 use Rattle.claims.proofs.Cases.{refuses, by-call, Named, on-named, on-resize}
 use Rattle.claims.proofs.Demand1.{demand1}

@@ -223,7 +223,8 @@ module _ (row : ℕ) (pos : 0 < row) where
           agrees = discarded (poolOf q) p (put (start row q) bs x) w′ y;
           whole = block-whole P w a g p h b;
           cleared = λ _ i y′.
-              let (from, to) = subst (λ v. (v + k ≤ i) × (i < v + n)) (start-cleared row u q) (gained P w a g p h n (startOf (handle row q)) i b (resize-gains y′)) in
+              let (from, to) = subst (λ v. (v + k ≤ i) × (i < v + n)) (start-cleared row u q) (gained P w a g p h n (startOf (handle row q)) i b
+              (resize-gains y′)) in
               discard-zero (poolOf q) p (put (start row q) bs x) i
               (put-past (start row q) bs x i 0 (omega (arith, from)) ∙ framed row q a i (omega (arith, from)) (omega (arith, to)));
         }
@@ -265,4 +266,9 @@ module _ (row : ℕ) (pos : 0 < row) where
     plan-kept (grantsList total cap places ns) =
         let c : Call = grantsList total cap places ns in
         on-list row (Kept P c a) P total cap places ns (refused-kept P w a g c)
-        (λ qs h e. record { agrees = list-agrees P ns qs w h e a g; whole = refl; cleared = λ z i x. list-clears row pos u P ns qs w h e a i (elim x [ gains-list y ↦ y ]) })
+        (λ qs h e. record {
+          agrees = list-agrees P ns qs w h e a g;
+          whole = refl;
+          cleared = λ z i x. list-clears row pos u P ns qs w h e a i (elim x
+              [ gains-list y ↦ y ]);
+        })
