@@ -125,7 +125,8 @@ unfolding performed operationOf
 returns-7 c =
     let s = c .before .before .before .before .before .before .before .before in
     let e = c .report .ensures in (
-      subst (λ (r : Result). length (lineText (Line.told (r .answer))) ≤ 45) (sym e) (report-short (now (s .args .arena)) (keptIn (now (s .args .room)) (s .args .t))),
+      subst (λ (r : Result). length (lineText (Line.told (r .answer))) ≤ 45) (sym e) (report-short (now (s .args .arena))
+          (keptIn (now (s .args .room)) (s .args .t))),
       asks s Op.Report reports (c .before .before .before .enum-told .given .1) refl e,
     )
 
