@@ -1,6 +1,6 @@
 -- The calls by what the code finds, in any lawful form of the tables: a grant by what is reserved, and the calls on a block by what is located.
 use Rattle.mem.proofs.Prelude.{_∙_, _≡_, sym, ap, refl, subst, true, Bool, false, some, none, Option, List, [], _∷_, _++_, ℕ, _<_, _≤_, arith}
-use Rattle.mem.proofs.Prelude.{le-leb, lt-leb, lt-ltb, T, eqb, leb, ltb, length, _%_}
+use Rattle.mem.proofs.Prelude.{le-leb, lt-leb, leb-false, lt-ltb, T, eqb, leb, ltb, length, _%_}
 use Rattle.mem.specs.Lists.{any, choose}
 use Rattle.mem.specs.Bytes.{put}
 use Rattle.mem.proofs.Tests.{choose-case, choose-true, choose-false, true-T}
@@ -14,18 +14,19 @@ use Rattle.model.specs.declared.Reply.{Reply}
 use Rattle.model.specs.State.{Pool, Place, isLive, count, align, useBits, startOf, poolOf}
 use Rattle.model.specs.Blocks.{damage, frame}
 use Rattle.model.specs.Answers.{Answer, replyAnswer, listed, done, refusal}
-use Rattle.model.specs.Plans.{Plan, Call, grants, grantsAligned, releases, resizes, measures, refused, plan, grantAs, grantAligned}
+use Rattle.model.specs.Plans.{Plan, Call, grants, grantsAligned, releases, resizesInPlace, moves, measures, refused, plan, grantAs, grantAligned}
 use Rattle.model.specs.Plans.{report, totals, reports, grantAt, reserve, enframe, lookup, onBlock, byHandle, onHandle, newSize}
-use Rattle.model.specs.Plans.{release, releaseAt, resize, resizeAt, resizeInPlace, resizeMove, moveTo, inPlace, measure, measureAt}
+use Rattle.model.specs.Plans.{release, releaseAt, onHandleFor, resizeAt, moveTo, moveAt, inPlace, inPlaceAt, resizeInPlace, move, measure, measureAt}
 use Rattle.model.specs.Calls.{Outcome, left, Form, FormLaws, callBy, carriedBy, applied, damaged, keeps}
+use Rattle.model.proofs.Lookup.{lookup-found}
+use Rattle.model.proofs.Formed.{resizable}
 use Rattle.model.proofs.Calls as calls
 use Rattle.model.proofs.Calls.{Asks, on-live, carried-whole, carried-damaged}
 use Rattle.rows.specs.declared.Block.{Block}
-use Rattle.rows.specs.Rows.{blockOf, looked, ownedAt, handleAt}
+use Rattle.rows.specs.Rows.{blockOf, ownedAt, handleAt}
 use Rattle.frames.specs.declared.Located.{Located}
 use Rattle.frames.specs.declared.Located.the-variants.{At, Refused}
-use Rattle.frames.specs.Blocks.{codeFound, byDamage, located, CarriedOutBy}
-use Rattle.frames.proofs.Places.{new-size}
+use Rattle.frames.specs.Blocks.{byDamage, located, locatedFor, CarriedOutBy}
 
 -- what is lent passed the check
 pub record Checked (row : ℕ) (F : Form) (a : List ℕ) (t : F .Kept) : Type 0 where
@@ -176,6 +177,47 @@ module _ {row : ℕ} {F : Form} {a : List ℕ} {t : F .Kept} (r : Checked row F 
         go (At c) (acts p f l d) e = let z : _≡_ {A = ℕ} 0 1 = cc in absurd (omega arith)
         go (Refused y) (refuses z d) e = let g : y ≡ x = cc in d ∙ ap (λ x. keeps (refusal x) a t) g
 
+    -- for a block that is to have n bytes: these can be asked for, and the call carries out the plan for it
+    module _ (pos : 0 < row) (n : ℕ) where
+      -- the place at the handle's start
+      abbrev at-start : Option Place
+      at-start = lookup row P (startOf h)
+
+      pub record CalledFor (b : Block) : Type 0 where
+        pub block : Called b
+        pub askable : Askable (b .alloc .align) n
+        pub result : carriedBy row F a t (onHandleFor row P h n k) ≡ applied F a (k (block .place))
+
+      pub called-for : (b : Block) → At b ≡ locatedFor row a h n at-start → CalledFor b
+      unfolding onHandleFor
+      called-for b e = go (leb tooLarge (newSize at-start n)) refl
+        where
+          go : (v : Bool) → leb tooLarge (newSize at-start n) ≡ v → CalledFor b
+          go true f = let g = e ∙ choose-true (leb tooLarge (newSize at-start n)) _ _ f in let z : _≡_ {A = ℕ} 0 1 = cc in absurd (omega arith)
+          go false f =
+              let d : Called b = called-at b (e ∙ choose-false (leb tooLarge (newSize at-start n)) _ _ f) in
+              record {
+                block = d;
+                askable = subst (λ (c : Block). Askable (c .alloc .align) n) (sym (d .block))
+                    (resizable row pos P (startOf h) n (r .laws .only (length a) t (true-T (F .sound (length a) t) (r .sound)) .0 .formed) (d .place)
+                    (d .looked-up) (lookup-found row pos P (startOf h) (d .place) (d .looked-up) .0) (d .live)
+                    (leb-false tooLarge (newSize at-start n) f));
+                result = ap (carriedBy row F a t) (choose-false (leb tooLarge (newSize at-start n)) _ _ f) ∙ d .result;
+              }
+
+      pub refused-for : (x : Refusal) → Refused x ≡ locatedFor row a h n at-start → carriedBy row F a t (onHandleFor row P h n k) ≡ keeps (refusal x) a t
+      unfolding onHandleFor
+      refused-for x e = go (leb tooLarge (newSize at-start n)) refl
+        where
+          go : (v : Bool) → leb tooLarge (newSize at-start n) ≡ v → carriedBy row F a t (onHandleFor row P h n k) ≡ keeps (refusal x) a t
+          go true f =
+              let g = e ∙ choose-true (leb tooLarge (newSize at-start n)) _ _ f in
+              let i : TooLarge ≡ x = cc in
+              ap (carriedBy row F a t) (choose-true (leb tooLarge (newSize at-start n)) _ _ f) ∙ kept TooLarge ∙ ap (λ x. keeps (refusal x) a t) i
+          go false f =
+              ap (carriedBy row F a t) (choose-false (leb tooLarge (newSize at-start n)) _ _ f)
+              ∙ called-refused x (e ∙ choose-false (leb tooLarge (newSize at-start n)) _ _ f)
+
   -- each call on a block, as what is done with it
 
   pub releasing : (h : ℕ) → callBy row F a t (releases h) ≡ carriedBy row F a t (onHandle row (F .view t) h (releaseAt row))
@@ -186,25 +228,13 @@ module _ {row : ℕ} {F : Form} {a : List ℕ} {t : F .Kept} (r : Checked row F 
   unfolding plan measure
   measuring h = call-sound (measures h) tt
 
-  -- a resize whose size is too large, by what is looked up, and another
-  module _ (h n : ℕ) where
-    -- the place at the handle's start
-    abbrev at-start : Option Place
-    at-start = lookup row (F .view t) (startOf h)
+  pub resizing : (h n : ℕ) → callBy row F a t (resizesInPlace h n) ≡ carriedBy row F a t (onHandleFor row (F .view t) h n (inPlaceAt row (F .view t) n))
+  unfolding plan resizeInPlace
+  resizing h n = call-sound (resizesInPlace h n) tt
 
-    pub resize-too-large : leb tooLarge (enlarged (codeFound (looked row at-start)) n) ≡ true → callBy row F a t (resizes h n) ≡ keeps (refusal TooLarge) a t
-    unfolding plan resize
-    resize-too-large e =
-        call-sound (resizes h n) tt
-        ∙ ap (carriedBy row F a t) (choose-true (leb tooLarge (newSize at-start n)) _ _ (ap (leb tooLarge) (sym (new-size row at-start n)) ∙ e))
-        ∙ kept TooLarge
-
-    pub resizing : leb tooLarge (enlarged (codeFound (looked row at-start)) n) ≡ false
-        → callBy row F a t (resizes h n) ≡ carriedBy row F a t (onHandle row (F .view t) h (resizeAt row (F .view t) n))
-    unfolding plan resize
-    resizing e =
-        call-sound (resizes h n) tt
-        ∙ ap (carriedBy row F a t) (choose-false (leb tooLarge (newSize at-start n)) _ _ (ap (leb tooLarge) (sym (new-size row at-start n)) ∙ e))
+  pub moving : (h n : ℕ) → callBy row F a t (moves h n) ≡ carriedBy row F a t (onHandleFor row (F .view t) h n (moveAt row (F .view t) n))
+  unfolding plan move
+  moving h n = call-sound (moves h n) tt
 
 -- ---- the block that a plan names
 
@@ -216,13 +246,17 @@ pub release-done : (row : ℕ) (p : Place) → releaseAt row p .answer ≡ done 
 unfolding releaseAt
 release-done row p = choose-case (λ (r : Plan). r .answer ≡ done (0 ∷ [])) (any isLive (p .lower ++ p .upper)) _ _ (λ e. refl) (λ e. refl)
 
-pub resize-names : (row : ℕ) (P : Pool) (n : ℕ) (p : Place) → resizeAt row P n p .checks ≡ some p
-unfolding resizeAt resizeInPlace resizeMove
-resize-names row P n p = choose-case (λ (r : Plan). r .checks ≡ some p) (inPlace p n) _ _ (λ e. refl) (λ e. moved (reserve row P (align (p .state)) n))
+pub in-place-names : (row : ℕ) (P : Pool) (n : ℕ) (p : Place) → inPlaceAt row P n p .checks ≡ some p
+unfolding inPlaceAt resizeAt
+in-place-names row P n p = choose-case (λ (r : Plan). r .checks ≡ some p) (inPlace p n) _ _ (λ e. refl) (λ e. refl)
+
+pub move-names : (row : ℕ) (P : Pool) (n : ℕ) (p : Place) → moveAt row P n p .checks ≡ some p
+unfolding moveAt
+move-names row P n p = go (reserve row P (align (p .state)) n)
   where
-    moved : (o : Option Place) → moveTo row P p n o .checks ≡ some p
-    moved none = refl
-    moved (some q) = refl
+    go : (o : Option Place) → moveTo row P p n o .checks ≡ some p
+    go none = refl
+    go (some q) = refl
 
 -- ---- what a call leaves, as one equation
 

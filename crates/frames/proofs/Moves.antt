@@ -1,5 +1,5 @@
 -- A block that moves, in any layout: in the tables that the grant leaves it still lives, and the new block is apart from it.
-use Rattle.mem.proofs.Prelude.{_∙_, _≡_, sym, ap, refl, ap₂, true, ⊎-elim, inl, inr, _⊎_, some, none, List, [], _∷_, _+_, ℕ, _≤_, _*_, min, arith}
+use Rattle.mem.proofs.Prelude.{_∙_, _≡_, sym, ap, ap₂, true, ⊎-elim, inl, inr, _⊎_, some, none, List, [], _∷_, _+_, ℕ, _≤_, _*_, min, arith}
 use Rattle.mem.specs.Bytes.{put, part}
 use Rattle.mem.proofs.Tests.{T-true}
 use Rattle.classes.specs.Classes.{slotBytes}
@@ -9,7 +9,7 @@ use Rattle.model.specs.declared.Reply.{Reply}
 use Rattle.model.specs.State.{Place, disp, size, align, poolOf, slotNumber, rows, owned, start}
 use Rattle.model.specs.Blocks.{frame}
 use Rattle.model.specs.Answers.{done}
-use Rattle.model.specs.Plans.{Plan, reserve, discard, releaseAt, resizeMove, moveTo, enframe}
+use Rattle.model.specs.Plans.{Plan, refusedOn, reserve, discard, releaseAt, moveAt, moveTo, enframe}
 use Rattle.model.specs.Tables.{Layout, viewBy, encodeBy, soundBy}
 use Rattle.model.specs.Calls.{written, formOf}
 use Rattle.model.proofs.Tables.{view-encode, encode-sound}
@@ -96,11 +96,11 @@ module _ {L : Layout} {row len : ℕ} {t : List ℕ} (r : Lent L row len t) (v n
     released-old = old-released row (r .pos) (viewBy L row t) (facts r .formed) v n small q found p there (h .live)
 
     -- the plan of the move
-    move-plan : v ≡ align (p .state) → resizeMove row (poolOf p) p n ≡ moveTo row (poolOf p) p n (some q)
-    unfolding resizeMove
+    move-plan : v ≡ align (p .state) → moveAt row (poolOf p) n p ≡ moveTo row (poolOf p) p n (some q)
+    unfolding moveAt
     move-plan e = ap (moveTo row (poolOf p) p n) (ap₂ (λ P k. reserve row P k n) (sym (held-pool r h)) (sym e) ∙ found)
 
-    pub moved-pool : v ≡ align (p .state) → resizeMove row (poolOf p) p n .pool ≡ releaseAt row (beside .place) .pool
+    pub moved-pool : v ≡ align (p .state) → moveAt row (poolOf p) n p .pool ≡ releaseAt row (beside .place) .pool
     moved-pool e = ap (λ (x : Plan). x .pool) (move-plan e) ∙ ap (λ (x : Plan). x .pool) released-old
 
     -- over what the calls give: the arena with the new block, with its copy, and after the release
@@ -108,7 +108,7 @@ module _ {L : Layout} {row len : ℕ} {t : List ℕ} (r : Lent L row len t) (v n
         → a₁ ≡ put (ownedAt row c) (frame (c .class) (c .slot) (c .alloc .disp) (c .alloc .size)) a
         → a₂ ≡ put (startAt row c) (part (startAt row b) (min (b .alloc .size) n) a₁) a₁
         → a₃ ≡ written a₂ (releaseAt row (beside .place) .changes) → u ≡ encodeBy L row (releaseAt row (beside .place) .pool)
-        → s ≡ handleAt row c → v ≡ align (p .state) → CarriedOutBy (formOf row L) a (resizeMove row (poolOf p) p n) (Reply.Done s) a₃ u
+        → s ≡ handleAt row c → v ≡ align (p .state) → CarriedOutBy (formOf row L) a (moveAt row (poolOf p) n p) (Reply.Done s) a₃ u
     unfolding enframe
     moved c a a₁ a₂ a₃ u s ec e₁ e₂ e₃ eu es ev =
         let sb : startAt row b ≡ start row p = ap (startAt row) (h .block) in
@@ -124,15 +124,8 @@ module _ {L : Layout} {row len : ℕ} {t : List ℕ} (r : Lent L row len t) (v n
         laid : List ℕ
         laid = put (owned row q) (frame (q .cls) (slotNumber q) (disp (q .state)) (size (q .state))) a
 
--- no room: nothing changes
+-- no room: the plan refuses
 module _ {L : Layout} {row len : ℕ} {t : List ℕ} (r : Lent L row len t) (v n : ℕ) {b : Block} {p : Place} (h : Holds L row t b p) where
-  stays-plan : v ≡ align (p .state) → reserve row (viewBy L row t) v n ≡ none → resizeMove row (poolOf p) p n ≡ moveTo row (poolOf p) p n none
-  unfolding resizeMove
-  stays-plan ev e = ap (moveTo row (poolOf p) p n) (ap₂ (λ P k. reserve row P k n) (sym (held-pool r h)) (sym ev) ∙ e)
-
-  pub moved-nowhere : (a : List ℕ) → v ≡ align (p .state) → reserve row (viewBy L row t) v n ≡ none
-      → CarriedOutBy (formOf row L) a (resizeMove row (poolOf p) p n) (Reply.Refused refusals.NoRoom) a t
-  moved-nowhere a ev e = rw (stays-plan ev e) (record { answer = refl; arena = refl; kept = h .bytes })
-
-  pub unmoved-pool : v ≡ align (p .state) → reserve row (viewBy L row t) v n ≡ none → resizeMove row (poolOf p) p n .pool ≡ poolOf p
-  unmoved-pool ev e = ap (λ (x : Plan). x .pool) (stays-plan ev e)
+  pub unmoved-plan : v ≡ align (p .state) → reserve row (viewBy L row t) v n ≡ none → moveAt row (poolOf p) n p ≡ refusedOn refusals.NoRoom (poolOf p) p
+  unfolding moveAt
+  unmoved-plan ev e = ap (moveTo row (poolOf p) p n) (ap₂ (λ P k. reserve row P k n) (sym (held-pool r h)) (sym ev) ∙ e)

@@ -1,13 +1,13 @@
 -- Places of a pool as the calls handle them, in any layout: a live place's block lies in the arena, and what is looked up, as it is judged, is located.
-use Rattle.mem.proofs.Prelude.{_∙_, _≡_, sym, ap, refl, subst, true, Bool, false, some, none, Option, List, _∷_, _++_, _+_, ℕ, _<_, _≤_, _*_, mul-add}
-use Rattle.mem.proofs.Prelude.{arith, T, lit≤}
+use Rattle.mem.proofs.Prelude.{_∙_, _≡_, sym, ap, ap₂, refl, subst, true, Bool, false, some, none, Option, List, _∷_, _++_, _+_, ℕ, _<_, _≤_, _*_, mul-add}
+use Rattle.mem.proofs.Prelude.{arith, T, leb, lit≤}
 use native.Mathlib.Nat.{mul-le-mul-left, suc-mul}
 use Rattle.mem.specs.Lists.{choose}
 use Rattle.mem.proofs.Tests.{true-T}
-use Rattle.classes.specs.Classes.{slotBytes, rowsOf}
+use Rattle.classes.specs.Classes.{slotBytes, rowsOf, tooLarge}
 use Rattle.classes.specs.Alignments.{enlarged, Askable}
 use Rattle.classes.proofs.Laws.{slots-small}
-use Rattle.model.specs.declared.Refusal.the-variants.{AlreadyFree}
+use Rattle.model.specs.declared.Refusal.the-variants.{TooLarge, AlreadyFree}
 use Rattle.model.specs.declared.Slot.{Slot}
 use Rattle.model.specs.declared.Slot.the-variants.{Fresh, Idle, Live}
 use Rattle.model.specs.State.{Place, group, isLive, count, disp, size, align, wellFormed, poolOf, slotNumber, rows}
@@ -25,7 +25,7 @@ use Rattle.rows.proofs.Rooms.{facts, few-rows}
 use Rattle.rows.specs.declared.Looked.{Looked}
 use Rattle.rows.specs.declared.Looked.the-variants.{Present, Freed}
 use Rattle.frames.specs.declared.Located.the-variants.{Refused}
-use Rattle.frames.specs.Blocks.{Standing, Lies, codeFound, byDamage, byBits, judged, located}
+use Rattle.frames.specs.Blocks.{Standing, Lies, codeFound, byDamage, byBits, judged, located, judgedFor, locatedFor}
 
 -- a slot of a pool lies in an arena that the pool fills
 pub place-stands : (row : ℕ) → 0 < row → (n : ℕ) (p : Place) → T (wellFormed (poolOf p)) → rows row (poolOf p) ≤ 512 → n ≡ row * rows row (poolOf p)
@@ -118,8 +118,8 @@ module _ (row : ℕ) where
       go true = refl
       go false = refl
 
-  -- the size that answer 3 of a resize goes by, by what is looked up
-  pub new-size : (q : Option Place) (n : ℕ) → enlarged (codeFound (looked row q)) n ≡ newSize q n
+  -- the size that answer 3 goes by, by what is looked up
+  new-size : (q : Option Place) (n : ℕ) → enlarged (codeFound (looked row q)) n ≡ newSize q n
   unfolding choose
   new-size none n = refl
   new-size (some p) n = go (p .state)
@@ -133,3 +133,7 @@ module _ (row : ℕ) where
       go Fresh = refl
       go (Idle r k d) = refl
       go (Live a) = refl
+
+  pub judged-for-looked : (a : List ℕ) (h n : ℕ) (q : Option Place) → judgedFor row a h n (looked row q) ≡ locatedFor row a h n q
+  judged-for-looked a h n q =
+      ap₂ (λ m r. choose (leb tooLarge m) (Refused TooLarge) r) (new-size q n) (judged-looked a h q)

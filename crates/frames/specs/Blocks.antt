@@ -7,16 +7,16 @@ use mathlib.Core.List.{List, _∷_, _++_}
 use lib.Dec.{leb, eqb}
 use Rattle.mem.specs.Lists.{choose}
 use Rattle.mem.specs.Bytes.{part}
-use Rattle.classes.specs.Classes.{slotBytes, rowsOf, ownClass}
+use Rattle.classes.specs.Classes.{slotBytes, rowsOf, tooLarge, ownClass}
 use Rattle.classes.specs.Alignments.{ordinary, enlarged}
-use Rattle.model.specs.declared.Refusal.the-variants.{NoSuchBlock, AlreadyFree, Stale}
+use Rattle.model.specs.declared.Refusal.the-variants.{TooLarge, NoSuchBlock, AlreadyFree, Stale}
 use Rattle.model.specs.declared.Damage.{Damage}
 use Rattle.model.specs.declared.Damage.the-variants.{Intact, Damaged}
 use Rattle.model.specs.declared.Reply.{Reply}
 use Rattle.model.specs.State.{Place, group, isLive, count, useBits, poolOf}
 use Rattle.model.specs.Blocks.{damageIn, damage}
 use Rattle.model.specs.Answers.{replyAnswer}
-use Rattle.model.specs.Plans.{Plan, Site}
+use Rattle.model.specs.Plans.{Plan, Site, newSize}
 use Rattle.model.specs.Tables.{Layout, encodeBy, mostRows}
 use Rattle.model.specs.Calls.{Form, written}
 use Rattle.rows.specs.declared.Block.{Block}
@@ -79,6 +79,13 @@ module _ (row : ℕ) where
   located a h (some p) =
       let r = byBits h (count (p .state)) (byDamage (blockOf row p) (damage row a p)) in
       choose (isLive (p .state)) r (Refused AlreadyFree)
+
+  -- both for a block that is to have n bytes: answer 3 goes first, by the start and whatever the bits
+  abbrev pub judgedFor : List ℕ → (handle n : ℕ) → Looked → Located
+  judgedFor a h n l = let r = judged a h l in choose (leb tooLarge (enlarged (codeFound l) n)) (Refused TooLarge) r
+
+  abbrev pub locatedFor : List ℕ → (handle n : ℕ) → Option Place → Located
+  locatedFor a h n q = let r = located a h q in choose (leb tooLarge (newSize q n)) (Refused TooLarge) r
 
 module _ (L : Layout) (row : ℕ) where
   -- the room with the group in which a slot is taken, and the room after a grant

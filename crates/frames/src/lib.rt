@@ -9,7 +9,7 @@ ghost use Rattle.model.specs.State.{useBits, startOf};
 ghost use Rattle.model.specs.Blocks.{damageIn, frame};
 ghost use Rattle.model.specs.Tables.{mostRows};
 ghost use Rattle.rows.specs.Rows.{ownedAt, startAt, handleAt};
-ghost use Rattle.frames.specs.Blocks.{Standing, Lies, codeFound, bitsFound, judged, staysIn};
+ghost use Rattle.frames.specs.Blocks.{Standing, Lies, codeFound, bitsFound, judged, judgedFor, staysIn};
 use model::Damage;
 use model::Refusal;
 use rows::Block;
@@ -169,7 +169,7 @@ pub fn judge(row: usize, arena: &[u8], found: Looked, handle: usize) -> Located
 }
 
 // The alignment of what was found at an offset: that of a live block; of anything else, an ordinary block's.
-pub fn code_found(found: Looked) -> u8
+fn code_found(found: Looked) -> u8
     ensures { λ r. ⌜ r ≡ codeFound found ⌝ }
 {
     match found {
@@ -177,6 +177,20 @@ pub fn code_found(found: Looked) -> u8
         Looked::Freed => classes::ORDINARY,
         Looked::Present(b) => b.alloc.align,
     }
+}
+
+// What was found at the start of a handle, for a block that is to have n bytes: whether that is too large goes by the alignment of a live block,
+// before the handle's bits and the block's damage are looked at.
+pub fn judge_for(row: usize, arena: &[u8], found: Looked, handle: usize, n: usize) -> Located
+    requires { ⌜ Lies row (length (now arena)) found ⌝ }
+    requires { ⌜ codeFound found ≤ 9 ⌝ }
+    requires { ⌜ Lawful row ⌝ }
+    ensures { λ r. ⌜ r ≡ judgedFor row (now (arena .entry)) handle n found ⌝ }
+{
+    if classes::too_large(code_found(found), n) {
+        return Located::Refused(Refusal::TooLarge);
+    }
+    judge(row, arena, found, handle)
 }
 
 pub fn lesser(a: usize, b: usize) -> usize

@@ -9,15 +9,13 @@ use Rattle.classes.proofs.Alignments.{code-most}
 use Rattle.model.specs.declared.Slot.{Slot}
 use Rattle.model.specs.declared.Slot.the-variants.{Fresh, Idle, Live}
 use Rattle.model.specs.declared.Refusal.{Refusal}
-use Rattle.model.specs.declared.Refusal.the-variants.{NoSuchBlock, AlreadyFree, Stale}
+use Rattle.model.specs.declared.Refusal.the-variants.{TooLarge, NoSuchBlock, AlreadyFree, Stale, NotInPlace}
 use Rattle.model.specs.State.{Pool, Place, group, isLive, count, disp, align, slotSound, spanSound, wellFormed, poolOf, become, rows, start}
 use Rattle.model.specs.State.{slotAligned, aligned, beginning, useBits, startOf, handle}
-use Rattle.model.specs.Plans.{Plan, refused, reserve, grantAt, grantAs, grantAligned, lookup, vacant, onBlock, byHandle, onHandle, releaseAt, release}
-use Rattle.model.specs.Plans.{discard, inPlace}
-use Rattle.model.specs.Plans.{resizeInPlace, newSize, moveTo, resizeMove, resizeAt, resize}
-use Rattle.model.specs.Plans.{measure, measureAt, report, freshPool, Call, setsUp, grants, grantsAligned, releases, resizes, measures, reports, plan}
-use Rattle.model.specs.Plans.{grantsList}
-use Rattle.model.specs.Plans.{reserveAll, poolAfter, grantList}
+use Rattle.model.specs.Plans.{Plan, refused, refusedOn, reserve, grantAt, grantAs, grantAligned, lookup, vacant, onBlock, byHandle, onHandle, releaseAt}
+use Rattle.model.specs.Plans.{release, discard, inPlace, newSize, onHandleFor, resizeAt, moveTo, moveAt, inPlaceAt, resizeInPlace, move}
+use Rattle.model.specs.Plans.{measure, measureAt, report, freshPool, reserveAll, poolAfter, grantList, plan}
+use Rattle.model.specs.Plans.{Call, setsUp, grants, grantsAligned, releases, resizesInPlace, moves, measures, reports, grantsList}
 use Rattle.model.proofs.Rooms.{rows-append}
 use Rattle.model.proofs.Fresh.{fresh-formed, all-fresh, fresh-rows}
 use Rattle.model.proofs.Bounds.{parts, freed-whole, here-aligned, become-aligned, resized-aligned}
@@ -131,11 +129,10 @@ module _ (row : ℕ) where
       (true-T _ (any-middle isLive (p .lower) (vacant p) (p .upper) ∙ e)) (λ _. tt))
       (λ e. freed-formed p w)
 
-  pub resize-in-place-formed : (p : Place) (n : ℕ) → T (wellFormed (poolOf p)) → T (isLive (p .state)) → enlarged (align (p .state)) n < tooLarge
-      → T (inPlace p n)
-      → Formed (poolOf p) (resizeInPlace row p n .pool)
-  unfolding resizeInPlace inPlace
-  resize-in-place-formed p n w l h t =
+  pub resize-at-formed : (p : Place) (n : ℕ) → T (wellFormed (poolOf p)) → T (isLive (p .state)) → enlarged (align (p .state)) n < tooLarge
+      → T (inPlace p n) → Formed (poolOf p) (resizeAt row p n .pool)
+  unfolding resizeAt inPlace
+  resize-at-formed p n w l h t =
       let f : Fits p = fits p w in
       let x : Slot = Live (record { count = count (p .state); disp = disp (p .state); size = n; align = align (p .state) }) in
       become-formed p x w
@@ -219,9 +216,20 @@ module _ (row : ℕ) (pos : 0 < row) where
   release-plan-formed P h w =
       on-handle (λ (r : Plan). Formed row P (r .pool)) P h (releaseAt row) (λ r. unchanged row P w) (λ p f e l b. given-back P p w e l)
 
-  pub resize-move-formed : (P : Pool) (p : Place) (n : ℕ) → T (wellFormed P) → Askable (align (p .state)) n → Formed row P (resizeMove row P p n .pool)
-  unfolding resizeMove
-  resize-move-formed P p n w h = go (reserve row P (align (p .state)) n) refl
+  -- what a call does that is to give the block of a handle n bytes: answer 3 goes first, so the block can be asked to have them
+  pub on-handle-for : (M : Plan → Type 0) (P : Pool) (h n : ℕ) (f : Place → Plan) → T (wellFormed P) → ((r : Refusal) → M (refused r P))
+      → ((p : Place) → lookup row P (startOf h) ≡ some p → poolOf p ≡ P → T (isLive (p .state)) → handle row p ≡ h → Askable (align (p .state)) n → M (f p))
+      → M (onHandleFor row P h n f)
+  unfolding onHandleFor
+  on-handle-for M P h n f w not-so live-there =
+      let m : ℕ = newSize (lookup row P (startOf h)) n in
+      choose-case M (leb tooLarge m) _ _ (λ _. not-so TooLarge)
+      (λ e. on-handle M P h f not-so
+      (λ p g q l b. live-there p g q l b (resizable row pos P (startOf h) n w p g q l (leb-false tooLarge m e))))
+
+  move-at-formed : (P : Pool) (p : Place) (n : ℕ) → T (wellFormed P) → Askable (align (p .state)) n → Formed row P (moveAt row P n p .pool)
+  unfolding moveAt
+  move-at-formed P p n w h = go (reserve row P (align (p .state)) n) refl
     where
       go : (r : Option Place) → reserve row P (align (p .state)) n ≡ r → Formed row P (moveTo row P p n r .pool)
       go none e = unchanged row P w
@@ -229,19 +237,20 @@ module _ (row : ℕ) (pos : 0 < row) where
           let g : Granted row P (align (p .state)) n q = reserve-formed row P (align (p .state)) n q w h e in
           granted-formed (align (p .state)) n q g (discard-formed (poolOf q) p (g .formed))
 
-  pub resize-formed : (P : Pool) (h n : ℕ) → T (wellFormed P) → Formed row P (resize row P h n .pool)
-  unfolding resize resizeAt
-  resize-formed P h n w =
+  move-formed : (P : Pool) (h n : ℕ) → T (wellFormed P) → Formed row P (move row P h n .pool)
+  unfolding move
+  move-formed P h n w =
+      on-handle-for (λ (r : Plan). Formed row P (r .pool)) P h n (moveAt row P n) w (λ r. unchanged row P w) (λ p _ _ _ _ s. move-at-formed P p n w s)
+
+  resize-in-place-formed : (P : Pool) (h n : ℕ) → T (wellFormed P) → Formed row P (resizeInPlace row P h n .pool)
+  unfolding resizeInPlace inPlaceAt
+  resize-in-place-formed P h n w =
       let M : Plan → Type 0 = λ r. Formed row P (r .pool) in
-      let o : ℕ = startOf h in
-      choose-case M (leb tooLarge (newSize (lookup row P o) n)) _ _ (λ e. unchanged row P w)
-      (λ e. on-handle M P h (resizeAt row P n) (λ r. unchanged row P w)
-      (λ p f q l b.
-      let h : Askable (align (p .state)) n = resizable row pos P o n w p f q l (leb-false tooLarge (newSize (lookup row P o) n) e) in
-      choose-case M (inPlace p n) (resizeInPlace row p n) (resizeMove row P p n)
-      (λ t. subst (λ Q. Formed row Q (resizeInPlace row p n .pool)) q
-      (resize-in-place-formed row p n (subst (λ Q. T (wellFormed Q)) (sym q) w) l (h .small) (true-T (inPlace p n) t)))
-      (λ t. resize-move-formed P p n w h)))
+      on-handle-for M P h n (inPlaceAt row P n) w (λ r. unchanged row P w)
+      (λ p _ q l _ s. choose-case M (inPlace p n) (resizeAt row p n) (refusedOn NotInPlace P p)
+      (λ t. subst (λ Q. Formed row Q (resizeAt row p n .pool)) q
+      (resize-at-formed row p n (subst (λ Q. T (wellFormed Q)) (sym q) w) l (s .small) (true-T (inPlace p n) t)))
+      (λ _. unchanged row P w))
 
   -- a list of grants
   list-formed : (P : Pool) (ns : List ℕ) (qs : List Place) → T (wellFormed P) → T (small ns) → reserveAll row P ns ≡ some qs → Formed row P (poolAfter P qs)
@@ -266,7 +275,8 @@ module _ (row : ℕ) (pos : 0 < row) where
   plan-formed P (grants n) w = grant-formed P ordinary n (lit≤ tt) (lit≤ tt) w
   plan-formed P (grantsAligned n a) w = grant-aligned-formed P n a w
   plan-formed P (releases o) w = release-plan-formed P o w
-  plan-formed P (resizes o n) w = resize-formed P o n w
+  plan-formed P (resizesInPlace o n) w = resize-in-place-formed P o n w
+  plan-formed P (moves o n) w = move-formed P o n w
   plan-formed P (measures o) w = measure-formed P o w
   plan-formed P reports w = unchanged row P w
   plan-formed P (grantsList total cap places ns) w = grant-list-formed P total cap places ns w

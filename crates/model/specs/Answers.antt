@@ -4,7 +4,7 @@ use mathlib.Core.List.{List, [], _∷_}
 use lib.ListN.{length}
 use Rattle.model.specs.declared.Refusal.{Refusal}
 use Rattle.model.specs.declared.Refusal.the-variants.{BadArena, Unsound, TooLarge, NoSuchBlock, AlreadyFree, Stale, HeaderDamaged, Overrun, NoRoom}
-use Rattle.model.specs.declared.Refusal.the-variants.{TooLong, BadProposal, BadAlignment}
+use Rattle.model.specs.declared.Refusal.the-variants.{NotInPlace, TooLong, BadProposal, BadAlignment}
 use Rattle.model.specs.declared.Reply.{Reply}
 use Rattle.model.specs.declared.Report.{Report}
 use Rattle.model.specs.declared.Totals.{Totals}
@@ -32,6 +32,8 @@ numberOf BadProposal = 17
 numberOf BadAlignment = 13
 -- 02 §7
 numberOf Stale = 10
+-- 02 §9
+numberOf NotInPlace = 11
 
 abbrev pub done : List ℕ → Answer
 done vs = record { number = 0; values = vs; lent = [] }

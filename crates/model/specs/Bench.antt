@@ -10,7 +10,7 @@ use Rattle.mem.specs.Bytes.{zeros, bit, same, part, put}
 use Rattle.classes.specs.Classes.{rowBytes, slotsOf, rowsOf, classOf}
 use Rattle.model.specs.declared.Slot.{Slot}
 use Rattle.model.specs.declared.Slot.the-variants.{Fresh, Idle, Live}
-use Rattle.model.specs.Plans.{Call, setsUp, grants, grantsAligned, releases, resizes, measures, reports, grantsList}
+use Rattle.model.specs.Plans.{Call, setsUp, grants, grantsAligned, releases, resizesInPlace, moves, measures, reports, grantsList}
 use Rattle.model.specs.Proposals.{accepts, planned}
 use Rattle.model.specs.Tables.{roomBytes, roomFor, slotRecord}
 use Rattle.model.specs.declared.Totals.{Totals}
@@ -81,9 +81,11 @@ sheet01 =
     -- W7
     ∷ fresh 4096 (gives (grants 160) 16 ∷ gives (grants 160) 208 ∷ gives (releases 16) 0 ∷ gives (grants 160) 400 ∷ [])
     -- W8, W9; 02 §7: "W8 now gives 33, W9 answers 10 for 32 and 4 for 16."
-    -- The displaced block has nothing but zeros before its header. "In place if n is at most s − 4 − 16d": it has room for 172 bytes, and not for 173
+    -- The displaced block has nothing but zeros before its header. "In place if n is at most s − 4 − 16d": it has room for 172 bytes, and not for 173;
+    -- a move has none, to the same n either
     ∷ fresh 4096 (grants160 21 16 ++ (gives (releases 16) 0 ∷ gives (grants 160) 33 ∷ shows 12 (zeros 16) ∷ shows 28 (bytes4 0 160 1 0)
-    ∷ shows 200 (bytes4 12 0 0 0) ∷ refuses (releases 32) 10 ∷ refuses (releases 16) 4 ∷ gives (resizes 33 172) 33 ∷ refuses (resizes 33 173) 8 ∷ []))
+    ∷ shows 200 (bytes4 12 0 0 0) ∷ refuses (releases 32) 10 ∷ refuses (releases 16) 4 ∷ gives (resizesInPlace 33 172) 33
+    ∷ leaves (resizesInPlace 33 173) 11 ∷ leaves (moves 33 173) 8 ∷ leaves (moves 33 172) 8 ∷ []))
     -- "d is the slot's count modulo (t + 1)": the third grant of a slot is not displaced. A refill keeps last starts: the slot that starts at 224
     -- answers 5 there once it waits, and once it is ready
     ∷ fresh 4096 (grants160 21 16 ++ (gives (releases 16) 0 ∷ gives (releases 208) 0 ∷ gives (grants 160) 33 ∷ gives (grants 160) 225
@@ -96,24 +98,32 @@ sheet01 =
     -- W11; "all its rows become zero", whatever was stored in them
     ∷ fresh 4096 (gives (grants 160) 16 ∷ stores 0 7 ∷ stores 1000 8 ∷ stores 4095 9 ∷ gives (releases 16) 0 ∷ refuses (releases 16) 4 ∷ shows 0 (0 ∷ [])
     ∷ shows 1000 (0 ∷ []) ∷ shows 4095 (0 ∷ []) ∷ [])
-    -- W12: the guard of 160 bytes is gone from the block that grew, and that of 141 is there
-    ∷ fresh 4096 (gives (grants 160) 16 ∷ shows 200 (bytes4 28 0 0 0) ∷ gives (resizes 16 188) 16 ∷ shows 200 (bytes4 0 0 0 0)
-    ∷ gives (resizes 16 141) 16 ∷ shows 200 (bytes4 47 0 0 0) ∷ [])
-    -- W13
-    ∷ fresh 4096 (gives (grants 160) 16 ∷ refuses (resizes 16 189) 8 ∷ [])
-    ∷ fresh 8192 (gives (grants 160) 16 ∷ gives (resizes 16 189) 4112 ∷ [])
+    -- W12, which 02 §9 has in place: the guard of 160 bytes is gone from the block that grew, and that of 141 is there
+    ∷ fresh 4096 (gives (grants 160) 16 ∷ shows 200 (bytes4 28 0 0 0) ∷ gives (resizesInPlace 16 188) 16
+    ∷ shows 200 (bytes4 0 0 0 0) ∷ gives (resizesInPlace 16 141) 16 ∷ shows 200 (bytes4 47 0 0 0) ∷ [])
+    -- W13, which 02 §9 has by a move
+    ∷ fresh 4096 (gives (grants 160) 16 ∷ refuses (moves 16 189) 8 ∷ [])
+    ∷ fresh 8192 (gives (grants 160) 16 ∷ gives (moves 16 189) 4112 ∷ [])
     -- "Class 0: 31 slots, 1 row. Class 10: 21 slots, 8 rows. Class 47: 1 slot, 256 rows."
     ∷ groups 0 31 1 ∷ groups 10 21 8 ∷ groups 47 1 256
     -- "Size 156 is class 9, 157 class 10. From 160 in class 10, resize to 140 must move (class 8)."
     ∷ class 156 9 ∷ class 157 10 ∷ class 160 10 ∷ class 140 8
-    ∷ fresh 8192 (gives (grants 160) 16 ∷ gives (resizes 16 140) 4112 ∷ gives (measures 4112) 140 ∷ refuses (measures 16) 4 ∷ [])
-    -- "A wrong header and a wrong guard: answer 6." The first spare byte too.
+    ∷ fresh 8192 (gives (grants 160) 16 ∷ leaves (resizesInPlace 16 140) 11 ∷ gives (moves 16 140) 4112 ∷ gives (measures 4112) 140
+    ∷ refuses (measures 16) 4 ∷ [])
+    -- 02 §9: "one call that only changes in place": to the same n, which clears what was stored in spare bytes. "another that always moves": to the same n,
+    -- and where in place would do
+    ∷ fresh 4096 (gives (grants 160) 16 ∷ stores 16 7 ∷ stores 198 9 ∷ gives (resizesInPlace 16 160) 16 ∷ shows 16 (7 ∷ []) ∷ shows 198 (0 ∷ [])
+    ∷ leaves (resizesInPlace 16 189) 11 ∷ gives (moves 16 160) 208 ∷ shows 208 (7 ∷ []) ∷ shows 16 (0 ∷ []) ∷ refuses (measures 16) 5
+    ∷ gives (moves 208 188) 400 ∷ shows 400 (7 ∷ []) ∷ gives (measures 400) 188 ∷ refuses (measures 208) 5 ∷ [])
+    -- "A wrong header and a wrong guard: answer 6." The first spare byte too. Neither has a size that is not in place, or has no room, another answer
     ∷ fresh 4096 (gives (grants 160) 16 ∷ stores 13 1 ∷ stores 203 1 ∷ refuses (releases 16) 6 ∷ refuses (measures 16) 6
-    ∷ refuses (resizes 16 7) 6 ∷ stores 176 1 ∷ refuses (releases 16) 6 ∷ refuses (measures 16) 6 ∷ refuses (resizes 16 7) 6 ∷ [])
+    ∷ refuses (resizesInPlace 16 7) 6 ∷ refuses (moves 16 189) 6 ∷ stores 176 1 ∷ refuses (releases 16) 6 ∷ refuses (measures 16) 6
+    ∷ refuses (resizesInPlace 16 160) 6 ∷ refuses (moves 16 160) 6 ∷ [])
     -- "In W7's first block a store of 1 at byte 199 makes release answer 7; at byte 198 release is done." What release
     -- leaves of the block is zero, the guard too. 02 §1: "a 1 at byte 176 now gives 7."
     ∷ fresh 4096 (gives (grants 160) 16 ∷ gives (grants 160) 208 ∷ stores 176 1 ∷ refuses (measures 16) 7 ∷ refuses (releases 16) 7
-    ∷ refuses (resizes 16 188) 7 ∷ stores 176 0 ∷ stores 199 1 ∷ refuses (measures 16) 7 ∷ refuses (releases 16) 7
+    ∷ refuses (resizesInPlace 16 188) 7 ∷ refuses (resizesInPlace 16 189) 7 ∷ refuses (moves 16 189) 7 ∷ stores 176 0 ∷ stores 199 1 ∷ refuses (measures 16) 7
+    ∷ refuses (releases 16) 7
     ∷ stores 199 0 ∷ stores 198 1 ∷ gives (releases 16) 0 ∷ shows 196 (bytes4 0 0 0 0) ∷ shows 200 (bytes4 0 0 0 0)
     ∷ asks reports 0 (1 ∷ 160 ∷ 8 ∷ 0 ∷ 19 ∷ 1 ∷ []) ∷ [])
     -- 02 §1: "one byte too many into a block with three spare bytes"; the other two are not compared
@@ -125,20 +135,23 @@ sheet01 =
     ∷ fresh 4096 (gives (grants 188) 16 ∷ gives (grants 188) 208 ∷ stores 204 1 ∷ gives (measures 16) 188 ∷ refuses (measures 208) 6
     ∷ gives (releases 16) 0 ∷ [])
     -- no requested bytes: the start is the byte right after them
-    ∷ fresh 512 (gives (grants 0) 16 ∷ stores 16 1 ∷ refuses (measures 16) 7 ∷ refuses (releases 16) 7 ∷ refuses (resizes 16 1) 7 ∷ [])
+    ∷ fresh 512 (gives (grants 0) 16 ∷ stores 16 1 ∷ refuses (measures 16) 7 ∷ refuses (releases 16) 7 ∷ refuses (resizesInPlace 16 1) 7
+    ∷ refuses (moves 16 1) 7 ∷ [])
     -- the byte moves with the size
-    ∷ fresh 4096 (gives (grants 160) 16 ∷ gives (resizes 16 141) 16 ∷ stores 157 1 ∷ refuses (measures 16) 7 ∷ stores 157 0 ∷ stores 176 1
+    ∷ fresh 4096 (gives (grants 160) 16 ∷ gives (resizesInPlace 16 141) 16 ∷ stores 157 1 ∷ refuses (measures 16) 7 ∷ stores 157 0 ∷ stores 176 1
     ∷ gives (measures 16) 141 ∷ [])
     -- "Offset 0 is never a start."
-    ∷ fresh 512 (gives (grants 0) 16 ∷ refuses (releases 0) 4 ∷ refuses (measures 0) 4 ∷ refuses (resizes 0 0) 4 ∷ [])
+    ∷ fresh 512 (gives (grants 0) 16 ∷ refuses (releases 0) 4 ∷ refuses (measures 0) 4 ∷ refuses (resizesInPlace 0 0) 4
+    ∷ refuses (moves 0 0) 4 ∷ [])
     -- "the first bytes, as many as the lesser of old and new n, stay, all from there to the end become zero": a block that grows, then
     -- shrinks, where it is
-    ∷ fresh 4096 (gives (grants 160) 16 ∷ stores 16 7 ∷ stores 175 9 ∷ gives (resizes 16 188) 16 ∷ shows 16 (7 ∷ []) ∷ shows 175 (9 ∷ 0 ∷ [])
-    ∷ stores 156 5 ∷ stores 157 6 ∷ gives (resizes 16 141) 16 ∷ shows 16 (7 ∷ []) ∷ shows 156 (5 ∷ 0 ∷ []) ∷ gives (measures 16) 141 ∷ [])
+    ∷ fresh 4096 (gives (grants 160) 16 ∷ stores 16 7 ∷ stores 175 9 ∷ gives (resizesInPlace 16 188) 16 ∷ shows 16 (7 ∷ [])
+    ∷ shows 175 (9 ∷ 0 ∷ []) ∷ stores 156 5 ∷ stores 157 6 ∷ gives (resizesInPlace 16 141) 16 ∷ shows 16 (7 ∷ []) ∷ shows 156 (5 ∷ 0 ∷ [])
+    ∷ gives (measures 16) 141 ∷ [])
     -- "that many bytes are copied, then the old is released": a block that grows by a move, and one that shrinks by a move
-    ∷ fresh 8192 (gives (grants 160) 16 ∷ stores 16 7 ∷ stores 175 9 ∷ gives (resizes 16 189) 4112 ∷ shows 4112 (7 ∷ []) ∷ shows 4271 (9 ∷ zeros 29)
+    ∷ fresh 8192 (gives (grants 160) 16 ∷ stores 16 7 ∷ stores 175 9 ∷ gives (moves 16 189) 4112 ∷ shows 4112 (7 ∷ []) ∷ shows 4271 (9 ∷ zeros 29)
     ∷ shows 16 (0 ∷ []) ∷ shows 175 (0 ∷ []) ∷ [])
-    ∷ fresh 8192 (gives (grants 160) 16 ∷ stores 16 7 ∷ stores 155 5 ∷ stores 156 6 ∷ gives (resizes 16 140) 4112 ∷ shows 4112 (7 ∷ [])
+    ∷ fresh 8192 (gives (grants 160) 16 ∷ stores 16 7 ∷ stores 155 5 ∷ stores 156 6 ∷ gives (moves 16 140) 4112 ∷ shows 4112 (7 ∷ [])
     ∷ shows 4251 (5 ∷ 0 ∷ []) ∷ shows 155 (0 ∷ 0 ∷ []) ∷ [])
     -- 02 §3, the check: any proposal of at most 17 sizes, each from 1 to the cap, whose sum is L; "L = 0 is the empty list"
     ∷ checks 100 40 (40 ∷ 20 ∷ 40 ∷ []) 1 ∷ checks 17 1 (ones 17) 1 ∷ checks 131051 131051 (131051 ∷ []) 1 ∷ checks 0 1 [] 1
@@ -167,15 +180,16 @@ sheet01 =
     -- 02 §4: "kept in one small record beside the tables, brought up to date in place by every call, lists included": a full group, two releases,
     -- a refill, a resize in place, a move into a new group, which goes again, a list
     ∷ fresh 8192 (holds (six 0 0 0 16 0 0) ∷ grants160 21 16 ++ (holds (six 21 3360 8 8 0 0) ∷ gives (releases 16) 0 ∷ gives (releases 208) 0
-    ∷ holds (six 19 3040 8 8 0 2) ∷ gives (grants 160) 33 ∷ holds (six 20 3200 8 8 1 0) ∷ gives (resizes 33 150) 33
-    ∷ holds (six 20 3190 8 8 1 0) ∷ gives (resizes 33 13) 4112 ∷ holds (six 20 3053 10 6 31 1) ∷ gives (releases 4112) 0
+    ∷ holds (six 19 3040 8 8 0 2) ∷ gives (grants 160) 33 ∷ holds (six 20 3200 8 8 1 0) ∷ gives (resizesInPlace 33 150) 33
+    ∷ holds (six 20 3190 8 8 1 0) ∷ gives (moves 33 13) 4112 ∷ holds (six 20 3053 10 6 31 1) ∷ gives (releases 4112) 0
     ∷ holds (six 19 3040 8 8 1 1) ∷ lists (grantsList 14 13 17 (13 ∷ 1 ∷ [])) 2 (replicate 17 7) (4112 ∷ 5136 ∷ replicate 15 7)
     ∷ holds (six 21 3054 11 5 61 1) ∷ gives (measures 5136) 1 ∷ asks reports 0 (21 ∷ 3054 ∷ 11 ∷ 5 ∷ 61 ∷ 1 ∷ []) ∷ gives setsUp 0
     ∷ holds (six 0 0 0 16 0 0) ∷ shows 396 (bytes4 0 0 0 0) ∷ shows 5132 (bytes4 0 0 0 0) ∷ []))
     -- "the stored totals equal those counted from the tables": a requested size with a flipped bit, and with it a record that agrees; a use
     -- count is in no total, but in the handle's bits
-    ∷ fresh 4096 (gives (grants 160) 16 ∷ spoils 36 161 ∷ leaves (grants 0) 2 ∷ leaves (releases 16) 2 ∷ leaves (resizes 16 7) 2 ∷ leaves (measures 16) 2
-    ∷ leaves (grantsList 1 1 17 (1 ∷ [])) 2 ∷ asks reports 2 (0 ∷ 0 ∷ 0 ∷ 0 ∷ 0 ∷ 0 ∷ []) ∷ writes (six 1 161 8 0 20 0)
+    ∷ fresh 4096 (gives (grants 160) 16 ∷ spoils 36 161 ∷ leaves (grants 0) 2 ∷ leaves (releases 16) 2 ∷ leaves (resizesInPlace 16 7) 2
+    ∷ leaves (moves 16 7) 2 ∷ leaves (measures 16) 2 ∷ leaves (grantsList 1 1 17 (1 ∷ [])) 2 ∷ asks reports 2 (0 ∷ 0 ∷ 0 ∷ 0 ∷ 0 ∷ 0 ∷ [])
+    ∷ writes (six 1 161 8 0 20 0)
     ∷ asks reports 0 (1 ∷ 161 ∷ 8 ∷ 0 ∷ 20 ∷ 0 ∷ []) ∷ spoils 36 160 ∷ leaves (measures 16) 2 ∷ writes (six 1 160 8 0 20 0) ∷ spoils 33 3
     ∷ refuses (measures 16) 10 ∷ gives (measures 18) 160 ∷ [])
     -- a mask: a slot of class 0 that waits would be live, with no bytes. "Set up writes the record" whatever stood there
@@ -208,19 +222,22 @@ sheetAligned =
     ∷ fresh 4096 (gives (grantsAligned 392 1024) 1024 ∷ gives (grantsAligned 392 1024) 2048 ∷ gives (releases 1024) 0
     ∷ gives (grantsAligned 392 1024) 1025 ∷ gives (releases 1025) 0 ∷ gives (grants 1400) 50 ∷ [])
     -- "Resize of an aligned block keeps the boundary; .. it is in place if n itself fits as in 01 and the block's class is that of the enlarged
-    -- size or the next one up": at 64 a size of 29 fits, but the enlarged one is a class higher, so it moves
-    ∷ fresh 8192 (gives (grantsAligned 20 32) 32 ∷ gives (grantsAligned 20 32) 64 ∷ stores 64 7 ∷ stores 83 9 ∷ gives (resizes 32 0) 32
-    ∷ gives (resizes 32 28) 32 ∷ gives (resizes 64 28) 64 ∷ shows 64 (7 ∷ []) ∷ shows 83 (9 ∷ 0 ∷ []) ∷ gives (resizes 64 29) 1568
-    ∷ shows 1568 (7 ∷ []) ∷ shows 1587 (9 ∷ 0 ∷ []) ∷ shows 64 (0 ∷ []) ∷ gives (resizes 1568 28) 1568 ∷ gives (resizes 1568 12) 3616
-    ∷ gives (measures 3616) 12 ∷ refuses (measures 1568) 4 ∷ [])
-    ∷ fresh 1536 (gives (grantsAligned 20 32) 32 ∷ leaves (resizes 32 29) 8 ∷ gives (measures 32) 20 ∷ [])
+    -- size or the next one up": at 64 a size of 29 fits, but the enlarged one is a class higher
+    ∷ fresh 8192 (gives (grantsAligned 20 32) 32 ∷ gives (grantsAligned 20 32) 64 ∷ stores 64 7 ∷ stores 83 9 ∷ gives (resizesInPlace 32 0) 32
+    ∷ gives (resizesInPlace 32 28) 32 ∷ gives (resizesInPlace 64 28) 64 ∷ shows 64 (7 ∷ []) ∷ shows 83 (9 ∷ 0 ∷ []) ∷ leaves (resizesInPlace 64 29) 11
+    ∷ gives (moves 64 29) 1568 ∷ shows 1568 (7 ∷ []) ∷ shows 1587 (9 ∷ 0 ∷ []) ∷ shows 64 (0 ∷ []) ∷ gives (resizesInPlace 1568 28) 1568
+    ∷ leaves (resizesInPlace 1568 12) 11 ∷ gives (moves 1568 12) 3616 ∷ gives (measures 3616) 12 ∷ refuses (measures 1568) 4 ∷ [])
+    ∷ fresh 1536 (gives (grantsAligned 20 32) 32 ∷ leaves (resizesInPlace 32 29) 11 ∷ leaves (moves 32 29) 8 ∷ gives (measures 32) 20 ∷ [])
     -- "answer 3 reads the enlarged new size where the offset starts such a live block", before damage; any other offset goes by n alone
-    ∷ fresh 4096 (gives (grantsAligned 20 32) 32 ∷ gives (grantsAligned 20 32) 64 ∷ gives (grants 20) 1552 ∷ leaves (resizes 64 131036) 3
-    ∷ leaves (resizes 64 131035) 8 ∷ stores 61 0 ∷ leaves (resizes 64 131036) 3 ∷ leaves (resizes 64 131035) 6 ∷ gives (releases 32) 0
-    ∷ leaves (resizes 32 131051) 5 ∷ leaves (resizes 48 131051) 4 ∷ leaves (resizes 1552 131051) 8 ∷ leaves (resizes 48 131052) 3 ∷ [])
+    ∷ fresh 4096 (gives (grantsAligned 20 32) 32 ∷ gives (grantsAligned 20 32) 64 ∷ gives (grants 20) 1552
+    ∷ leaves (resizesInPlace 64 131036) 3 ∷ leaves (moves 64 131036) 3 ∷ leaves (resizesInPlace 64 131035) 11 ∷ leaves (moves 64 131035) 8 ∷ stores 61 0
+    ∷ leaves (resizesInPlace 64 131036) 3 ∷ leaves (moves 64 131036) 3 ∷ leaves (resizesInPlace 64 131035) 6 ∷ leaves (moves 64 131035) 6
+    ∷ gives (releases 32) 0 ∷ leaves (resizesInPlace 32 131051) 5 ∷ leaves (moves 32 131051) 5 ∷ leaves (resizesInPlace 48 131051) 4
+    ∷ leaves (moves 48 131051) 4 ∷ leaves (resizesInPlace 1552 131051) 11 ∷ leaves (moves 1552 131051) 8 ∷ leaves (resizesInPlace 48 131052) 3
+    ∷ leaves (moves 48 131052) 3 ∷ [])
     -- "soundness .. demands the boundary": a later multiple is sound, and no other place is; an alignment of which the start is no multiple is not, nor
     -- is a code that is none
-    ∷ fresh 4096 (gives (grantsAligned 250 32) 32 ∷ gives (resizes 32 190) 32 ∷ spoils 34 3 ∷ refuses (measures 64) 6 ∷ refuses (measures 32) 4
+    ∷ fresh 4096 (gives (grantsAligned 250 32) 32 ∷ gives (resizesInPlace 32 190) 32 ∷ spoils 34 3 ∷ refuses (measures 64) 6 ∷ refuses (measures 32) 4
     ∷ spoils 34 2 ∷ leaves (measures 48) 2 ∷ spoils 34 1 ∷ gives (measures 32) 190 ∷ spoils 32 3 ∷ leaves (measures 32) 2 ∷ spoils 32 10
     ∷ leaves (measures 32) 2 ∷ spoils 32 0 ∷ leaves (measures 32) 2 ∷ spoils 32 2 ∷ gives (releases 32) 0 ∷ [])
     -- "soundness reads the enlarged size where it speaks of a live block's class": 20 bytes at 64 may be ordinary, and aligned to 64 they would be two
@@ -238,18 +255,22 @@ regrants (suc k) h = let g = 16 + suc h % 16 in gives (releases h) 0 ∷ gives (
 unfoldable pub sheetHandles : List Entry
 sheetHandles =
     -- "Answer 10, stale, is given exactly if the start is live and the bits differ. A start that is not live answers 4 or 5 whatever the bits."
-    fresh 4096 (gives (grants 2028) 16 ∷ gives (grants 2028) 2048 ∷ leaves (releases 17) 10 ∷ leaves (measures 31) 10 ∷ leaves (resizes 24 7) 10
-    ∷ leaves (releases 15) 4 ∷ leaves (measures 32) 4 ∷ leaves (resizes 47 7) 4 ∷ gives (releases 16) 0 ∷ leaves (releases 16) 5 ∷ leaves (measures 17) 5
-    ∷ leaves (resizes 31 7) 5 ∷ gives (grants 2028) 17 ∷ leaves (releases 16) 10 ∷ leaves (measures 16) 10 ∷ leaves (resizes 16 7) 10
+    fresh 4096 (gives (grants 2028) 16 ∷ gives (grants 2028) 2048 ∷ leaves (releases 17) 10 ∷ leaves (measures 31) 10
+    ∷ leaves (resizesInPlace 24 7) 10 ∷ leaves (moves 24 7) 10 ∷ leaves (releases 15) 4 ∷ leaves (measures 32) 4 ∷ leaves (resizesInPlace 47 7) 4
+    ∷ leaves (moves 47 7) 4 ∷ gives (releases 16) 0 ∷ leaves (releases 16) 5 ∷ leaves (measures 17) 5 ∷ leaves (resizesInPlace 31 7) 5 ∷ leaves (moves 31 7) 5
+    ∷ gives (grants 2028) 17 ∷ leaves (releases 16) 10 ∷ leaves (measures 16) 10 ∷ leaves (resizesInPlace 16 2028) 10 ∷ leaves (moves 16 2028) 10
     ∷ gives (measures 17) 2028 ∷ [])
-    -- "Order: 2, 3, 4, 5, 10, 6, 7, 8; §6's answer 3 goes by the start, whatever the bits."
-    ∷ fresh 4096 (gives (grantsAligned 20 32) 32 ∷ leaves (resizes 33 131036) 3 ∷ leaves (resizes 33 131035) 10 ∷ leaves (resizes 32 131035) 8
-    ∷ stores 52 1 ∷ leaves (releases 33) 10 ∷ leaves (releases 32) 7 ∷ stores 29 0 ∷ leaves (measures 47) 10 ∷ leaves (measures 32) 6
-    ∷ leaves (resizes 40 131035) 10 ∷ leaves (resizes 32 131035) 6 ∷ spoils 33 2 ∷ leaves (releases 32) 10 ∷ leaves (releases 33) 6
+    -- "Order: 2, 3, 4, 5, 10, 6, 7, 8; §6's answer 3 goes by the start, whatever the bits."; 02 §9: 11 for 8 in place
+    ∷ fresh 4096 (gives (grantsAligned 20 32) 32 ∷ leaves (resizesInPlace 33 131036) 3 ∷ leaves (moves 33 131036) 3 ∷ leaves (resizesInPlace 33 131035) 10
+    ∷ leaves (moves 33 131035) 10 ∷ leaves (resizesInPlace 32 131035) 11 ∷ leaves (moves 32 131035) 8 ∷ stores 52 1 ∷ leaves (releases 33) 10
+    ∷ leaves (releases 32) 7 ∷ stores 29 0 ∷ leaves (measures 47) 10 ∷ leaves (measures 32) 6
+    ∷ leaves (resizesInPlace 40 131035) 10 ∷ leaves (moves 40 131035) 10 ∷ leaves (resizesInPlace 32 131035) 6 ∷ leaves (moves 32 131035) 6 ∷ spoils 33 2
+    ∷ leaves (releases 32) 10 ∷ leaves (releases 33) 6
     ∷ spoils 33 0 ∷ leaves (releases 32) 10 ∷ leaves (releases 47) 6 ∷ spoils 34 9 ∷ leaves (releases 47) 2 ∷ [])
     -- "Resize in place keeps the handle."; a move gives the bits of the slot that it takes
-    ∷ fresh 8192 (gives (grants 2028) 16 ∷ gives (grants 2028) 2048 ∷ gives (releases 16) 0 ∷ gives (grants 160) 4112 ∷ gives (resizes 4112 188) 4112
-    ∷ gives (resizes 4112 2028) 17 ∷ leaves (measures 4112) 4 ∷ leaves (measures 16) 10 ∷ gives (resizes 17 2000) 17 ∷ gives (measures 17) 2000 ∷ [])
+    ∷ fresh 8192 (gives (grants 2028) 16 ∷ gives (grants 2028) 2048 ∷ gives (releases 16) 0 ∷ gives (grants 160) 4112
+    ∷ gives (resizesInPlace 4112 188) 4112 ∷ gives (moves 4112 2028) 17 ∷ leaves (measures 4112) 4 ∷ leaves (measures 16) 10
+    ∷ gives (resizesInPlace 17 2000) 17 ∷ gives (measures 17) 2000 ∷ [])
     -- known: "A dropped group forgets its counts": the old handle is the new block's
     ∷ fresh 4096 (gives (grants 2028) 16 ∷ gives (releases 16) 0 ∷ gives (grants 2028) 16 ∷ gives (releases 16) 0 ∷ [])
     -- known: "sixteen regrants bring the same bits back": fifteen do not
@@ -287,7 +308,7 @@ sheetSound =
     ∷ leaves (measures 240) 2 ∷ spoils 42 0 ∷ spoils 34 11 ∷ gives (measures 208) 160 ∷ spoils 34 12 ∷ leaves (measures 208) 2 ∷ spoils 34 0
     ∷ spoils 1 14 ∷ leaves (measures 208) 2 ∷ [])
     -- "then i·u + d as two bytes, low byte first": the tables may say a displacement of 256 units
-    ∷ fresh 16896 (gives (grants 13100) 16 ∷ gives (resizes 16 10909) 16 ∷ spoils 35 1 ∷ stores 4109 160 ∷ leaves (measures 4112) 6 ∷ stores 4111 1
+    ∷ fresh 16896 (gives (grants 13100) 16 ∷ gives (resizesInPlace 16 10909) 16 ∷ spoils 35 1 ∷ stores 4109 160 ∷ leaves (measures 4112) 6 ∷ stores 4111 1
     ∷ leaves (measures 4112) 7 ∷ [])
     -- "bad arena: .. arena length outside the rule, or table room of another size": "512 to 262,144 bytes, a multiple of 512"
     ∷ sets 512 280 0 ∷ sets 0 16 1 ∷ sets 256 16 1 ∷ sets 511 280 1 ∷ sets 513 280 1 ∷ sets 768 280 1 ∷ sets 512 279 1 ∷ sets 512 281 1
@@ -303,16 +324,18 @@ sheetShort =
     ∷ gives (grants 12) 16 ∷ gives (grants 0) 32 ∷ asks reports 0 (2 ∷ 12 ∷ 1 ∷ 0 ∷ 29 ∷ 0 ∷ []) ∷ leaves (measures 17) 10
     ∷ leaves (grantsList 14 13 17 (1 ∷ 13 ∷ [])) 8 ∷ stores 28 1 ∷ gives (measures 16) 12 ∷ stores 28 0
     ∷ writes (six 2 13 1 0 29 0) ∷ leaves (measures 16) 2 ∷ writes (six 2 12 1 0 29 0)
-    ∷ gives (releases 32) 0 ∷ shows 40 (bytes4 0 0 0 0) ∷ gives (grants 0) 48 ∷ gives (resizes 48 12) 48 ∷ shows 56 (bytes4 0 0 0 0)
-    ∷ stores 16 7 ∷ gives (resizes 16 1) 16 ∷ shows 16 (7 ∷ [])
+    ∷ gives (releases 32) 0 ∷ shows 40 (bytes4 0 0 0 0) ∷ gives (grants 0) 48 ∷ gives (resizesInPlace 48 12) 48 ∷ shows 56 (bytes4 0 0 0 0)
+    ∷ stores 16 7 ∷ gives (resizesInPlace 16 1) 16 ∷ shows 16 (7 ∷ [])
     ∷ lists (grantsList 1 1 17 (1 ∷ [])) 1 (replicate 17 7) (64 ∷ replicate 16 7) ∷ stores 13 1 ∷ leaves (measures 17) 10 ∷ [])
     -- one spare byte; no live slot in a group
     ∷ fresh 512 (gives (grants 11) 16 ∷ shows 12 (bytes4 0 32 0 0) ∷ [])
     ∷ fresh 512 (gives (grants 0) 16 ∷ spoils 28 1 ∷ writes (six 0 0 1 0 30 1) ∷ leaves (grants 0) 2 ∷ [])
-    -- an aligned block, and its group's later row; a size two classes down; a move
-    ∷ fresh 1536 (gives (grantsAligned 1 32) 32 ∷ tables 280 (2 ∷ 1 ∷ []) ∷ leaves (resizes 33 131036) 3 ∷ [])
+    -- an aligned block, and its group's later row; a size two classes down, of the tables and asked for in place, also of a damaged block; a move, to the
+    -- same size and to another
+    ∷ fresh 1536 (gives (grantsAligned 1 32) 32 ∷ tables 280 (2 ∷ 1 ∷ []) ∷ leaves (moves 33 131036) 3 ∷ [])
     ∷ fresh 1536 (gives (grants 30) 16 ∷ spoils 36 12 ∷ writes (six 1 12 3 0 30 0) ∷ leaves (measures 16) 2 ∷ [])
-    ∷ fresh 1536 (gives (grants 1) 16 ∷ stores 16 7 ∷ gives (resizes 16 13) 528 ∷ shows 528 (7 ∷ []) ∷ [])
+    ∷ fresh 1536 (gives (grants 30) 16 ∷ leaves (resizesInPlace 16 12) 11 ∷ gives (moves 16 30) 64 ∷ stores 61 0 ∷ leaves (resizesInPlace 64 12) 6 ∷ [])
+    ∷ fresh 1536 (gives (grants 1) 16 ∷ stores 16 7 ∷ gives (moves 16 13) 528 ∷ shows 528 (7 ∷ []) ∷ [])
     -- four slots, of which two wait, are granted again and wait again: displaced, then not; a last start stays
     ∷ fresh 4096 (gives (grants 980) 16 ∷ gives (grants 980) 1024 ∷ gives (grants 980) 2032 ∷ gives (grants 980) 3040 ∷ gives (releases 16) 0
     ∷ gives (releases 1024) 0 ∷ gives (grants 980) 33 ∷ shows 12 (zeros 16) ∷ gives (grants 980) 1041 ∷ gives (releases 33) 0

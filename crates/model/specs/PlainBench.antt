@@ -9,7 +9,7 @@ use Rattle.mem.specs.Bytes.{zeros, same, part}
 use Rattle.classes.specs.Classes.{rowBytes}
 use Rattle.model.specs.declared.Slot.{Slot}
 use Rattle.model.specs.declared.Slot.the-variants.{Fresh, Idle, Live}
-use Rattle.model.specs.Plans.{Call, setsUp, grants, grantsAligned, releases, resizes, measures, reports, grantsList}
+use Rattle.model.specs.Plans.{Call, setsUp, grants, grantsAligned, releases, resizesInPlace, moves, measures, reports, grantsList}
 use Rattle.model.specs.Tables.{roomBytes}
 use Rattle.model.specs.Plain.{plainRecord, plainCall}
 use Rattle.model.specs.Bench.{bytes8}
@@ -53,7 +53,8 @@ plainSheet =
     ∷ spoils 32 3 ∷ gives (measures 32) 20 ∷ spoils 36 19 ∷ leaves (measures 32) 7 ∷ spoils 36 20 ∷ spoils 32 5 ∷ leaves (measures 32) 2 ∷ spoils 32 12
     ∷ leaves (measures 32) 2 ∷ spoils 32 3 ∷ spoils 36 29 ∷ leaves (measures 32) 2 ∷ spoils 36 20 ∷ spoils 32 2 ∷ leaves (grants 0) 2 ∷ spoils 36 0
     ∷ leaves (releases 32) 5 ∷ gives (measures 64) 20 ∷ spoils 39 1 ∷ leaves (releases 64) 2 ∷ spoils 39 0 ∷ spoils 24 1 ∷ leaves (releases 64) 2
-    ∷ spoils 24 0 ∷ spoils 49 1 ∷ leaves (resizes 64 20) 2 ∷ spoils 49 0 ∷ spoils 281 2 ∷ leaves (grantsAligned 1 64) 2 ∷ spoils 281 1
+    ∷ spoils 24 0 ∷ spoils 49 1 ∷ leaves (resizesInPlace 64 20) 2 ∷ leaves (moves 64 20) 2 ∷ spoils 49 0 ∷ spoils 281 2 ∷ leaves (grantsAligned 1 64) 2
+    ∷ spoils 281 1
     ∷ gives (measures 64) 20 ∷ spoils 40 2 ∷ spoils 44 0 ∷ leaves (grantsList 1 1 17 (1 ∷ [])) 2 ∷ asks reports 2 (zeros 6) ∷ gives setsUp 0
     ∷ shows 16 (zeros 792) ∷ [])
     ∷ []

@@ -13,7 +13,7 @@ use Rattle.classes.specs.Alignments.{ordinary, alignOf, codeOf, enlarged, round
 use Rattle.model.specs.declared.Slot.{Slot}
 use Rattle.model.specs.declared.Slot.the-variants.{Fresh, Idle, Live}
 use Rattle.model.specs.declared.Refusal.{Refusal}
-use Rattle.model.specs.declared.Refusal.the-variants.{TooLarge, NoSuchBlock, AlreadyFree, Stale, NoRoom, TooLong, BadProposal, BadAlignment}
+use Rattle.model.specs.declared.Refusal.the-variants.{TooLarge, NoSuchBlock, AlreadyFree, Stale, NoRoom, NotInPlace, TooLong, BadProposal, BadAlignment}
 use Rattle.model.specs.declared.Totals.{Totals}
 use Rattle.model.specs.State.{Span, Pool, Place, free, group, isLive, isReady, isWaiting, count, disp, size, align, useBits}
 use Rattle.model.specs.State.{startOf, poolOf, become, slotNumber, places, rows, base, owned, start, handle}
@@ -36,6 +36,10 @@ pub record Plan : Type 0 where
 -- "A refused call leaves the state as it was."
 abbrev pub refused : Refusal → Pool → Plan
 refused r P = record { checks = none; answer = refusal r; pool = P; changes = [] }
+
+-- one that is tested after 6 and 7: its plan names the block
+abbrev pub refusedOn : Refusal → Pool → Place → Plan
+refusedOn r P p = record { checks = some p; answer = refusal r; pool = P; changes = [] }
 
 -- GRANT
 
@@ -126,7 +130,7 @@ byHandle P h f p = let l = f p in choose (eqb (h % 16) (useBits (count (p .state
 unfoldable pub inPlace : Place → ℕ → Bool
 inPlace p n = leb n (slotBytes (p .cls) - 4 - 16 * disp (p .state)) && ownClass (p .cls) (enlarged (align (p .state)) n)
 
--- the size that answer 3 of a resize goes by. 02 §6: "answer 3 reads the enlarged new size where the offset starts such a live block"
+-- the size that answer 3 goes by where a block gets another size. 02 §6: "answer 3 reads the enlarged new size where the offset starts such a live block"
 abbrev pub newSize : Option Place → ℕ → ℕ
 newSize none n = n
 newSize (some p) n = enlarged (align (p .state)) n
@@ -266,12 +270,19 @@ module _ (row : ℕ) where
   unfolding lookup releaseAt
   discard P p = onBlock P releaseAt (lookup P (start row p))
 
-  -- RESIZE
+  -- RESIZE IN PLACE, AND MOVE (02 §9): "one call that only changes in place ..; another that always moves"
+
+  -- both on the block of a handle, for a new size of n bytes. 02 §7: "§6's answer 3 goes by the start, whatever the bits"
+  unfoldable pub onHandleFor : Pool → (handle n : ℕ) → (Place → Plan) → Plan
+  unfolding onHandle
+  onHandleFor P h n f =
+      let r = onHandle P h f in
+      choose (leb tooLarge (newSize (lookup P (startOf h)) n)) (refused TooLarge P) r
 
   -- "the first bytes, as many as the lesser of old and new n, stay, all from there to the end become zero, header and guard are
   -- written anew"; "Count and start change only by such a grant." 02 §7: "Resize in place keeps the handle."
-  unfoldable pub resizeInPlace : Place → ℕ → Plan
-  resizeInPlace p n =
+  unfoldable pub resizeAt : Place → ℕ → Plan
+  resizeAt p n =
       let c = p .cls in
       let d = disp (p .state) in
       let kept = min (size (p .state)) n in
@@ -284,10 +295,10 @@ module _ (row : ℕ) where
             ∷ writes (start row p + kept) (zeros (n - kept) ++ spare (reserved c d n)) ∷ [];
       }
 
-  -- "Otherwise a grant of n is made while the old block is live, that many bytes are copied, then the old is released." 02 §6: "Resize of an
+  -- "a grant of n is made while the old block is live, that many bytes are copied, then the old is released." 02 §6: "Resize of an
   -- aligned block keeps the boundary": the grant has the block's alignment
   abbrev pub moveTo : Pool → Place → ℕ → Option Place → Plan
-  moveTo P p n none = record { checks = some p; answer = refusal NoRoom; pool = P; changes = [] }
+  moveTo P p n none = refusedOn NoRoom P p
   moveTo P p n (some q) =
       let old = discard (poolOf q) p in
       record {
@@ -297,20 +308,22 @@ module _ (row : ℕ) where
         changes = enframe q ∷ copies (start row p) (start row q) (min (size (p .state)) n) ∷ old .changes;
       }
 
-  unfoldable pub resizeMove : Pool → Place → ℕ → Plan
+  unfoldable pub moveAt : Pool → ℕ → Place → Plan
   unfolding reserve discard enframe
-  resizeMove P p n = moveTo P p n (reserve P (align (p .state)) n)
+  moveAt P n p = moveTo P p n (reserve P (align (p .state)) n)
 
-  unfoldable pub resizeAt : Pool → ℕ → Place → Plan
-  unfolding resizeInPlace resizeMove
-  resizeAt P n p = let i = resizeInPlace p n in let m = resizeMove P p n in choose (inPlace p n) i m
+  -- "refuses with 11 exactly if 01's in-place conditions (or §6's) fail, tested after 7"
+  unfoldable pub inPlaceAt : Pool → ℕ → Place → Plan
+  unfolding resizeAt
+  inPlaceAt P n p = let r = resizeAt p n in choose (inPlace p n) r (refusedOn NotInPlace P p)
 
-  -- 02 §7: "§6's answer 3 goes by the start, whatever the bits"
-  unfoldable pub resize : Pool → (handle n : ℕ) → Plan
-  unfolding onHandle resizeAt
-  resize P h n =
-      let r = onHandle P h (resizeAt P n) in
-      choose (leb tooLarge (newSize (lookup P (startOf h)) n)) (refused TooLarge P) r
+  unfoldable pub resizeInPlace : Pool → (handle n : ℕ) → Plan
+  unfolding onHandleFor inPlaceAt
+  resizeInPlace P h n = onHandleFor P h n (inPlaceAt P n)
+
+  unfoldable pub move : Pool → (handle n : ℕ) → Plan
+  unfolding onHandleFor moveAt
+  move P h n = onHandleFor P h n (moveAt P n)
 
   -- MEASURE AND REPORT
 
@@ -351,7 +364,8 @@ pub data Call : Type 0 where
   grants : (n : ℕ) → Call
   grantsAligned : (n align : ℕ) → Call
   releases : (handle : ℕ) → Call
-  resizes : (handle n : ℕ) → Call
+  resizesInPlace : (handle n : ℕ) → Call
+  moves : (handle n : ℕ) → Call
   measures : (handle : ℕ) → Call
   reports : Call
   -- of the list that it is lent, a list call is told the number of places
@@ -363,7 +377,8 @@ isSetUp setsUp = true
 isSetUp (grants n) = false
 isSetUp (grantsAligned n b) = false
 isSetUp (releases h) = false
-isSetUp (resizes h n) = false
+isSetUp (resizesInPlace h n) = false
+isSetUp (moves h n) = false
 isSetUp (measures h) = false
 isSetUp reports = false
 isSetUp (grantsList total cap places sizes) = false
@@ -374,7 +389,8 @@ valuesOf setsUp = 1
 valuesOf (grants n) = 1
 valuesOf (grantsAligned n b) = 1
 valuesOf (releases h) = 1
-valuesOf (resizes h n) = 1
+valuesOf (resizesInPlace h n) = 1
+valuesOf (moves h n) = 1
 valuesOf (measures h) = 1
 valuesOf reports = 6
 valuesOf (grantsList total cap places sizes) = 1
@@ -382,12 +398,13 @@ valuesOf (grantsList total cap places sizes) = 1
 module _ (row : ℕ) where
   -- "Every call steps on that state and its arguments alone"
   unfoldable pub plan : Pool → Call → Plan
-  unfolding grantAs grantAligned grantList release resize measure report
+  unfolding grantAs grantAligned grantList release resizeInPlace move measure report
   plan P setsUp = setUpAgain row P
   plan P (grants n) = grantAs row P ordinary n
   plan P (grantsAligned n a) = grantAligned row P n a
   plan P (releases h) = release row P h
-  plan P (resizes h n) = resize row P h n
+  plan P (resizesInPlace h n) = resizeInPlace row P h n
+  plan P (moves h n) = move row P h n
   plan P (measures h) = measure row P h
   plan P reports = report row P
   plan P (grantsList total cap places sizes) = grantList row P total cap places sizes

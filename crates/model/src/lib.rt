@@ -34,6 +34,7 @@ pub enum Refusal {
     Stale,
     HeaderDamaged,
     Overrun,
+    NotInPlace,
     NoRoom,
     TooLong,
     BadProposal,
@@ -46,7 +47,7 @@ pub enum Damage {
     Damaged(Refusal),
 }
 
-// What a call answers: its value, or why it is refused. Grant and resize give the block's handle, measure its requested size, grant list and
+// What a call answers: its value, or why it is refused. Grants, resize in place and move give the block's handle, measure its requested size, grant list and
 // its planner the number of entries, set up and release 0.
 pub enum Reply {
     Done(usize),

@@ -1,28 +1,24 @@
 -- The first engine's calls by what the code finds: those over any form (frames/proofs/Calls), for tables that are lent with their totals.
-use Rattle.mem.proofs.Prelude.{_∙_, _≡_, sym, ap, ap₂, subst, true, Bool, false, not, not-false, not-true, Option, List, ℕ, _<_, leb, leb-false, length}
+use Rattle.mem.proofs.Prelude.{_∙_, _≡_, sym, ap, ap₂, subst, true, Bool, false, not, not-false, not-true, Option, List, ℕ, length}
 use Rattle.mem.specs.Bytes.{put}
-use Rattle.classes.specs.Classes.{Lawful, rowBytes, tooLarge}
-use Rattle.classes.specs.Alignments.{enlarged, Askable}
+use Rattle.classes.specs.Classes.{Lawful, rowBytes}
+use Rattle.classes.specs.Alignments.{Askable}
 use Rattle.classes.proofs.Laws.{card-row}
 use Rattle.model.specs.declared.Refusal.the-variants.{NoRoom}
 use Rattle.model.specs.declared.Reply.{Reply}
 use Rattle.model.specs.declared.Totals.{Totals}
 use Rattle.model.specs.State.{Place, startOf}
 use Rattle.model.specs.Blocks.{frame}
-use Rattle.model.specs.Plans.{Plan, Call, grantAs, reserve, lookup, newSize, totals}
+use Rattle.model.specs.Plans.{Plan, Call, grantAs, reserve, totals}
 use Rattle.model.specs.Tables.{byMasks, view}
 use Rattle.model.specs.Calls.{KeptBytes, keptIn, engine, soundKept, call, unsound, keeps}
 use Rattle.model.proofs.Kept.{kept-sound, kept-totals, engine-lawful}
 use Rattle.model.proofs.Calls.{Asks, call-unsound}
-use Rattle.model.proofs.Lookup.{fits}
-use Rattle.model.proofs.Formed.{code-kept}
 use Rattle.rows.specs.declared.Block.{Block}
-use Rattle.rows.specs.declared.Looked.{Looked}
-use Rattle.rows.specs.Rows.{Lent, looked, ownedAt, handleAt, Holds}
+use Rattle.rows.specs.Rows.{Lent, ownedAt, handleAt, Holds}
 use Rattle.rows.proofs.Rooms.{by-masks}
-use Rattle.frames.specs.declared.Located.{Located}
-use Rattle.frames.specs.Blocks.{Standing, codeFound, judged, located, CarriedOutBy}
-use Rattle.frames.proofs.Places.{Known, found-known, found-holds, judged-looked, reserved-stands, new-size}
+use Rattle.frames.specs.Blocks.{Standing, CarriedOutBy}
+use Rattle.frames.proofs.Places.{found-holds, reserved-stands}
 use Rattle.frames.proofs.Calls as any
 use Rattle.reserving.specs.declared.Reserved.the-variants as reserved
 use Rattle.reserving.specs.Reserves.{reservedAs, roomAfter}
@@ -85,35 +81,3 @@ module _ {row : ℕ} {a : List ℕ} {t : KeptBytes} (r : Checked row a t) where
   pub holds : {h : ℕ} {k : Place → Plan} {named : (p : Place) → k p .checks ≡ Option.some p} {b : Block} (d : any.Called (r .form) h k named b)
       → Holds byMasks row (t .tables) b (d .place)
   holds {h} {b = b} d = found-holds (r .room) (startOf h) (d .place) (d .looked-up) (d .live) b (d .block)
-
-  -- ---- resize: what is found at a handle's start
-
-  abbrev at-start : ℕ → Option Place
-  at-start h = lookup row (view row (t .tables)) (startOf h)
-
-  pub record Seen (h : ℕ) (f : Looked) : Type 0 where
-    pub is : f ≡ looked row (at-start h)
-    pub known : Known (r .room) (startOf h) f
-
-  pub seen : {h o : ℕ} {f : Looked} → o ≡ startOf h → f ≡ looked row (lookup row (view row (t .tables)) o) → Seen h f
-  seen {h} e g =
-      let q = g ∙ ap (λ o. looked row (lookup row (view row (t .tables)) o)) e in
-      record { is = q; known = subst (Known (r .room) (startOf h)) (sym q) (found-known (r .room) (startOf h)) }
-
-  -- what is judged of it is what is located
-  pub judging : {h : ℕ} {f : Looked} {l : Located} → Seen h f → l ≡ judged row a h f → l ≡ located row a h (at-start h)
-  judging {h} s e = e ∙ ap (judged row a h) (s .is) ∙ judged-looked row a h (at-start h)
-
-  -- a new size by its alignment, and that it is one that can be asked for
-  pub sized : {h k : ℕ} {f : Looked} (n : ℕ) {w : Bool} → Seen h f → k ≡ codeFound f → w ≡ leb tooLarge (enlarged k n)
-      → leb tooLarge (enlarged (codeFound (looked row (at-start h))) n) ≡ w
-  sized n s e g = ap (λ k. leb tooLarge (enlarged k n)) (ap codeFound (sym (s .is)) ∙ sym e) ∙ sym g
-
-  pub askable : {h n : ℕ} {k : Place → Plan} {named : (p : Place) → k p .checks ≡ Option.some p} {b : Block} (d : any.Called (r .form) h k named b)
-      → leb tooLarge (enlarged (codeFound (looked row (at-start h))) n) ≡ false → Askable (b .alloc .align) n
-  askable {h} {n} {b = b} d e =
-      let q = at-start h in
-      let c = code-kept (d .place .cls) (d .place .state) (d .live) (fits (d .place) (holds d .formed) .state) in
-      let s = leb-false tooLarge (newSize q n) (ap (leb tooLarge) (sym (new-size row q n)) ∙ e) in
-      subst (λ v. Askable v n) (sym (ap (λ b. b .alloc .align) (d .block)))
-      (record { some-code = c .0; last-code = c .1; small = subst (λ q. newSize q n < tooLarge) (d .looked-up) s })

@@ -19,6 +19,6 @@ pub told : {w v : Answered} {a u : List ℕ} → w ≡ v
     → left (replyAnswer (w .reply)) a (keptIn u (w .totals)) ≡ left (replyAnswer (v .reply)) a (keptIn u (v .totals))
 told {a = a} {u = u} e = ap (λ (w : Answered). left (replyAnswer (w .reply)) a (keptIn u (w .totals))) e
 
-pub told-out : {a x u : List ℕ} {p : Plan} {w v : Answered} → w ≡ v → CarriedOutBy (engine rowBytes) a p (v .reply) x (keptIn u (v .totals))
-    → CarriedOutBy (engine rowBytes) a p (w .reply) x (keptIn u (w .totals))
-told-out {a} {x} {u} {p} e = subst (λ (w : Answered). CarriedOutBy (engine rowBytes) a p (w .reply) x (keptIn u (w .totals))) (sym e)
+pub told-out : (row : ℕ) {a x u : List ℕ} {p : Plan} {w v : Answered} → w ≡ v → CarriedOutBy (engine row) a p (v .reply) x (keptIn u (v .totals))
+    → CarriedOutBy (engine row) a p (w .reply) x (keptIn u (w .totals))
+told-out row {a} {x} {u} {p} e = subst (λ (w : Answered). CarriedOutBy (engine row) a p (w .reply) x (keptIn u (w .totals))) (sym e)

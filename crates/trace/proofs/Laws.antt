@@ -1,5 +1,5 @@
 -- Laws of trace numbers and operations.
-use Rattle.mem.proofs.Prelude.{_≡_, refl, sym, ap, _∙_, subst, Bool, true, false, List, ℕ, zero, suc, _+_, _≤_, _<_, arith, ne-eqb, eqb-true}
+use Rattle.mem.proofs.Prelude.{_≡_, refl, sym, ap, _∙_, subst, _⊎_, inl, inr, Bool, true, false, List, ℕ, zero, suc, _+_, _≤_, _<_, arith, ne-eqb, eqb-true}
 use Rattle.mem.proofs.Prelude.{leb-true, le-leb, lt-leb, lt-ltb, le-ltb, leb→le, eqb, leb, ltb, length, getD}
 use mathlib.Core.Bool.{false≢true}
 use borrow.Author.Tests.{ltb-false}
@@ -12,10 +12,11 @@ use Rattle.trace.specs.declared.Step.{Step}
 use Rattle.trace.specs.declared.Step.the-variants.{Record, Bad, End}
 
 -- an operation that there is not
-pub fits-none : (k n : ℕ) → (k ≡ 1 → ⊥) → (k ≡ 2 → ⊥) → (k ≡ 3 → ⊥) → (k ≡ 4 → ⊥) → (k ≡ 5 → ⊥) → (k ≡ 6 → ⊥) → false ≡ fits k n
+pub fits-none : (k n : ℕ) → (k ≡ 1 → ⊥) → (k ≡ 2 → ⊥) → (k ≡ 3 → ⊥) → (k ≡ 4 → ⊥) → (k ≡ 5 → ⊥) → (k ≡ 6 → ⊥) → (k ≡ 7 → ⊥)
+    → false ≡ fits k n
 unfolding fits choose
-fits-none k n a b c d e f =
-    sym (simp (ne-eqb k 1 a, ne-eqb k 2 b, ne-eqb k 3 c, ne-eqb k 4 d, ne-eqb k 5 e, ne-eqb k 6 f))
+fits-none k n a b c d e f g =
+    sym (simp (ne-eqb k 1 a, ne-eqb k 2 b, ne-eqb k 3 c, ne-eqb k 4 d, ne-eqb k 5 e, ne-eqb k 6 f, ne-eqb k 7 g))
 
 -- how many bytes an operation has, at each one that has any numbers
 pub fits-at : (k j n : ℕ) → k ≡ j → fits k n ≡ true → fits j n ≡ true
@@ -31,14 +32,17 @@ five k (suc (suc (suc (suc zero)))) n e a b h = omega (arith, eqb-true n 5 (fits
 five k (suc (suc (suc (suc (suc zero))))) n e a b h = omega (arith, leb-true 5 n (fits-at k 5 n e h))
 five k (suc (suc (suc (suc (suc (suc j)))))) n e a b h = absurd (omega arith)
 
-pub nine : (k n : ℕ) → k ≡ 3 → fits k n ≡ true → n ≡ 9
+-- of a resize in place and of a move
+pub nine : (k j n : ℕ) → k ≡ j → (j ≡ 3) ⊎ (j ≡ 7) → fits k n ≡ true → n ≡ 9
 unfolding fits choose
-nine k n e h = eqb-true n 9 (fits-at k 3 n e h)
+nine k j n e (inl f) h = eqb-true n 9 (fits-at k 3 n (e ∙ f) h)
+nine k j n e (inr f) h = eqb-true n 9 (fits-at k 7 n (e ∙ f) h)
 
-pub op-none : (k : ℕ) (s : List ℕ) (p n : ℕ) → (k ≡ 1 → ⊥) → (k ≡ 2 → ⊥) → (k ≡ 3 → ⊥) → (k ≡ 4 → ⊥) → (k ≡ 5 → ⊥) → Op.Report ≡ opAt k s p n
+pub op-none : (k : ℕ) (s : List ℕ) (p n : ℕ) → (k ≡ 1 → ⊥) → (k ≡ 2 → ⊥) → (k ≡ 3 → ⊥) → (k ≡ 4 → ⊥) → (k ≡ 5 → ⊥) → (k ≡ 7 → ⊥)
+    → Op.Report ≡ opAt k s p n
 unfolding opAt choose
-op-none k s p n a b c d e =
-    sym (simp (ne-eqb k 1 a, ne-eqb k 2 b, ne-eqb k 3 c, ne-eqb k 4 d, ne-eqb k 5 e))
+op-none k s p n a b c d e f =
+    sym (simp (ne-eqb k 1 a, ne-eqb k 2 b, ne-eqb k 3 c, ne-eqb k 4 d, ne-eqb k 5 e, ne-eqb k 7 f))
 
 -- no operation has no bytes
 choose-same : {A : Type 0} (b : Bool) (x : A) → choose b x x ≡ x
@@ -100,7 +104,8 @@ op-within k s p n f h =
     (λ _. choose-case W (eqb k 2) _ _ (λ _. tt)
     (λ _. choose-case W (eqb k 3) _ _ (λ _. tt)
     (λ _. choose-case W (eqb k 4) _ _ (λ _. tt)
-    (λ _. choose-case W (eqb k 5) _ _ (λ e. (omega (arith, five k 5 n (eqb-true k 5 e) (omega arith) (omega arith) f), h)) (λ _. tt)))))
+    (λ _. choose-case W (eqb k 5) _ _ (λ e. (omega (arith, five k 5 n (eqb-true k 5 e) (omega arith) (omega arith) f), h))
+    (λ _. choose-case W (eqb k 7) _ _ (λ _. tt) (λ _. tt))))))
   where
     W : Op → Type 0
     W o = Within o (length s)

@@ -1,7 +1,7 @@
 -- Traces are read as they are written, and whole ones are written as they are read.
-use Rattle.mem.proofs.Prelude.{_∙_, _≡_, sym, ap, refl, ap₂, true, Bool, false, List, [], _∷_, _++_, append-assoc, map, ℕ, _<_, _≤_, _+_, _-_, suc}
+use Rattle.mem.proofs.Prelude.{_∙_, _≡_, sym, ap, refl, ap₂, true, Bool, false, _&&_, _⊎_, inl, inr, List, [], _∷_, _++_, append-assoc, map, ℕ, _<_, _≤_, _+_}
 use Rattle.mem.proofs.Prelude.{zero, arith, T, eqb, leb, ltb, ltb→lt, leb→le, length, take, drop, getD, length-append, length-drop, take-append-drop}
-use Rattle.mem.proofs.Prelude.{drop-drop, eqb-true, eqb-false, leb-true, le-leb, drop-at}
+use Rattle.mem.proofs.Prelude.{_-_, suc, drop-drop, eqb-true, eqb-false, leb-true, le-leb, drop-at}
 use mathlib.Core.Bool.{false≢true}
 use lib.Seq.{take-at, take-add, take-all}
 use lib.ListN.{drop-of-length-le}
@@ -14,8 +14,8 @@ use Rattle.mem.proofs.Big.{high-length, big-high, high-big}
 use Rattle.trace.specs.declared.Op.{Op}
 use Rattle.trace.specs.declared.Step.{Step}
 use Rattle.trace.specs.declared.Step.the-variants.{Record, Bad, End}
-use Rattle.trace.specs.Trace.{Operation, grant, release, resize, measure, store, report, body, encodeRecord, encodeTrace, writable, four, fits}
-use Rattle.trace.specs.Trace.{opAt, recordAt, stepAt, operationOf, Item, does, itemsBy, itemsFrom, items}
+use Rattle.trace.specs.Trace.{Operation, grant, release, resizeInPlace, measure, store, report, move, body, encodeRecord, encodeTrace, writable}
+use Rattle.trace.specs.Trace.{version, four, fits, opAt, recordAt, stepAt, operationOf, Item, does, itemsBy, itemsFrom, items}
 use Rattle.trace.specs.Written.{ReadsBack, WritesBack}
 use Rattle.trace.proofs.Laws.{fits-none, fits-at, five, nine, record-good, at-end, whole, step-within}
 
@@ -26,10 +26,11 @@ body-small : (x : Operation) → T (writable x) → length (body x) < 65536
 unfolding body writable
 body-small (grant n) t = omega arith
 body-small (release o) t = omega arith
-body-small (resize o n) t = omega arith
+body-small (resizeInPlace o n) t = omega arith
 body-small (measure o) t = omega arith
 body-small (store o bs) t = omega (arith, leb→le (length bs) 65530 (and-right (ltb o 4294967296) (leb (length bs) 65530) t))
 body-small report t = omega arith
+body-small (move o n) t = omega arith
 
 -- a number that stands i bytes into a record
 four-read : (s : List ℕ) (p n i m : ℕ) (X R : List ℕ) → part p n s ≡ X ++ (high 4 m ++ R) → length X ≡ i → i + 4 ≤ n → T (ltb m 4294967296)
@@ -37,6 +38,14 @@ four-read : (s : List ℕ) (p n i m : ℕ) (X R : List ℕ) → part p n s ≡ X
 four-read s p n i m X R e l h t =
     ap big (sym (part-part p n i 4 s h) ∙ ap (part i 4) e ∙ ap (take 4) (drop-at X (high 4 m ++ R) i l) ∙ take-at (high 4 m) R 4 (high-length 4 m))
     ∙ big-high 4 m (ltb→lt m 4294967296 t)
+
+-- an operation's two numbers
+two-read : (s : List ℕ) (p k o n : ℕ) → T (ltb o 4294967296 && ltb n 4294967296) → part p 9 s ≡ k ∷ (high 4 o ++ high 4 n)
+    → (four s (p + 1) ≡ o) × (four s (p + 5) ≡ n)
+two-read s p k o n t e = (
+  four-read s p 9 1 o (k ∷ []) (high 4 n) e refl (omega arith) (and-left (ltb o 4294967296) (ltb n 4294967296) t),
+  four-read s p 9 5 n (k ∷ high 4 o) [] e refl (omega arith) (and-right (ltb o 4294967296) (ltb n 4294967296) t),
+)
 
 -- the operation stands first
 first-read : (s : List ℕ) (p n k : ℕ) (Y : List ℕ) → part p (suc n) s ≡ k ∷ Y → getD s p 0 ≡ k
@@ -50,11 +59,9 @@ read-body : (x : Operation) (s : List ℕ) (p : ℕ) → T (writable x) → part
 unfolding body writable fits opAt operationOf choose
 read-body (grant n) s p t e = rw (first-read s p 4 1 (high 4 n) e) (refl, ap grant (four-read s p 5 1 n (1 ∷ []) [] e refl (omega arith) t))
 read-body (release o) s p t e = rw (first-read s p 4 2 (high 4 o) e) (refl, ap release (four-read s p 5 1 o (2 ∷ []) [] e refl (omega arith) t))
-read-body (resize o n) s p t e =
-    let l = and-left (ltb o 4294967296) (ltb n 4294967296) t in
-    let r = and-right (ltb o 4294967296) (ltb n 4294967296) t in
-    rw (first-read s p 8 3 (high 4 o ++ high 4 n) e)
-    (refl, ap₂ resize (four-read s p 9 1 o (3 ∷ []) (high 4 n) e refl (omega arith) l) (four-read s p 9 5 n (3 ∷ high 4 o) [] e refl (omega arith) r))
+read-body (resizeInPlace o n) s p t e =
+    let (f, g) = two-read s p 3 o n t e in
+    rw (first-read s p 8 3 (high 4 o ++ high 4 n) e) (refl, ap₂ resizeInPlace f g)
 read-body (measure o) s p t e = rw (first-read s p 4 4 (high 4 o) e) (refl, ap measure (four-read s p 5 1 o (4 ∷ []) [] e refl (omega arith) t))
 read-body (store o bs) s p t e =
     let n : ℕ = length (body (store o bs)) in
@@ -65,6 +72,9 @@ read-body (store o bs) s p t e =
     let g : part (p + 5) k s ≡ bs = sym (part-part p n 5 k s (omega arith)) ∙ ap (part 5 k) e ∙ take-all k bs (omega arith) in
     rw (first-read s p (length (high 4 o ++ bs)) 5 (high 4 o ++ bs) e) (le-leb 5 n (omega arith), ap₂ store f (ap (λ m. part (p + 5) m s) j ∙ g))
 read-body report s p t e = rw (first-read s p 0 6 [] e) (refl, refl)
+read-body (move o n) s p t e =
+    let (f, g) = two-read s p 7 o n t e in
+    rw (first-read s p 8 7 (high 4 o ++ high 4 n) e) (refl, ap₂ move f g)
 
 -- ---- all records, read
 
@@ -117,13 +127,13 @@ reads-back xs t = reads-from (encodeTrace xs) (length (encodeTrace xs)) 1 xs t (
 
 -- ---- one record, written
 
--- six is the last operation
-six : (k n : ℕ) → fits k n ≡ true → (k ≡ 1 → ⊥) → (k ≡ 2 → ⊥) → (k ≡ 3 → ⊥) → (k ≡ 4 → ⊥) → (k ≡ 5 → ⊥) → k ≡ 6
-six k n h a b c d e = go (eqb k 6) refl
+-- what is none of the others is a report
+six : (k n : ℕ) → fits k n ≡ true → (k ≡ 1 → ⊥) → (k ≡ 2 → ⊥) → (k ≡ 3 → ⊥) → (k ≡ 4 → ⊥) → (k ≡ 5 → ⊥) → (k ≡ 7 → ⊥) → k ≡ 6
+six k n h a b c d e g = go (eqb k 6) refl
   where
     go : (t : Bool) → eqb k 6 ≡ t → k ≡ 6
     go true f = eqb-true k 6 f
-    go false f = absurd (false≢true (fits-none k n a b c d e (eqb-false k 6 f) ∙ h))
+    go false f = absurd (false≢true (fits-none k n a b c d e (eqb-false k 6 f) g ∙ h))
 
 module _ (s : List ℕ) (t : T (every (λ b. ltb b 256) s)) where
   -- the number that stands in k bytes is written as they are
@@ -146,10 +156,11 @@ module _ (s : List ℕ) (t : T (every (λ b. ltb b 256) s)) where
   written k p n f e h =
       choose-case W (eqb k 1) _ _ (λ a. one (eqb-true k 1 a) (eqb-true n 5))
       (λ a. choose-case W (eqb k 2) _ _ (λ b. one (eqb-true k 2 b) (eqb-true n 5))
-      (λ b. choose-case W (eqb k 3) _ _ (λ c. two (eqb-true k 3 c))
+      (λ b. choose-case W (eqb k 3) _ _ (λ c. two (eqb-true k 3 c) (inl refl))
       (λ c. choose-case W (eqb k 4) _ _ (λ d. one (eqb-true k 4 d) (eqb-true n 5))
       (λ d. choose-case W (eqb k 5) _ _ (λ g. stored (eqb-true k 5 g))
-      (λ g. last (six k n f (eqb-false k 1 a) (eqb-false k 2 b) (eqb-false k 3 c) (eqb-false k 4 d) (eqb-false k 5 g)))))))
+      (λ g. choose-case W (eqb k 7) _ _ (λ i. two (eqb-true k 7 i) (inr refl))
+      (λ i. last (six k n f (eqb-false k 1 a) (eqb-false k 2 b) (eqb-false k 3 c) (eqb-false k 4 d) (eqb-false k 5 g) (eqb-false k 7 i))))))))
     where
       W : Op → Type 0
       W o = body (operationOf s o) ≡ part p n s
@@ -157,10 +168,10 @@ module _ (s : List ℕ) (t : T (every (λ b. ltb b 256) s)) where
       one : {j : ℕ} → k ≡ j → (fits j n ≡ true → n ≡ 5) → j ∷ high 4 (four s (p + 1)) ≡ part p n s
       one {j} a l = number-written p j 0 n (e ∙ a) (l (fits-at k j n a f)) h
 
-      two : k ≡ 3 → 3 ∷ (high 4 (four s (p + 1)) ++ high 4 (four s (p + 5))) ≡ part p n s
-      two a =
-          let l : n ≡ 9 = nine k n a f in
-          ap (λ r. 3 ∷ (high 4 (four s (p + 1)) ++ r)) (high-part (p + 5) 4 (omega arith)) ∙ number-written p 3 4 n (e ∙ a) l h
+      two : {j : ℕ} → k ≡ j → (j ≡ 3) ⊎ (j ≡ 7) → j ∷ (high 4 (four s (p + 1)) ++ high 4 (four s (p + 5))) ≡ part p n s
+      two {j} a b =
+          let l : n ≡ 9 = nine k j n a b f in
+          ap (λ r. j ∷ (high 4 (four s (p + 1)) ++ r)) (high-part (p + 5) 4 (omega arith)) ∙ number-written p j 4 n (e ∙ a) l h
 
       stored : k ≡ 5 → 5 ∷ (high 4 (four s (p + 1)) ++ part (p + 5) (p + n - (p + 5)) s) ≡ part p n s
       stored a = number-written p 5 (p + n - (p + 5)) n (e ∙ a) (omega (arith, five k 5 n a (omega arith) (omega arith) f)) h
@@ -226,4 +237,4 @@ module _ (s : List ℕ) (t : T (every (λ b. ltb b 256) s)) where
 
 pub writes-back : WritesBack
 unfolding items encodeTrace
-writes-back bs xs t e = ap (λ l. 1 ∷ l) (writes-from (1 ∷ bs) t (length (1 ∷ bs)) 1 xs (omega arith) e)
+writes-back bs xs t e = ap (λ l. version ∷ l) (writes-from (version ∷ bs) t (length (version ∷ bs)) 1 xs (omega arith) e)

@@ -9,10 +9,10 @@ use Rattle.mem.specs.Bytes.{zeros, put}
 use Rattle.classes.specs.Classes.{rowBytes}
 use Rattle.model.specs.declared.Totals.{Totals}
 use Rattle.model.specs.Answers.{Answer, done}
-use Rattle.model.specs.Plans.{setsUp, grants, releases, resizes, measures, reports}
+use Rattle.model.specs.Plans.{setsUp, grants, releases, resizesInPlace, moves, measures, reports}
 use Rattle.model.specs.Tables.{roomBytes}
 use Rattle.model.specs.Calls.{KeptBytes, keptIn, Result, call}
-use Rattle.trace.specs.Trace.{Operation, grant, release, resize, measure, store, report, Item, does, items, traceRight}
+use Rattle.trace.specs.Trace.{Operation, grant, release, resizeInPlace, measure, store, report, move, Item, does, items, traceRight}
 
 -- "The replay program sets up a pool of 16,384 bytes"
 abbrev pub arenaBytes : ℕ
@@ -50,12 +50,13 @@ module _ (row : ℕ) where
   unfoldable pub performed : List ℕ → KeptBytes → Operation → Effect
   performed a t (grant n) = effect (call row a t (grants n))
   performed a t (release o) = effect (call row a t (releases o))
-  performed a t (resize o n) = effect (call row a t (resizes o n))
+  performed a t (resizeInPlace o n) = effect (call row a t (resizesInPlace o n))
   performed a t (measure o) = effect (call row a t (measures o))
   performed a t (store o bs) =
       choose (leb (o + length bs) (length a)) (record { tells = some (done (0 ∷ [])); arena = put o bs a; kept = t })
       (record { tells = none; arena = a; kept = t })
   performed a t report = effect (call row a t reports)
+  performed a t (move o n) = effect (call row a t (moves o n))
 
   -- the lines of records, the first of which is record i: "prints `bad` and the record's number from 1 .. and ends"
   unfoldable pub linesFrom : List ℕ → KeptBytes → ℕ → List Item → List Line

@@ -9,13 +9,13 @@ ghost use Rattle.trace.specs.Trace.{fits as Trace·fits};
 // The longest trace, and the version that is read.
 const MOST: usize = 65535;
 
-const VERSION: u8 = 1;
+const VERSION: u8 = 2;
 
 // An operation as it is read: its numbers, and of a store the part of the trace that holds its bytes.
 pub enum Op {
     Grant(usize),
     Release(usize),
-    Resize(usize, usize),
+    ResizeInPlace(usize, usize),
     Measure(usize),
     Store {
         offset: usize,
@@ -23,6 +23,7 @@ pub enum Op {
         to: usize,
     },
     Report,
+    Move(usize, usize),
 }
 
 // What stands at a place: a record with the place after it, what is no record, or the end.
@@ -43,6 +44,7 @@ fn fits(op: u8, n: usize) -> bool
         4 => n == 5,
         5 => 5 <= n,
         6 => n == 1,
+        7 => n == 9,
         _ => false,
     }
 }
@@ -57,13 +59,14 @@ fn op_at(s: &[u8], at: usize, n: usize) -> Op
     match op {
         1 => Op::Grant(mem::big4(s, at + 1)),
         2 => Op::Release(mem::big4(s, at + 1)),
-        3 => Op::Resize(mem::big4(s, at + 1), mem::big4(s, at + 5)),
+        3 => Op::ResizeInPlace(mem::big4(s, at + 1), mem::big4(s, at + 5)),
         4 => Op::Measure(mem::big4(s, at + 1)),
         5 => Op::Store {
             offset: mem::big4(s, at + 1),
             from: at + 5,
             to: at + n,
         },
+        7 => Op::Move(mem::big4(s, at + 1), mem::big4(s, at + 5)),
         _ => Op::Report,
     }
 }

@@ -21,7 +21,7 @@ returns-2 d =
     let i = c .before .before in
     let a = i .before .before .before .before .before .args in
     let r = lent i .form in
-    carried-as (told-out (d .refused2 .ensures) (refused-out r BadAlignment)) (called r (grantsAligned (a .n) (a .align)) _
+    carried-as (told-out rowBytes (d .refused2 .ensures) (refused-out r BadAlignment)) (called r (grantsAligned (a .n) (a .align)) _
     (aligned-none r (a .n) (a .align) (sym (c .before .code-of .ensures .0) ∙ c .if2 .taken)))
 
 -- there is such an alignment

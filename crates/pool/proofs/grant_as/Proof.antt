@@ -14,7 +14,7 @@ returns : tie.Need-returns
 returns c =
     let i = c .before in
     let s = i .before .before .before .before in
-    told-out (c .refused .ensures) (grant-too-large (lent s .form) (s .args .code) (s .args .n)
+    told-out rowBytes (c .refused .ensures) (grant-too-large (lent s .form) (s .args .code) (s .args .n)
     (leb-true tooLarge (enlarged (s .args .code) (s .args .n)) (sym (i .before .too-large .ensures) ∙ i .if1 .taken)))
 
 -- the size is one that can be asked for
@@ -36,7 +36,7 @@ returns-2 d =
     let r = c .before .before .before .before in
     let z = r .before .before in
     let s = z .before .before .before .before in
-    told-out (d .refused2 .ensures) (granted-none (lent s) (s .args .code) (s .args .n) (small z) (sym (r .reserve-slot .ensures .0) ∙ c .enum-told .given .1)
+    told-out rowBytes (d .refused2 .ensures) (granted-none (lent s) (s .args .code) (s .args .n) (small z) (sym (r .reserve-slot .ensures .0) ∙ c .enum-told .given .1)
     (r .reserve-slot .ensures .1))
 
 -- the block that is granted

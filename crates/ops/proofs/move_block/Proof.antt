@@ -2,6 +2,7 @@
 use Rattle.mem.proofs.Prelude.{_∙_, _≡_, sym, ap, ap₂, subst, ⊎-elim, inl, inr, some, min, arith, now, needs, length}
 use Rattle.mem.specs.Bytes.{put, part}
 use Rattle.mem.proofs.Laws.{put-length}
+use Rattle.model.specs.declared.Refusal.the-variants.{NoRoom}
 use Rattle.model.specs.State.{Place, poolOf}
 use Rattle.model.specs.Plans.{reserve, totals}
 use Rattle.model.specs.Tables.{byMasks, view, sound, encode}
@@ -10,24 +11,28 @@ use Rattle.rows.proofs.Rooms.{by-masks}
 use Rattle.frames.specs.Blocks.{Standing}
 use Rattle.reserving.specs.Reserves.{roomAfter}
 use Rattle.frames.proofs.Places.{held-stands}
-use Rattle.frames.proofs.Moves.{reserve-leaves, beside, beside-holds, copy-apart, taken-size}
+use Rattle.frames.proofs.Moves.{reserve-leaves, beside, beside-holds, copy-apart, taken-size, unmoved-plan}
 use Rattle.reserving.proofs.Places.{reserved-place, reserved-none}
-use Rattle.ops.proofs.Moves.{moved, moved-nowhere}
-use Rattle.ops.proofs.resize_by_move.Statement.{statement}
-use Rattle.ops.proofs.resize_by_move.Tie as tie
+use Rattle.ops.proofs.Kit.{told-out}
+use Rattle.ops.proofs.Moves.{moved, refused-on}
+use Rattle.ops.proofs.move_block.Statement.{statement}
+use Rattle.ops.proofs.move_block.Tie as tie
 
 room : (s : tie.Start) → Lent byMasks (s .args .row) (length (now (s .args .arena))) (now (s .args .room))
 room s = by-masks (s .pre .0 .0) (s .pre .1 .1 .1)
 
 returns : tie.Need-returns
-returns c p h =
+returns z p h =
+    let c = z .before in
     let d = c .before .before .before .before in
     let s = d .before .before .before .before in
     let a = s .args in
     let e = reserved-none (a .row) (reserve (a .row) (view (a .row) (now (a .room))) (a .b .alloc .align) (a .n))
     (sym (d .reserve-slot .ensures .0) ∙ c .enum-told .given .1) in
-    rw (d .reserve-slot .ensures .1 ∙ ap (roomAfter (a .row) (now (a .room))) e) (moved-nowhere (room s) (a .b .alloc .align) (a .n) h (now (a .arena)) (a .t)
-    (s .pre .0 .1) (ap (λ b. b .alloc .align) (h .block)) e)
+    told-out (a .row) (z .refused .ensures)
+    (rw (d .reserve-slot .ensures .1 ∙ ap (roomAfter (a .row) (now (a .room))) e,
+    unmoved-plan (room s) (a .b .alloc .align) (a .n) h (ap (λ b. b .alloc .align) (h .block)) e)
+    (refused-on (room s) h (now (a .arena)) (a .t) (s .pre .0 .1) NoRoom))
 
 -- the place that is taken, and the room with it
 new : (c : tie.After-known-told) → (let d = c .before .before .before .before .before in
@@ -146,8 +151,8 @@ returns-2 c p h =
     (d .last .1 .1 .0)
     (x .result) (d .result) (new k .2) (x .ensures .1) copied (g .0) (g .1) (g .2) (x .ensures .0) (ap (λ b. b .alloc .align) (h .block))
 
-pub resize-by-move-spec : {M : Type 1} → statement M
-resize-by-move-spec =
-    tie.close (tie.spec (λ c κs. search needs) (λ c. search needs) (λ c. search needs) (λ c. search needs) returns
+pub move-block-spec : {M : Type 1} → statement M
+move-block-spec =
+    tie.close (tie.spec (λ c κs. search needs) (λ c. search needs) (λ c. search needs) (λ c κs. search needs) (λ c. search needs) returns
     (λ c κs. (stands (c .before), c .before .before .before .before .before .before .before .before .before .before .pre .1 .1 .1)) start-of-requires
     start-of-requires-2 (λ c κs. search needs) copy-within-requires discard-requires (λ c. search needs) (λ c. search needs) returns-2)
