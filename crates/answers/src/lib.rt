@@ -19,6 +19,7 @@ fn refusal_number(r: Refusal) -> u32
         Refusal::Stale => 10,
         Refusal::HeaderDamaged => 6,
         Refusal::Overrun => 7,
+        Refusal::NotInPlace => 11,
         Refusal::NoRoom => 8,
         Refusal::TooLong => 9,
         Refusal::BadProposal => 17,

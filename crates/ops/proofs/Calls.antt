@@ -7,7 +7,7 @@ use Rattle.classes.proofs.Laws.{card-row}
 use Rattle.model.specs.declared.Refusal.the-variants.{NoRoom}
 use Rattle.model.specs.declared.Reply.{Reply}
 use Rattle.model.specs.declared.Totals.{Totals}
-use Rattle.model.specs.State.{Place, startOf}
+use Rattle.model.specs.State.{Pool, Place, startOf, poolOf}
 use Rattle.model.specs.Blocks.{frame}
 use Rattle.model.specs.Plans.{Plan, Call, grantAs, reserve, totals}
 use Rattle.model.specs.Tables.{byMasks, view}
@@ -18,7 +18,7 @@ use Rattle.rows.specs.declared.Block.{Block}
 use Rattle.rows.specs.Rows.{Lent, ownedAt, handleAt, Holds}
 use Rattle.rows.proofs.Rooms.{by-masks}
 use Rattle.frames.specs.Blocks.{Standing, CarriedOutBy}
-use Rattle.frames.proofs.Places.{found-holds, reserved-stands}
+use Rattle.frames.proofs.Places.{found-holds, held-pool, reserved-stands}
 use Rattle.frames.proofs.Calls as any
 use Rattle.reserving.specs.declared.Reserved.the-variants as reserved
 use Rattle.reserving.specs.Reserves.{reservedAs, roomAfter}
@@ -81,3 +81,8 @@ module _ {row : ℕ} {a : List ℕ} {t : KeptBytes} (r : Checked row a t) where
   pub holds : {h : ℕ} {k : Place → Plan} {named : (p : Place) → k p .checks ≡ Option.some p} {b : Block} (d : any.Called (r .form) h k named b)
       → Holds byMasks row (t .tables) b (d .place)
   holds {h} {b = b} d = found-holds (r .room) (startOf h) (d .place) (d .looked-up) (d .live) b (d .block)
+
+  -- what is carried out for it by its own pool is carried out by the pool that the tables say
+  pub placed-in : (f : Pool → Place → Plan) {b : Block} {p : Place} (h : Holds byMasks row (t .tables) b p) {w : Reply} {x : List ℕ} {u : KeptBytes}
+      → CarriedOutBy (engine row) a (f (poolOf p) p) w x u → CarriedOutBy (engine row) a (f (view row (t .tables)) p) w x u
+  placed-in f {p = p} h {w} {x} {u} = subst (λ P. CarriedOutBy (engine row) a (f P p) w x u) (sym (held-pool (r .room) h))

@@ -2,13 +2,13 @@
 pub use Rattle.mem.proofs.Prelude.{_∙_, _≡_, sym, ap, ap₂, refl, subst, [], _∷_, _<_, _/_, arith, now, needs, lit≤, leb, leb-true, leb-false, length, List, ℕ}
 unfoldable pub use Rattle.classes.specs.Classes.{rowBytes, tooLarge}
 pub use Rattle.classes.specs.Alignments.{enlarged, Askable}
-pub use Rattle.classes.proofs.Laws.{card-row}
+pub use Rattle.classes.proofs.Laws.{card-row, card-some}
 pub use Rattle.model.specs.Answers.{done}
 pub use Rattle.model.specs.Tables.{view}
 pub use Rattle.model.specs.Calls.{keptIn, engine}
 pub use Rattle.frames.specs.Blocks.{CarriedOutBy}
-pub use Rattle.frames.proofs.Calls.{Called, called-at, called-refused, called, carried-as, whole}
-pub use Rattle.ops.proofs.Calls.{Checked, by-check, checked, refusing, holds}
+pub use Rattle.frames.proofs.Calls.{Called, called-at, called-refused, CalledFor, called-for, refused-for, called, carried-as, whole}
+pub use Rattle.ops.proofs.Calls.{Checked, by-check, checked, refusing, holds, placed-in}
 use Rattle.model.specs.declared.Answered.{Answered}
 use Rattle.model.specs.Answers.{replyAnswer}
 use Rattle.model.specs.Calls.{left}

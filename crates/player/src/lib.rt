@@ -69,7 +69,7 @@ fn perform(arena: &mut [u8], room: &mut [u8], t: Totals, trace: &[u8], op: Op) -
     match op {
         Op::Grant(n) => tell(pool::grant(arena, room, t, n)),
         Op::Release(handle) => tell(pool::release(arena, room, t, handle)),
-        Op::Resize(handle, n) => tell(resizing::resize(arena, room, t, handle, n)),
+        Op::ResizeInPlace(handle, n) => tell(resizing::resize_in_place(arena, room, t, handle, n)),
         Op::Measure(handle) => Played {
             told: Said::One(pool::measure(arena, room, t, handle)),
             totals: t,
@@ -91,6 +91,7 @@ fn perform(arena: &mut [u8], room: &mut [u8], t: Totals, trace: &[u8], op: Op) -
             told: Said::Six(pool::report(arena, room, t)),
             totals: t,
         },
+        Op::Move(handle, n) => tell(resizing::move_block(arena, room, t, handle, n)),
     }
 }
 

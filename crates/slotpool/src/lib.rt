@@ -9,7 +9,7 @@ ghost use Rattle.mem.specs.Bytes.{bit};
 ghost use Rattle.classes.specs.Classes.{rowBytes};
 ghost use Rattle.model.specs.Answers.{listed};
 ghost use Rattle.model.specs.Proposals.{accepts};
-ghost use Rattle.model.specs.Plans.{setsUp, grants, grantsAligned, releases, resizes, measures, reports, grantsList};
+ghost use Rattle.model.specs.Plans.{setsUp, grants, grantsAligned, releases, resizesInPlace, moves, measures, reports, grantsList};
 ghost use Rattle.model.specs.Tables.{roomFor};
 ghost use Rattle.model.specs.Calls.{keptIn, call};
 ghost use Rattle.answers.specs.Gives.{Leaves, Tells, Gives, Reports, Lists};
@@ -148,7 +148,7 @@ pub extern "C" fn slotpool_release(
     told.number
 }
 
-fn resize_by(
+fn resize_in_place_by(
     arena: &mut [u8],
     room: &mut [u8],
     t: Totals,
@@ -156,10 +156,10 @@ fn resize_by(
     n: usize,
     value: &mut usize,
 ) -> Told
-    ensures { λ r. ⌜ Gives (call rowBytes (now (arena .entry)) (keptIn (now (room .entry)) t) (resizes handle n))
+    ensures { λ r. ⌜ Gives (call rowBytes (now (arena .entry)) (keptIn (now (room .entry)) t) (resizesInPlace handle n))
         (r .number) (now (value .exit)) (now (arena .exit)) (keptIn (now (room .exit)) (r .totals)) ⌝ }
 {
-    let r = resizing::resize(arena, room, t, handle, n);
+    let r = resizing::resize_in_place(arena, room, t, handle, n);
     let reply = r.reply;
     let totals = r.totals;
     *value = answers::value_of(reply);
@@ -170,7 +170,7 @@ fn resize_by(
 }
 
 #[no_mangle]
-pub extern "C" fn slotpool_resize(
+pub extern "C" fn slotpool_resize_in_place(
     arena: &mut [u8],
     room: &mut [u8],
     totals: &mut Totals,
@@ -178,10 +178,48 @@ pub extern "C" fn slotpool_resize(
     n: usize,
     value: &mut usize,
 ) -> u32
-    ensures { λ r. ⌜ Gives (call rowBytes (now (arena .entry)) (keptIn (now (room .entry)) (now (totals .entry))) (resizes handle n))
+    ensures { λ r. ⌜ Gives (call rowBytes (now (arena .entry)) (keptIn (now (room .entry)) (now (totals .entry))) (resizesInPlace handle n))
         r (now (value .exit)) (now (arena .exit)) (keptIn (now (room .exit)) (now (totals .exit))) ⌝ }
 {
-    let told = resize_by(arena, room, *totals, handle, n, value);
+    let told = resize_in_place_by(arena, room, *totals, handle, n, value);
+    totals::record(totals, told.totals);
+    told.number
+}
+
+fn move_by(
+    arena: &mut [u8],
+    room: &mut [u8],
+    t: Totals,
+    handle: usize,
+    n: usize,
+    value: &mut usize,
+) -> Told
+    ensures { λ r. ⌜ Gives (call rowBytes (now (arena .entry)) (keptIn (now (room .entry)) t) (moves handle n))
+        (r .number) (now (value .exit)) (now (arena .exit)) (keptIn (now (room .exit)) (r .totals)) ⌝ }
+{
+    let r = resizing::move_block(arena, room, t, handle, n);
+    let reply = r.reply;
+    let totals = r.totals;
+    *value = answers::value_of(reply);
+    Told {
+        number: answers::number_of(reply),
+        totals: totals,
+    }
+}
+
+#[no_mangle]
+pub extern "C" fn slotpool_move(
+    arena: &mut [u8],
+    room: &mut [u8],
+    totals: &mut Totals,
+    handle: usize,
+    n: usize,
+    value: &mut usize,
+) -> u32
+    ensures { λ r. ⌜ Gives (call rowBytes (now (arena .entry)) (keptIn (now (room .entry)) (now (totals .entry))) (moves handle n))
+        r (now (value .exit)) (now (arena .exit)) (keptIn (now (room .exit)) (now (totals .exit))) ⌝ }
+{
+    let told = move_by(arena, room, *totals, handle, n, value);
     totals::record(totals, told.totals);
     told.number
 }

@@ -3,7 +3,7 @@
 ghost use mathlib.Core.Path.{_≡_};
 ghost use lib.ListN.{length};
 ghost use Rattle.classes.specs.Classes.{rowBytes};
-ghost use Rattle.model.specs.Plans.{setsUp, grants, grantsAligned, releases, resizes, measures, reports, grantsList};
+ghost use Rattle.model.specs.Plans.{setsUp, grants, grantsAligned, releases, resizesInPlace, moves, measures, reports, grantsList};
 ghost use Rattle.model.specs.Tables.{roomFor};
 ghost use Rattle.model.specs.Plain.{plainCall};
 ghost use Rattle.answers.specs.Gives.{Leaves, Tells, Gives, Reports, Lists};
@@ -63,17 +63,33 @@ pub extern "C" fn slotpool_plain_release(arena: &mut [u8], room: &mut [u8], hand
 }
 
 #[no_mangle]
-pub extern "C" fn slotpool_plain_resize(
+pub extern "C" fn slotpool_plain_resize_in_place(
     arena: &mut [u8],
     room: &mut [u8],
     handle: usize,
     n: usize,
     value: &mut usize,
 ) -> u32
-    ensures { λ r. ⌜ Gives (plainCall rowBytes (now (arena .entry)) (now (room .entry)) (resizes handle n))
+    ensures { λ r. ⌜ Gives (plainCall rowBytes (now (arena .entry)) (now (room .entry)) (resizesInPlace handle n))
         r (now (value .exit)) (now (arena .exit)) (now (room .exit)) ⌝ }
 {
-    let r = plain::resize(arena, room, handle, n);
+    let r = plain::resize_in_place(arena, room, handle, n);
+    *value = answers::value_of(r);
+    answers::number_of(r)
+}
+
+#[no_mangle]
+pub extern "C" fn slotpool_plain_move(
+    arena: &mut [u8],
+    room: &mut [u8],
+    handle: usize,
+    n: usize,
+    value: &mut usize,
+) -> u32
+    ensures { λ r. ⌜ Gives (plainCall rowBytes (now (arena .entry)) (now (room .entry)) (moves handle n))
+        r (now (value .exit)) (now (arena .exit)) (now (room .exit)) ⌝ }
+{
+    let r = plain::move_block(arena, room, handle, n);
     *value = answers::value_of(r);
     answers::number_of(r)
 }

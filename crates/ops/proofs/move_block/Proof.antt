@@ -30,8 +30,10 @@ returns z p h =
     let e = reserved-none (a .row) (reserve (a .row) (view (a .row) (now (a .room))) (a .b .alloc .align) (a .n))
     (sym (d .reserve-slot .ensures .0) ∙ c .enum-told .given .1) in
     told-out (a .row) (z .refused .ensures)
-    (rw (d .reserve-slot .ensures .1 ∙ ap (roomAfter (a .row) (now (a .room))) e,
-    unmoved-plan (room s) (a .b .alloc .align) (a .n) h (ap (λ b. b .alloc .align) (h .block)) e)
+    (rw (
+      d .reserve-slot .ensures .1 ∙ ap (roomAfter (a .row) (now (a .room))) e,
+      unmoved-plan (room s) (a .b .alloc .align) (a .n) h (ap (λ b. b .alloc .align) (h .block)) e,
+    )
     (refused-on (room s) h (now (a .arena)) (a .t) (s .pre .0 .1) NoRoom))
 
 -- the place that is taken, and the room with it

@@ -1,0 +1,11 @@
+-- `move_by` meets its contract.
+use Rattle.mem.proofs.Prelude.{needs}
+use Rattle.model.specs.Answers.{replyAnswer}
+use Rattle.answers.proofs.Gives.{gives}
+use Rattle.slotpool.proofs.move_by.Statement.{statement}
+use Rattle.slotpool.proofs.move_by.Tie as tie
+
+pub move-by-spec : {M : Type 1} → statement M
+move-by-spec = tie.close (tie.spec (λ c κs. search needs) (λ c κs. search needs) (λ c κs. search needs) (λ c. search needs) (λ c. search needs) (λ c.
+    let k = c .before .before .before .before .before .before .before .move-block in
+    gives (replyAnswer (k .result .reply)) (c .number-of .ensures) (c .before .value-of .ensures) (k .ensures)))
