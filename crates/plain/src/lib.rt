@@ -6,7 +6,7 @@ ghost use Prim.Native.Nat.{_≤_};
 ghost use lib.ListN.{length};
 ghost use Rattle.classes.specs.Classes.{rowBytes};
 ghost use Rattle.model.specs.Answers.{replyAnswer, reportAnswer};
-ghost use Rattle.model.specs.Plans.{setsUp, grants, grantsAligned, releases, resizes, measures, reports, grantAs};
+ghost use Rattle.model.specs.Plans.{setsUp, grants, grantsAligned, releases, resizesInPlace, moves, measures, reports, grantAs};
 ghost use Rattle.model.specs.Tables.{soundBy, viewBy};
 ghost use Rattle.model.specs.Plain.{bySlots, plainForm, plainCall};
 ghost use Rattle.model.specs.Calls.{left};
@@ -98,21 +98,30 @@ pub fn release(arena: &mut [u8], room: &mut [u8], handle: usize) -> Reply
     }
 }
 
-// 02 §7: "Order: 2, 3, 4, 5, 10, 6, 7, 8; §6's answer 3 goes by the start, whatever the bits."
-pub fn resize(arena: &mut [u8], room: &mut [u8], handle: usize, n: usize) -> Reply
+// 02 §9: "one call that only changes in place, and refuses with 11". Answers: 2, 3, 4, 5, 10, 6, 7, 11
+pub fn resize_in_place(arena: &mut [u8], room: &mut [u8], handle: usize, n: usize) -> Reply
     ensures { λ r. ⌜ left (replyAnswer r) (now (arena .exit)) (now (room .exit))
-        ≡ plainCall rowBytes (now (arena .entry)) (now (room .entry)) (resizes handle n) ⌝ }
+        ≡ plainCall rowBytes (now (arena .entry)) (now (room .entry)) (resizesInPlace handle n) ⌝ }
 {
-    let len = arena.len();
-    if !plain_sound::sound(classes::ROW, len, room) {
+    if !plain_sound::sound(classes::ROW, arena.len(), room) {
         return Reply::Refused(Refusal::Unsound);
     }
-    let found = plain_tables::find_block(classes::ROW, len, room, frames::start_in(handle));
-    if classes::too_large(frames::code_found(found), n) {
-        return Reply::Refused(Refusal::TooLarge);
+    match plain_ops::locate_for(classes::ROW, arena, room, handle, n) {
+        Located::At(b) => plain_ops::resize_in_place(classes::ROW, arena, room, b, n),
+        Located::Refused(r) => Reply::Refused(r),
     }
-    match frames::judge(classes::ROW, arena, found, handle) {
-        Located::At(b) => plain_ops::change_size(classes::ROW, arena, room, b, n),
+}
+
+// 02 §9: "another that always moves and can answer 8". Answers: 2, 3, 4, 5, 10, 6, 7, 8
+pub fn move_block(arena: &mut [u8], room: &mut [u8], handle: usize, n: usize) -> Reply
+    ensures { λ r. ⌜ left (replyAnswer r) (now (arena .exit)) (now (room .exit))
+        ≡ plainCall rowBytes (now (arena .entry)) (now (room .entry)) (moves handle n) ⌝ }
+{
+    if !plain_sound::sound(classes::ROW, arena.len(), room) {
+        return Reply::Refused(Refusal::Unsound);
+    }
+    match plain_ops::locate_for(classes::ROW, arena, room, handle, n) {
+        Located::At(b) => plain_ops::move_block(classes::ROW, arena, room, b, n),
         Located::Refused(r) => Reply::Refused(r),
     }
 }

@@ -1,5 +1,5 @@
-// What the calls do with a block, over arena and plain tables: reserve a slot, locate a block, give it back, change its size; then, in list.rt, the
-// grants of a list. What reads no table of either engine, as header and guard of a block, is in frames and blocks. Read next: plain.
+// What the calls do with a block, over arena and plain tables: reserve a slot, locate a block, give it back, resize it in place, move it; then, in
+// list.rt, the grants of a list. What reads no table of either engine, as header and guard of a block, is in frames and blocks. Read next: plain.
 mod list;
 
 pub use list::grant_all;
@@ -10,12 +10,12 @@ ghost use lib.ListN.{length};
 ghost use Rattle.classes.specs.Classes.{Lawful};
 ghost use Rattle.classes.specs.Alignments.{Askable};
 ghost use Rattle.model.specs.State.{Place, startOf, poolOf};
-ghost use Rattle.model.specs.Plans.{site, reserve, lookup, releaseAt, resizeInPlace, resizeMove, resizeAt};
+ghost use Rattle.model.specs.Plans.{site, reserve, lookup, releaseAt, inPlaceAt, moveAt};
 ghost use Rattle.model.specs.Tables.{soundBy, viewBy, encodeBy};
 ghost use Rattle.model.specs.Plain.{bySlots, plainForm};
 ghost use Rattle.model.specs.Calls.{written};
 ghost use Rattle.rows.specs.Rows.{siteFound, Holds};
-ghost use Rattle.frames.specs.Blocks.{located, siteRoomBy, roomAfterBy, staysIn, CarriedOutBy};
+ghost use Rattle.frames.specs.Blocks.{located, locatedFor, siteRoomBy, roomAfterBy, CarriedOutBy};
 ghost use Rattle.plain_ops.specs.Reserves.{reservedAs};
 use frames::Located;
 use model::Refusal;
@@ -76,6 +76,22 @@ pub fn locate(row: usize, arena: &[u8], room: &[u8], handle: usize) -> Located
     )
 }
 
+// The same for a block that is to have n bytes, with 3 before 4. 02 §6: "answer 3 reads the enlarged new size where the offset starts such a live
+// block"; 02 §7: "whatever the bits"
+pub fn locate_for(row: usize, arena: &[u8], room: &[u8], handle: usize, n: usize) -> Located
+    requires { ⌜ soundBy bySlots row (length (now arena)) (now room) ≡ true ⌝ }
+    requires { ⌜ Lawful row ⌝ }
+    ensures { λ r. ⌜ r ≡ locatedFor row (now (arena .entry)) handle n (lookup row (viewBy bySlots row (now (room .entry))) (startOf handle)) ⌝ }
+{
+    frames::judge_for(
+        row,
+        arena,
+        plain_tables::find_block(row, arena.len(), room, frames::start_in(handle)),
+        handle,
+        n,
+    )
+}
+
 // "The slot becomes waiting and its s owned bytes zero. If no slot of the group is live, the group goes, all its rows become zero and free."
 pub fn discard(row: usize, arena: &mut [u8], room: &mut [u8], b: Block)
     requires { ⌜ soundBy bySlots row (length (now arena)) (now room) ≡ true ⌝ }
@@ -92,32 +108,19 @@ pub fn discard(row: usize, arena: &mut [u8], room: &mut [u8], b: Block)
 }
 
 // "In place if n is at most s − 4 − 16d and the block's class is at most one above n's class"; 02 §6: "the block's class is that of the enlarged size
-// or the next one up". 02 §7: "Resize in place keeps the handle."
-pub fn change_size(row: usize, arena: &mut [u8], room: &mut [u8], b: Block, n: usize) -> Reply
+// or the next one up"; 02 §9: else 11. "the first bytes, as many as the lesser of old and new n, stay, all from there to the end become zero, header
+// and guard are written anew." 02 §7: "Resize in place keeps the handle."
+pub fn resize_in_place(row: usize, arena: &mut [u8], room: &mut [u8], b: Block, n: usize) -> Reply
     requires { ⌜ soundBy bySlots row (length (now arena)) (now room) ≡ true ⌝ }
     requires { ⌜ ((p : Place) × Holds bySlots row (now room) b p) ⌝ }
     requires { ⌜ Askable (b .alloc .align) n ⌝ }
     requires { ⌜ Lawful row ⌝ }
     ensures { λ r. ⌜ ((p : Place) → Holds bySlots row (now (room .entry)) b p
-        → CarriedOutBy (plainForm row) (now (arena .entry)) (resizeAt row (poolOf p) n p) r (now (arena .exit)) (now (room .exit))) ⌝ }
+        → CarriedOutBy (plainForm row) (now (arena .entry)) (inPlaceAt row (poolOf p) n p) r (now (arena .exit)) (now (room .exit))) ⌝ }
 {
-    if frames::stays_in(b, n) {
-        resize_in_place(row, arena, room, b, n);
-        return Reply::Done(frames::handle_of(row, b));
+    if !frames::stays_in(b, n) {
+        return Reply::Refused(Refusal::NotInPlace);
     }
-    resize_by_move(row, arena, room, b, n)
-}
-
-// "the first bytes, as many as the lesser of old and new n, stay, all from there to the end become zero, header and guard are written anew."
-fn resize_in_place(row: usize, arena: &mut [u8], room: &mut [u8], b: Block, n: usize)
-    requires { ⌜ soundBy bySlots row (length (now arena)) (now room) ≡ true ⌝ }
-    requires { ⌜ ((p : Place) × Holds bySlots row (now room) b p) ⌝ }
-    requires { ⌜ (staysIn b n ≡ true) × Askable (b .alloc .align) n ⌝ }
-    requires { ⌜ Lawful row ⌝ }
-    ensures { λ _. ⌜ ((p : Place) → Holds bySlots row (now (room .entry)) b p
-        → (now (arena .exit) ≡ written (now (arena .entry)) (resizeInPlace row p n .changes))
-        × (now (room .exit) ≡ encodeBy bySlots row (resizeInPlace row p n .pool))) ⌝ }
-{
     let kept = frames::lesser(b.alloc.size, n);
     blocks::reframe_at(
         arena,
@@ -129,17 +132,18 @@ fn resize_in_place(row: usize, arena: &mut [u8], room: &mut [u8], b: Block, n: u
         n,
     );
     plain_changes::resize_slot(room, b, n);
+    Reply::Done(frames::handle_of(row, b))
 }
 
-// "Otherwise a grant of n is made while the old block is live, that many bytes are copied, then the old is released."
+// "a grant of n is made while the old block is live, that many bytes are copied, then the old is released."
 // 02 §6: "Resize of an aligned block keeps the boundary"
-fn resize_by_move(row: usize, arena: &mut [u8], room: &mut [u8], b: Block, n: usize) -> Reply
+pub fn move_block(row: usize, arena: &mut [u8], room: &mut [u8], b: Block, n: usize) -> Reply
     requires { ⌜ soundBy bySlots row (length (now arena)) (now room) ≡ true ⌝ }
     requires { ⌜ ((p : Place) × Holds bySlots row (now room) b p) ⌝ }
     requires { ⌜ Askable (b .alloc .align) n ⌝ }
     requires { ⌜ Lawful row ⌝ }
     ensures { λ r. ⌜ ((p : Place) → Holds bySlots row (now (room .entry)) b p
-        → CarriedOutBy (plainForm row) (now (arena .entry)) (resizeMove row (poolOf p) p n) r (now (arena .exit)) (now (room .exit))) ⌝ }
+        → CarriedOutBy (plainForm row) (now (arena .entry)) (moveAt row (poolOf p) n p) r (now (arena .exit)) (now (room .exit))) ⌝ }
 {
     let Reserved::Taken(q) = reserve_slot(row, arena.len(), room, b.alloc.align, n) else {
         return Reply::Refused(Refusal::NoRoom);

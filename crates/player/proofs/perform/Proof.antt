@@ -7,7 +7,7 @@ use Rattle.classes.specs.Classes.{rowBytes}
 use Rattle.model.specs.declared.Totals.{Totals}
 use Rattle.model.specs.declared.Answered.{Answered}
 use Rattle.model.specs.Answers.{Answer, done, replyAnswer}
-use Rattle.model.specs.Plans.{Call, grants, releases, resizes, measures, reports}
+use Rattle.model.specs.Plans.{Call, grants, releases, resizesInPlace, moves, measures, reports}
 use Rattle.model.specs.Calls.{KeptBytes, keptIn, Result, left, call}
 use Rattle.trace.specs.declared.Op.{Op}
 use Rattle.trace.specs.Trace.{Within, operationOf}
@@ -81,8 +81,8 @@ returns-3 c =
     let o = g .before .before .before .before in
     let s = o .before .before .before .before .before in
     let x = o .op3 .given .0 in
-    tells (c .tell3 .result) (g .resize .result) _ _ (c .tell3 .ensures)
-    (asks s (Op.Resize (x .0) (x .1 .0)) (resizes (x .0) (x .1 .0)) (o .op3 .given .1) refl (g .resize .ensures))
+    tells (c .tell3 .result) (g .resize-in-place .result) _ _ (c .tell3 .ensures)
+    (asks s (Op.ResizeInPlace (x .0) (x .1 .0)) (resizesInPlace (x .0) (x .1 .0)) (o .op3 .given .1) refl (g .resize-in-place .ensures))
 
 returns-4 : tie.Need-returns-4
 unfolding performed operationOf
@@ -130,6 +130,16 @@ returns-7 c =
       asks s Op.Report reports (c .before .before .before .enum-told .given .1) refl e,
     )
 
+returns-8 : tie.Need-returns-8
+unfolding performed operationOf
+returns-8 c =
+    let g = c .before .before .before .before .before in
+    let o = g .before .before .before .before in
+    let s = o .before .before .before .before .before in
+    let x = o .op6 .given .0 in
+    tells (c .tell4 .result) (g .move-block .result) _ _ (c .tell4 .ensures)
+    (asks s (Op.Move (x .0) (x .1 .0)) (moves (x .0) (x .1 .0)) (o .op6 .given .1) refl (g .move-block .ensures))
+
 pub perform-spec : {M : Type 1} → statement M
 perform-spec =
     tie.close
@@ -137,6 +147,6 @@ perform-spec =
     (λ c. search needs) (λ c κs. search needs) (λ c κs. search needs) (λ c. search needs) (λ c κs. search needs) (λ c κs. search needs)
     (λ c. search needs) (λ c κs. search needs) (λ c κs. search needs) (λ c. search needs)
     (λ c κs. search needs) (λ c. search needs) sub-store part-store-start part-store-end (λ c κs. search needs) (λ c. search needs) (λ c κs. search needs)
-    (λ c. search needs) (λ c. search needs) returns (λ c. search needs) (λ c. search needs) returns-2 (λ c. search needs) (λ c. search needs) returns-3
+    (λ c. search needs) (λ c κs. search needs) (λ c κs. search needs) (λ c. search needs) (λ c. search needs) returns (λ c. search needs) (λ c. search needs) returns-2 (λ c. search needs) (λ c. search needs) returns-3
     (λ c. search needs) (λ c. search needs) returns-4 (λ c. search needs) returns-5 (λ c. search needs) returns-6 (λ c. search needs) (λ c. search needs)
-    returns-7)
+    returns-7 (λ c. search needs) (λ c. search needs) returns-8)

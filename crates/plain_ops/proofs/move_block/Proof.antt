@@ -2,6 +2,7 @@
 use Rattle.mem.proofs.Prelude.{_∙_, _≡_, sym, ap, ap₂, subst, ⊎-elim, inl, inr, some, min, arith, now, needs, length}
 use Rattle.mem.specs.Bytes.{put, part}
 use Rattle.mem.proofs.Laws.{put-length}
+use Rattle.model.specs.declared.Refusal.the-variants.{NoRoom}
 use Rattle.model.specs.State.{Place, poolOf}
 use Rattle.model.specs.Plans.{reserve}
 use Rattle.model.specs.Tables.{viewBy, soundBy, encodeBy}
@@ -9,11 +10,12 @@ use Rattle.model.specs.Plain.{bySlots}
 use Rattle.rows.specs.Rows.{Lent, blockOf, startAt, Holds}
 use Rattle.frames.specs.Blocks.{Standing, roomAfterBy}
 use Rattle.frames.proofs.Places.{held-stands}
-use Rattle.frames.proofs.Moves.{reserve-leaves, beside, beside-holds, copy-apart, taken-size, moved, moved-nowhere}
+use Rattle.frames.proofs.Moves.{reserve-leaves, beside, beside-holds, copy-apart, taken-size, moved, unmoved-plan}
+use Rattle.frames.proofs.Plans.{refused-on}
 use Rattle.plain_tables.proofs.Opens.{by-slots}
 use Rattle.plain_ops.proofs.Reserves.{reserved-place, reserved-none}
-use Rattle.plain_ops.proofs.resize_by_move.Statement.{statement}
-use Rattle.plain_ops.proofs.resize_by_move.Tie as tie
+use Rattle.plain_ops.proofs.move_block.Statement.{statement}
+use Rattle.plain_ops.proofs.move_block.Tie as tie
 
 room : (s : tie.Start) → Lent bySlots (s .args .row) (length (now (s .args .arena))) (now (s .args .room))
 room s = by-slots (s .pre .0) (s .pre .1 .1 .1)
@@ -25,9 +27,11 @@ returns c p h =
     let a = s .args in
     let e = reserved-none (a .row) (reserve (a .row) (viewBy bySlots (a .row) (now (a .room))) (a .b .alloc .align) (a .n))
     (sym (d .reserve-slot .ensures .0) ∙ c .enum-told .given .1) in
-    rw (d .reserve-slot .ensures .1 ∙ ap (roomAfterBy bySlots (a .row) (now (a .room))) e) (moved-nowhere (room s) (a .b .alloc .align) (a .n) h (now
-    (a .arena))
-    (ap (λ b. b .alloc .align) (h .block)) e)
+    rw (
+      d .reserve-slot .ensures .1 ∙ ap (roomAfterBy bySlots (a .row) (now (a .room))) e,
+      unmoved-plan (room s) (a .b .alloc .align) (a .n) h (ap (λ b. b .alloc .align) (h .block)) e,
+    )
+    (refused-on h (now (a .arena)) NoRoom)
 
 -- the place that is taken, and the room with it
 new : (c : tie.After-known-told) → (let d = c .before .before .before .before .before in
@@ -142,8 +146,8 @@ returns-2 c p h =
     (d .last .1 .1 .0)
     (x .result) (new k .2) (x .ensures .1) copied (g .0) (g .1) (x .ensures .0) (ap (λ b. b .alloc .align) (h .block))
 
-pub resize-by-move-spec : {M : Type 1} → statement M
-resize-by-move-spec =
+pub move-block-spec : {M : Type 1} → statement M
+move-block-spec =
     tie.close (tie.spec (λ c κs. search needs) (λ c. search needs) (λ c. search needs) (λ c. search needs) returns
     (λ c κs. (stands (c .before), c .before .before .before .before .before .before .before .before .before .before .pre .1 .1 .1)) start-of-requires
     start-of-requires-2 (λ c κs. search needs) copy-within-requires discard-requires (λ c. search needs) (λ c. search needs) returns-2)
