@@ -1,5 +1,5 @@
--- Demand 2, the calls but grant: "Every call does what document 01 says". What an accepted set up, release and resize leave, byte by byte
--- and slot by slot, and that measure and report leave everything, without a word of the plans; which bytes of the arena answers 6 and 7 go by.
+-- Demand 2, the calls but grant: "Every call does what document 01 says". What an accepted set up, release, resize in place and move leave, byte by
+-- byte and slot by slot, and that measure and report leave everything, without a word of the plans; which bytes of the arena answers 6 and 7 go by.
 use Prim.Native.Nat.{ℕ, suc, _+_, _*_, _-_, _/_, _≤_, _<_, min}
 use mathlib.Core.Path.{_≡_}
 use mathlib.Core.Bool.{false, not}
@@ -14,7 +14,7 @@ use Rattle.classes.specs.Alignments.{alignOf}
 use Rattle.model.specs.declared.Slot.the-variants.{Idle, Live}
 use Rattle.model.specs.State.{Pool, Place, isLive, count, disp, size, align, startOf, poolOf, become, slotNumber, base, beginning, owned, start}
 use Rattle.model.specs.Answers.{done, listed}
-use Rattle.model.specs.Plans.{copies, Call, setsUp, grantsAligned, releases, resizes, measures, reports, freshPool, totals, plan}
+use Rattle.model.specs.Plans.{copies, Call, setsUp, grantsAligned, releases, resizesInPlace, moves, measures, reports, freshPool, totals, plan}
 use Rattle.model.specs.Calls.{Form, Outcome, write, applied, callBy}
 use Rattle.claims.specs.Demand1.{Near, StaysInPlace, StartsAt, headerDue, guardDue}
 use Rattle.claims.specs.Demand2.{Intact, reservedOf}
@@ -124,9 +124,10 @@ module _ (row : ℕ) where
     abbrev pub ReleasesAsSaid : Type 0
     ReleasesAsSaid = (a : List ℕ) (t : F .Kept) (h : ℕ) → callBy row F a t (releases h) .answer .number ≡ 0 → (p : Place) × Released a t h p
 
-    -- RESIZE
+    -- RESIZE IN PLACE
 
-    pub record InPlace (a : List ℕ) (h n : ℕ) (p : Place) (r : Outcome (F .Kept)) : Type 0 where
+    pub record InPlace (a : List ℕ) (t : F .Kept) (h n : ℕ) (p : Place) (r : Outcome (F .Kept)) : Type 0 where
+      pub block : Intact row a (F .view t) h p
       pub serves : StaysInPlace p n
       -- 02 §7: "Resize in place keeps the handle."
       pub value : r .answer .values ≡ h ∷ []
@@ -142,26 +143,29 @@ module _ (row : ℕ) where
       -- no byte before the header or behind the block changes
       pub others : (i : ℕ) → (i + 4 < start row p) ⊎ (owned row p + slotBytes (p .cls) ≤ i) → getD (r .arena) i 0 ≡ getD a i 0
 
-    -- "Otherwise a grant of n is made while the old block is live, that many bytes are copied, then the old is released". 02 §6: "Resize of an
-    -- aligned block keeps the boundary": the grant is one of the block's alignment, which for an ordinary block is a plain one. g is what it
-    -- leaves, v the new handle, b the arena after the copy
-    pub record Moved (a : List ℕ) (h n : ℕ) (p : Place) (g : Outcome (F .Kept)) (v : ℕ) (b : List ℕ) (r : Outcome (F .Kept)) : Type 0 where
-      pub serves-not : StaysInPlace p n → ⊥
+    abbrev pub InPlaceAsSaid : Type 0
+    InPlaceAsSaid = (a : List ℕ) (t : F .Kept) (h n : ℕ) → callBy row F a t (resizesInPlace h n) .answer .number ≡ 0
+        → (p : Place) × InPlace a t h n p (callBy row F a t (resizesInPlace h n))
+
+    -- MOVE
+
+    -- "a grant of n is made while the old block is live, that many bytes are copied, then the old is released". 02 §6: "Resize of an aligned block
+    -- keeps the boundary": the grant is one of the block's alignment, which for an ordinary block is a plain one. g is what it leaves, v the new
+    -- handle, b the arena after the copy
+    pub record Moved (a : List ℕ) (t : F .Kept) (h n : ℕ) (p : Place) (g : Outcome (F .Kept)) (v : ℕ) (b : List ℕ) (r : Outcome (F .Kept)) : Type 0 where
+      pub block : Intact row a (F .view t) h p
       pub granted : g .answer .number ≡ 0
       pub answer : r .answer ≡ g .answer
       pub released : callBy row F b (g .kept) (releases h) .answer .number ≡ 0
       pub arena : r .arena ≡ callBy row F b (g .kept) (releases h) .arena
       pub kept : r .kept ≡ callBy row F b (g .kept) (releases h) .kept
-      -- the block has the bytes that it had
+      -- 02 §9: "another that always moves": the block is at another place, and has the bytes that it had
+      pub elsewhere : startOf v ≡ start row p → ⊥
       pub stays : (i : ℕ) → i < stay p n → getD (r .arena) (startOf v + i) 0 ≡ getD a (start row p + i) 0
 
-    abbrev pub MovedBy : List ℕ → ℕ → ℕ → Place → Outcome (F .Kept) → Outcome (F .Kept) → Type 0
-    MovedBy a h n p g r = let v = getD (g .answer .values) 0 0 in Moved a h n p g v (write (g .arena) (copies (start row p) (startOf v) (stay p n))) r
+    abbrev pub MovedBy : List ℕ → F .Kept → ℕ → ℕ → Place → Outcome (F .Kept) → Outcome (F .Kept) → Type 0
+    MovedBy a t h n p g r = let v = getD (g .answer .values) 0 0 in Moved a t h n p g v (write (g .arena) (copies (start row p) (startOf v) (stay p n))) r
 
-    pub record Resized (a : List ℕ) (t : F .Kept) (h n : ℕ) (p : Place) : Type 0 where
-      pub block : Intact row a (F .view t) h p
-      pub done : InPlace a h n p (callBy row F a t (resizes h n)) ⊎ MovedBy a h n p (callBy row F a t (grantsAligned n (alignOf (align (p .state)))))
-          (callBy row F a t (resizes h n))
-
-    abbrev pub ResizesAsSaid : Type 0
-    ResizesAsSaid = (a : List ℕ) (t : F .Kept) (h n : ℕ) → callBy row F a t (resizes h n) .answer .number ≡ 0 → (p : Place) × Resized a t h n p
+    abbrev pub MovesAsSaid : Type 0
+    MovesAsSaid = (a : List ℕ) (t : F .Kept) (h n : ℕ) → callBy row F a t (moves h n) .answer .number ≡ 0
+        → (p : Place) × MovedBy a t h n p (callBy row F a t (grantsAligned n (alignOf (align (p .state))))) (callBy row F a t (moves h n))

@@ -12,12 +12,13 @@ use Rattle.classes.specs.Classes.{slotBytes, classOf, tooLarge}
 use Rattle.classes.specs.Alignments.{alignOf}
 use Rattle.model.specs.declared.Refusal.{Refusal}
 use Rattle.model.specs.declared.Refusal.the-variants.{BadArena, Unsound, TooLarge, NoSuchBlock, AlreadyFree, Stale, HeaderDamaged, Overrun, NoRoom}
-use Rattle.model.specs.declared.Refusal.the-variants.{TooLong, BadProposal, BadAlignment}
+use Rattle.model.specs.declared.Refusal.the-variants.{NotInPlace, TooLong, BadProposal, BadAlignment}
 use Rattle.model.specs.State.{Pool, Place, isLive, granted, disp, size, align, startOf, poolOf, slotNumber, start, handle}
 use Rattle.model.specs.Blocks.{headerRight, guardRight, ownedBytes}
 use Rattle.model.specs.Answers.{numberOf}
 use Rattle.model.specs.Proposals.{entries, accepts}
-use Rattle.model.specs.Plans.{Call, setsUp, grants, grantsAligned, releases, resizes, measures, reports, grantsList, reserveAll, poolAfter, NoPlace}
+use Rattle.model.specs.Plans.{Call, setsUp, grants, grantsAligned, releases, resizesInPlace, moves, measures, reports, grantsList, reserveAll, poolAfter}
+use Rattle.model.specs.Plans.{NoPlace}
 use Rattle.model.specs.Calls.{Form, callBy, setUpRightBy}
 
 -- a reason to refuse a call, and when it is due by itself
@@ -119,13 +120,22 @@ module _ (row : ℕ) where
   abbrev pub sizeReasons : Pool → (n : ℕ) → List Reason
   sizeReasons P n = when TooLarge (tooLarge ≤ n) ∷ when NoRoom (NoPlace row P (classOf n)) ∷ []
 
-  -- 02 §6: "Resize .. : answer 3 reads the enlarged new size where the offset starts such a live block"; 02 §7: "by the start, whatever the bits"
+  -- both calls that give a block another size: 02 §6: "answer 3 reads the enlarged new size where the offset starts such a live block"; 02 §7: "by the
+  -- start, whatever the bits"
   abbrev pub TooLargeAt : Pool → (h n : ℕ) → Type 0
   TooLargeAt P h n = (tooLarge ≤ n) ⊎ ((p : Place) × LiveAt P (startOf h) p × (tooLarge ≤ n + (alignOf (align (p .state)) - 16)))
 
-  -- no room for a block that is not changed in place
+  -- 02 §9: in place "refuses with 11 exactly if 01's in-place conditions (or §6's) fail"
+  abbrev pub NotServed : Pool → (h n : ℕ) → Type 0
+  NotServed P h n = (p : Place) × LiveAt P (startOf h) p × (StaysInPlace p n → ⊥)
+
+  -- 02 §9: a move "can answer 8": no room for a block of its alignment
   abbrev pub NoRoomToMove : Pool → (h n : ℕ) → Type 0
-  NoRoomToMove P h n = (p : Place) × LiveAt P (startOf h) p × (StaysInPlace p n → ⊥) × NoPlace row P (classOf (n + (alignOf (align (p .state)) - 16)))
+  NoRoomToMove P h n = (p : Place) × LiveAt P (startOf h) p × NoPlace row P (classOf (n + (alignOf (align (p .state)) - 16)))
+
+  -- 3, the five, and then r
+  abbrev pub newSizeReasons : List ℕ → Pool → (h n : ℕ) → Reason → List Reason
+  newSizeReasons a P h n r = when TooLarge (TooLargeAt P h n) ∷ blockReasons a P h (r ∷ [])
 
   -- 02 §3: "Answer 17, bad proposal, exactly if the check refuses it."
   abbrev pub listReasons : Pool → (total cap places : ℕ) → List ℕ → List Reason
@@ -139,14 +149,15 @@ module _ (row : ℕ) where
 
     -- "They are tested in this order, each where it applies: grant 2, 3, 8; release and measure 2, 4, 5, 6, 7; resize all of 2 to 8;
     -- report 2." 02 §3: "Order: 2, 9, 17, 8." 02 §6: "answer 13, tested between 2 and 3"; "an enlarged size of 131,052 or more is 3", which is
-    -- n + align − 16, or n up to an alignment of 16. 02 §7: "Order: 2, 3, 4, 5, 10, 6, 7, 8"
+    -- n + align − 16, or n up to an alignment of 16. 02 §7: "Order: 2, 3, 4, 5, 10, 6, 7, 8", which 02 §9 has for a move, and for in place 11 "tested
+    -- after 7"
     abbrev pub reasons : List ℕ → F .Kept → Call → List Reason
     reasons a t setsUp = when BadArena (T (not (setUpRightBy row F a t))) ∷ []
     reasons a t (grants n) = unsoundReason a t ∷ sizeReasons (F .view t) n
     reasons a t (grantsAligned n b) = unsoundReason a t ∷ when BadAlignment (NoAlignment b) ∷ sizeReasons (F .view t) (n + (b - 16))
     reasons a t (releases h) = unsoundReason a t ∷ blockReasons a (F .view t) h []
-    reasons a t (resizes h n) =
-        unsoundReason a t ∷ when TooLarge (TooLargeAt (F .view t) h n) ∷ blockReasons a (F .view t) h (when NoRoom (NoRoomToMove (F .view t) h n) ∷ [])
+    reasons a t (resizesInPlace h n) = unsoundReason a t ∷ newSizeReasons a (F .view t) h n (when NotInPlace (NotServed (F .view t) h n))
+    reasons a t (moves h n) = unsoundReason a t ∷ newSizeReasons a (F .view t) h n (when NoRoom (NoRoomToMove (F .view t) h n))
     reasons a t (measures h) = unsoundReason a t ∷ blockReasons a (F .view t) h []
     reasons a t reports = unsoundReason a t ∷ []
     reasons a t (grantsList total cap places ns) = unsoundReason a t ∷ listReasons (F .view t) total cap places ns

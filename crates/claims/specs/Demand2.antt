@@ -16,9 +16,9 @@ use Rattle.model.specs.declared.Slot.{Slot}
 use Rattle.model.specs.declared.Slot.the-variants.{Fresh, Idle, Live}
 use Rattle.model.specs.State.{Pool, Place, group, isLive, isReady, isWaiting, count, disp, size, align, startOf, poolOf, rows, beginning, owned, start}
 use Rattle.model.specs.State.{handle}
-use Rattle.model.specs.Plans.{Call, grants, grantsAligned, releases, measures, freshPool, AllLive, NoPlace}
+use Rattle.model.specs.Plans.{Call, grants, grantsAligned, releases, resizesInPlace, measures, freshPool, AllLive, NoPlace}
 use Rattle.model.specs.Calls.{Form, callBy}
-use Rattle.claims.specs.Demand1.{NoAlignment, LiveAt, headerDue, guardDue}
+use Rattle.claims.specs.Demand1.{NoAlignment, Near, LiveAt, headerDue, guardDue}
 
 -- "Reserved is s − 4 − 16d − n."
 abbrev pub reservedOf : Place → ℕ
@@ -33,6 +33,12 @@ pub record TurnsReady (x y : Slot) : Type 0 where
 pub record Refilled (ss rs : List Slot) : Type 0 where
   pub some-ready : T (any isReady ss) → rs ≡ ss
   pub none-ready : T (every (λ x. not (isReady x)) ss) → (length rs ≡ length ss) × ((i : ℕ) → TurnsReady (getD ss i Fresh) (getD rs i Fresh))
+
+-- n bytes, which can be asked for, and which the slot of a block does not serve: "In place if n is at most s − 4 − 16d", and 02 §6: "if .. the block's
+-- class is that of the enlarged size or the next one up"
+pub record Outgrows (p : Place) (n : ℕ) : Type 0 where
+  pub small : n + (alignOf (align (p .state)) - 16) < tooLarge
+  pub fails : (slotBytes (p .cls) - 4 - 16 * disp (p .state) < n) ⊎ (Near (p .cls) (n + (alignOf (align (p .state)) - 16)) → ⊥)
 
 module _ (row : ℕ) where
   -- a live block of a pool by its present handle, whose 4 header bytes and guard bytes are those due
@@ -54,6 +60,11 @@ module _ (row : ℕ) where
     MeasuresExactly = (a : List ℕ) (t : F .Kept) (h : ℕ) → T (F .sound (length a) t)
         → ((callBy row F a t (measures h) .answer .number ≡ 0) ↔ ((p : Place) × Intact a (F .view t) h p))
         × ((p : Place) → Intact a (F .view t) h p → callBy row F a t (measures h) .answer .values ≡ size (p .state) ∷ [])
+
+    -- 02 §9: in place "refuses with 11 exactly if 01's in-place conditions (or §6's) fail, tested after 7"
+    abbrev pub InPlaceExactly : Type 0
+    InPlaceExactly = (a : List ℕ) (t : F .Kept) (h n : ℕ) → T (F .sound (length a) t)
+        → (callBy row F a t (resizesInPlace h n) .answer .number ≡ 11) ↔ ((p : Place) × Intact a (F .view t) h p × Outgrows p n)
 
     -- "A grant is refused exactly if .."
     abbrev pub GrantsExactly : Type 0

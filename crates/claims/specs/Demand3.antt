@@ -5,7 +5,7 @@
 -- they are those of document 01's model. After the list, tables and totals are the same in both and are the model's. All arena bytes outside live
 -- requested bytes are the same. Bytes that a block gained in any of the calls, by grant or growth, were zero when that call ended (a moved block
 -- gains only those past its old size)."
-use Prim.Native.Nat.{ℕ, _+_, _/_, _≤_, _<_, min}
+use Prim.Native.Nat.{ℕ, _+_, _/_, _≤_, _<_}
 use mathlib.Core.Path.{_≡_}
 use mathlib.Core.Bool.{Bool, _&&_, not}
 use mathlib.Core.Logic.{_⊎_}
@@ -15,7 +15,7 @@ use lib.ListN.{length, getD, set}
 use Rattle.mem.specs.Lists.{any}
 use Rattle.model.specs.State.{Pool, Place, isLive, size, startOf, poolOf, places, start}
 use Rattle.model.specs.Answers.{Answer, done, listed}
-use Rattle.model.specs.Plans.{Call, setsUp, grants, grantsAligned, resizes, reports, grantsList}
+use Rattle.model.specs.Plans.{Call, setsUp, grants, grantsAligned, resizesInPlace, moves, reports, grantsList}
 use Rattle.model.specs.Plans.{plan, totals, freshPool}
 use Rattle.model.specs.Tables.{arenaRight}
 use Rattle.model.specs.Calls.{Form, Stands, callBy}
@@ -89,8 +89,8 @@ module _ (row : ℕ) where
   abbrev pub ModelStands : Type 0
   ModelStands = (n : ℕ) (cs : List Call) → T (arenaRight row n) → Stands row n (model (fed n) cs .pool)
 
-  -- the bytes that a block gains in an accepted call that answers r, from the start of the handle that it gives: a moved block gains those past
-  -- its old size, and of a list each entry is a grant
+  -- the bytes that a block gains in an accepted call that answers r, from the start of the handle that it gives: in place those past its old size, by a
+  -- move those past its old size in the new place, and of a list each entry is a grant
   abbrev pub given : Answer → ℕ
   given r = startOf (getD (r .values) 0 0)
 
@@ -102,8 +102,10 @@ module _ (row : ℕ) where
   pub data Gains (P : Pool) : Call → Answer → ℕ → Type 0 where
     gains-grant : {n : ℕ} {r : Answer} {i : ℕ} → given r ≤ i → i < given r + n → Gains P (grants n) r i
     gains-aligned : {n b : ℕ} {r : Answer} {i : ℕ} → given r ≤ i → i < given r + n → Gains P (grantsAligned n b) r i
-    gains-resize : {h n : ℕ} {r : Answer} {i : ℕ} (p : Place) → LiveAt row P (startOf h) p → given r + min (size (p .state)) n ≤ i → i < given r + n
-        → Gains P (resizes h n) r i
+    gains-in-place : {h n : ℕ} {r : Answer} {i : ℕ} (p : Place) → LiveAt row P (startOf h) p → start row p + size (p .state) ≤ i → i < start row p + n
+        → Gains P (resizesInPlace h n) r i
+    gains-move : {h n : ℕ} {r : Answer} {i : ℕ} (p : Place) → LiveAt row P (startOf h) p → given r + size (p .state) ≤ i → i < given r + n
+        → Gains P (moves h n) r i
     gains-list : {total cap places : ℕ} {ns : List ℕ} {r : Answer} {i : ℕ} → GainsEach (r .lent) ns i → Gains P (grantsList total cap places ns) r i
 
   -- they are zero when the call ends

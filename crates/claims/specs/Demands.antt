@@ -16,12 +16,12 @@ use Rattle.trace.specs.Written.{ReadsBack, WritesBack}
 use Rattle.claims.specs.Tables.{TableForm}
 use Rattle.claims.specs.Bench.{TooLargeAnywhere}
 use Rattle.claims.specs.Demand1.{Demand1}
-use Rattle.claims.specs.Demand2.{ReleasesExactly, MeasuresExactly, GrantsExactly, AlignedExactly, GrantsAsSaid, AlignedAsSaid, AlignedOrdinary}
-use Rattle.claims.specs.Demand2.{NeverShared, LeavesSound}
+use Rattle.claims.specs.Demand2.{ReleasesExactly, MeasuresExactly, InPlaceExactly, GrantsExactly, AlignedExactly, GrantsAsSaid, AlignedAsSaid}
+use Rattle.claims.specs.Demand2.{AlignedOrdinary, NeverShared, LeavesSound}
 use Rattle.claims.specs.AsSaid.{ServesOrdinary, NeverAtZero, HeadersAsSaid, GuardsAsSaid, SetsUpAsSaid, ReadsOnly, ReportsAsSaid, ReleasesAsSaid}
-use Rattle.claims.specs.AsSaid.{SetsUpAsPlanned, ResizesAsSaid}
+use Rattle.claims.specs.AsSaid.{SetsUpAsPlanned, InPlaceAsSaid, MovesAsSaid}
 use Rattle.claims.specs.Soundness.{ArenasAsSaid, SetsUpExactly, SoundByRules}
-use Rattle.claims.specs.Alignment.{ResizesKeepAlignment, OthersStay}
+use Rattle.claims.specs.Alignment.{SizesKeepAlignment, OthersStay}
 use Rattle.claims.specs.Stale.{StartsCleared, CountsStep, StaleRefused}
 use Rattle.claims.specs.Demand3.{SteersNothing, StoresAdmitted, StoresOnly, ModelStands}
 use Rattle.claims.specs.Lists.{ChecksExactly, PlansAsSaid, ListsAsGrants, ListsExactly}
@@ -37,6 +37,7 @@ pub record MeetsDemands (row : ℕ) (F : Form) : Type 0 where
   -- 2: every call does what document 01 says
   pub releases-exactly : ReleasesExactly row F
   pub measures-exactly : MeasuresExactly row F
+  pub in-place-exactly : InPlaceExactly row F
   pub grants-exactly : GrantsExactly row F
   pub aligned-exactly : AlignedExactly row F
   pub sets-up-as-said : SetsUpAsSaid row F
@@ -45,7 +46,8 @@ pub record MeetsDemands (row : ℕ) (F : Form) : Type 0 where
   pub aligned-as-said : AlignedAsSaid row F
   pub aligned-ordinary : AlignedOrdinary row F
   pub releases-as-said : ReleasesAsSaid row F
-  pub resizes-as-said : ResizesAsSaid row F
+  pub in-place-as-said : InPlaceAsSaid row F
+  pub moves-as-said : MovesAsSaid row F
   pub reports-as-said : ReportsAsSaid row F
   pub reads-only : ReadsOnly row F
   pub headers-as-said : HeadersAsSaid row F
@@ -57,7 +59,7 @@ pub record MeetsDemands (row : ℕ) (F : Form) : Type 0 where
   pub lists-as-grants : ListsAsGrants row F
   pub lists-exactly : ListsExactly row F
   -- calls keep alignments, and leave the blocks that they do not name
-  pub resizes-keep-alignment : ResizesKeepAlignment row F
+  pub sizes-keep-alignment : SizesKeepAlignment row F
   pub others-stay : OthersStay row F
   -- old handles are refused, while their group stays and their slot was granted again fewer than sixteen times
   pub starts-cleared : StartsCleared row F

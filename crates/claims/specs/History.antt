@@ -9,7 +9,7 @@ use lib.ListN.{length, getD}
 use Rattle.mem.specs.Lists.{choose, sum}
 use Rattle.model.specs.declared.Totals.{Totals}
 use Rattle.model.specs.Answers.{Answer, done, listed}
-use Rattle.model.specs.Plans.{Call, setsUp, grants, grantsAligned, releases, resizes, measures, reports, grantsList}
+use Rattle.model.specs.Plans.{Call, setsUp, grants, grantsAligned, releases, resizesInPlace, moves, measures, reports, grantsList}
 use Rattle.model.specs.Calls.{Form, callBy, setUpBy, setUpRightBy}
 
 -- a call over whatever arena bytes
@@ -46,14 +46,18 @@ enteredEach l [] ns = l
 enteredEach l (v ∷ vs) [] = l
 enteredEach l (v ∷ vs) (n ∷ ns) = enteredEach (enteredGrant l v n) vs ns
 
--- the ledger after an accepted call that answered r; a resize is no grant and no release
+-- the ledger with the block of a handle under another, and with another size: no grant and no release
+abbrev pub enteredSize : Ledger → (handle new n : ℕ) → Ledger
+enteredSize l h v n = record { granted = l .granted; released = l .released; blocks = record { handle = v; size = n } ∷ without h (l .blocks) }
+
+-- the ledger after an accepted call that answered r
 abbrev pub entered : Ledger → Call → Answer → Ledger
 entered l setsUp r = opening
 entered l (grants n) r = enteredGrant l (getD (r .values) 0 0) n
 entered l (grantsAligned n b) r = enteredGrant l (getD (r .values) 0 0) n
 entered l (releases h) r = record { granted = l .granted; released = suc (l .released); blocks = without h (l .blocks) }
-entered l (resizes h n) r =
-    record { granted = l .granted; released = l .released; blocks = record { handle = getD (r .values) 0 0; size = n } ∷ without h (l .blocks) }
+entered l (resizesInPlace h n) r = enteredSize l h h n
+entered l (moves h n) r = enteredSize l h (getD (r .values) 0 0) n
 entered l (measures h) r = l
 entered l reports r = l
 entered l (grantsList total cap places ns) r = enteredEach l (r .lent) ns

@@ -1,5 +1,5 @@
--- Stale handles (02 §7): once a block is released, its old handle is refused by every later release, measure and resize as long as its group
--- stays and its slot has been granted again fewer than sixteen times, by the slot's count, which only grants step. Past that it can be
+-- Stale handles (02 §7): once a block is released, its old handle is refused by every later release, measure, resize in place and move as long
+-- as its group stays and its slot has been granted again fewer than sixteen times, by the slot's count, which only grants step. Past that it can be
 -- accepted, as the bench sheet shows: "A dropped group forgets its counts, and sixteen regrants bring the same bits back".
 use Prim.Native.Nat.{ℕ, _+_, _-_, _%_, _<_}
 use mathlib.Core.Path.{_≡_}
@@ -10,29 +10,29 @@ use lib.Dec.{T}
 use lib.ListN.{length}
 use Rattle.model.specs.declared.Slot.{Slot}
 use Rattle.model.specs.State.{Place, isLive, count, disp, startOf, poolOf, start, handle, SameSlot}
-use Rattle.model.specs.Answers.{Answer}
-use Rattle.model.specs.Plans.{Call, grants, grantsAligned, releases, resizes, measures, grantsList}
+use Rattle.model.specs.Plans.{Call, grants, grantsAligned, releases, moves, measures, grantsList}
 use Rattle.model.specs.Calls.{Form, callBy}
 use Rattle.claims.specs.Demand2.{Intact}
+use Rattle.claims.specs.Alignment.{Sizes}
 use Rattle.claims.specs.History.{Asked}
 
 -- the calls that can grant a block
 pub data Grants : Call → Type 0 where
   grants-one : {n : ℕ} → Grants (grants n)
   grants-aligned : {n b : ℕ} → Grants (grantsAligned n b)
-  grants-resized : {h n : ℕ} → Grants (resizes h n)
+  grants-moved : {h n : ℕ} → Grants (moves h n)
   grants-list : {total cap places : ℕ} {ns : List ℕ} → Grants (grantsList total cap places ns)
 
 -- the calls on a block by its handle
 pub data Uses : Call → ℕ → Type 0 where
   uses-release : {h : ℕ} → Uses (releases h) h
-  uses-resize : {h n : ℕ} → Uses (resizes h n) h
+  uses-sized : {c : Call} {h : ℕ} → Sizes c h → Uses c h
   uses-measure : {h : ℕ} → Uses (measures h) h
 
--- a call that is done ends the block of a handle: its release, or a resize that moves it, and so gives another handle
-pub data Ends : Call → ℕ → Answer → Type 0 where
-  ends-release : {h : ℕ} {r : Answer} → Ends (releases h) h r
-  ends-move : {h n : ℕ} {r : Answer} → (r .values ≡ h ∷ [] → ⊥) → Ends (resizes h n) h r
+-- the calls that end the block of a handle, where they are done: a move gives another handle
+pub data Ends : Call → ℕ → Type 0 where
+  ends-release : {h : ℕ} → Ends (releases h) h
+  ends-move : {h n : ℕ} → Ends (moves h n) h
 
 -- a slot before and after a call that does not grant it: its count and its displacement, "of its last start", are the same, and it is live only if
 -- it was
@@ -72,6 +72,6 @@ module _ (row : ℕ) (F : Form) where
   -- THE CLAIM, over every list of calls: h is the handle of a block that a call has ended; then any call that uses it is refused
   abbrev pub StaleRefused : Type 0
   StaleRefused = (a : List ℕ) (t : F .Kept) (h : ℕ) (p : Place) (ends : Call) → Intact row a (F .view t) h p
-      → callBy row F a t ends .answer .number ≡ 0 → Ends ends h (callBy row F a t ends .answer)
+      → callBy row F a t ends .answer .number ≡ 0 → Ends ends h
       → (cs : List Asked) → RemainsAll p (callBy row F a t ends .kept) cs
       → (b : List ℕ) (c : Call) → Uses c h → callBy row F b (after (callBy row F a t ends .kept) cs) c .answer .number ≡ 0 → ⊥

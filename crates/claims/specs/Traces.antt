@@ -11,9 +11,9 @@ use Rattle.mem.specs.Bytes.{zeros}
 use Rattle.classes.specs.Classes.{rowBytes}
 use Rattle.model.specs.State.{Pool}
 use Rattle.model.specs.Answers.{Answer, done}
-use Rattle.model.specs.Plans.{Plan, grants, releases, resizes, measures, reports, plan}
+use Rattle.model.specs.Plans.{Plan, grants, releases, resizesInPlace, moves, measures, reports, plan}
 use Rattle.model.specs.Calls.{KeptBytes, setUpRight}
-use Rattle.trace.specs.Trace.{Operation, grant, release, resize, measure, store, report, Item, does, items, traceRight}
+use Rattle.trace.specs.Trace.{Operation, grant, release, resizeInPlace, measure, store, report, move, Item, does, items, traceRight}
 use Rattle.trace.specs.Replay.{arenaBytes, Line, lineThen, replayedOver, replayed}
 use Rattle.claims.specs.Demand3.{fed, requested}
 
@@ -21,10 +21,11 @@ use Rattle.claims.specs.Demand3.{fed, requested}
 abbrev pub blank : Item → Item
 blank (does (grant n)) = does (grant n)
 blank (does (release h)) = does (release h)
-blank (does (resize h n)) = does (resize h n)
+blank (does (resizeInPlace h n)) = does (resizeInPlace h n)
 blank (does (measure h)) = does (measure h)
 blank (does (store o bs)) = does (store o (zeros (length bs)))
 blank (does report) = does report
+blank (does (move h n)) = does (move h n)
 blank Item.bad = Item.bad
 
 -- two traces with the same records, but for the bytes that they store
@@ -44,21 +45,23 @@ stepped p = record { tells = some (p .answer); pool = p .pool }
 abbrev pub GoesOn : ℕ → Operation → Type 0
 GoesOn n (grant k) = Unit {0}
 GoesOn n (release h) = Unit {0}
-GoesOn n (resize h k) = Unit {0}
+GoesOn n (resizeInPlace h k) = Unit {0}
 GoesOn n (measure h) = Unit {0}
 GoesOn n (store o bs) = o + length bs ≤ n
 GoesOn n report = Unit {0}
+GoesOn n (move h k) = Unit {0}
 
 module _ (row : ℕ) where
   -- in an arena of n bytes; of the bytes that are stored it is told how many they are
   unfoldable pub modelStep : ℕ → Pool → Operation → Stepped
   modelStep n P (grant k) = stepped (plan row P (grants k))
   modelStep n P (release h) = stepped (plan row P (releases h))
-  modelStep n P (resize h k) = stepped (plan row P (resizes h k))
+  modelStep n P (resizeInPlace h k) = stepped (plan row P (resizesInPlace h k))
   modelStep n P (measure h) = stepped (plan row P (measures h))
   modelStep n P (store o bs) =
       choose (leb (o + length bs) n) (record { tells = some (done (0 ∷ [])); pool = P }) (record { tells = none; pool = P })
   modelStep n P report = stepped (plan row P reports)
+  modelStep n P (move h k) = stepped (plan row P (moves h k))
 
   -- the model's lines, the first for record i
   unfoldable pub modelLines : ℕ → Pool → ℕ → List Item → List Line
@@ -70,10 +73,11 @@ module _ (row : ℕ) where
   abbrev pub StoresRequested : Pool → Operation → Type 0
   StoresRequested P (grant k) = Unit {0}
   StoresRequested P (release h) = Unit {0}
-  StoresRequested P (resize h k) = Unit {0}
+  StoresRequested P (resizeInPlace h k) = Unit {0}
   StoresRequested P (measure h) = Unit {0}
   StoresRequested P (store o bs) = (i : ℕ) → o ≤ i → i < o + length bs → T (requested row P i)
   StoresRequested P report = Unit {0}
+  StoresRequested P (move h k) = Unit {0}
 
   -- and so are those of every store of a trace. A store that ends past the arena stores nothing and ends the trace, so nothing is asked of it, nor
   -- of what stands behind it
