@@ -55,18 +55,18 @@ static size_t grant_list(size_t length, size_t cap, const size_t *sizes, size_t 
     return entries;
 }
 
-/* Gives a block that the driver has mapped another size; gives its handle from then on. */
+/* Gives a block that the driver has mapped another size, if that can be done; its handle from then on. */
 static size_t resize_mapped(size_t handle, size_t n)
 {
     size_t value;
     uint32_t answer = slotpool_resize_in_place(POOL, handle, n, &value);
     printf("resize %zu to %zu in place: %s\n", handle, n, name(answer));
-    if (answer != SLOTPOOL_NOT_IN_PLACE)
-        return value;
-    /* here the driver tears the mapping down, before the block moves, and makes it anew after */
-    answer = slotpool_move(POOL, handle, n, &value);
-    printf("move %zu to %zu bytes: %s, %zu\n", handle, n, name(answer), value);
-    return value;
+    if (answer == SLOTPOOL_NOT_IN_PLACE) {
+        /* the mapping is torn down here, before the block moves, and made anew after, where the block is then */
+        answer = slotpool_move(POOL, handle, n, &value);
+        printf("move %zu, %zu bytes: %s, %zu\n", handle, n, name(answer), value);
+    }
+    return answer == SLOTPOOL_DONE ? value : handle;
 }
 
 int main(void)

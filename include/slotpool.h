@@ -38,7 +38,7 @@ enum {
     SLOTPOOL_NO_ROOM = 8,        /* no slot of the class, and no run of free rows for a new group */
     SLOTPOOL_TOO_LONG = 9,       /* lists: over 17 times the cap, a cap outside 1 to 131,051, or `handles` of fewer than 17 places */
     SLOTPOOL_STALE = 10,         /* a live block's start, but the handle is not the block's present one */
-    SLOTPOOL_NOT_IN_PLACE = 11,  /* resize in place only: the block has no room for the size, or its class is not for it */
+    SLOTPOOL_NOT_IN_PLACE = 11,  /* resize in place only: the slot has too few bytes from the start on, or is not of a class for the size */
     SLOTPOOL_BAD_ALIGNMENT = 13, /* an alignment that is no power of two from 1 to 4,096 */
     SLOTPOOL_BAD_PROPOSAL = 17   /* a list whose proposal the check refuses */
 };

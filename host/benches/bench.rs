@@ -128,13 +128,15 @@ fn full(grants: usize, round: fn(&mut Reference) -> Vec<Op>) -> Vec<Op> {
     }
 }
 
-fn grant_release(pool: &mut Reference) -> Vec<Op> {
+/// A round of a grant and its release.
+fn granted_and_released(pool: &mut Reference) -> Vec<Op> {
     let block = pool.grant(160).unwrap();
     pool.release(block).unwrap();
     vec![Op::Grant(160), Op::Release(block as u32)]
 }
 
-fn every_call(pool: &mut Reference) -> Vec<Op> {
+/// A round of all calls on a block, and a store.
+fn all_on_a_block(pool: &mut Reference) -> Vec<Op> {
     let block = pool.grant(160).unwrap();
     pool.resize_in_place(block, 150).unwrap();
     let moved = pool.move_block(block, 160).unwrap();
@@ -153,9 +155,9 @@ fn replays() {
     println!("\nreplay of full traces, records per second: median of {RUNS} runs (least to most)");
     println!("{:<34} {:>8} {:>34} {:>34}", "trace", "records", "program, from its start to its end", "second, in this process");
     for (name, ops) in [
-        ("grants and releases of 160 bytes", full(1, grant_release)),
+        ("grants and releases of 160 bytes", full(1, granted_and_released)),
         ("reports over a half full pool", full(42, |_| vec![Op::Report])),
-        ("stores of 160 bytes among calls", full(1, every_call)),
+        ("stores of 160 bytes among calls", full(1, all_on_a_block)),
     ] {
         let trace = trace::write(&ops);
         let due = replay(&trace);

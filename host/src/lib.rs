@@ -293,9 +293,9 @@ macro_rules! calls {
                 answer(call!(mut self $record $engine::release(handle)), ())
             }
 
-            /// Gives a block the size `n` where it is, and its handle, which stays the same. Refused with [`Refusal::NotInPlace`] if `n` bytes
-            /// are more than its slot has from its start on, or its slot's class is neither that of a grant of `n` bytes with the block's
-            /// alignment nor the next one up; see [`Self::move_block`].
+            /// Gives a block the size `n` where it is; its handle, which is given back, stays the same. Refused with [`Refusal::NotInPlace`]
+            /// if `n` bytes are more than its slot has from its start on, or its slot's class is neither that of a grant of `n` bytes with
+            /// the block's alignment nor the next one up; see [`Self::move_block`].
             pub fn resize_in_place(&mut self, handle: Handle, n: usize) -> Result<Handle, Refusal> {
                 let mut value = Handle::default();
                 let number = call!(mut self $record $engine::resize_in_place(handle, n, &mut value));

@@ -64,7 +64,7 @@ fn alignment(numbers: &mut Numbers, arena_len: usize) -> usize {
 
 /// A size near that which is too large, at or near an edge, or any; by itself or, as often, once it is enlarged for an alignment.
 fn aligned_size(numbers: &mut Numbers, arena_len: usize, align: usize) -> usize {
-    let n = if numbers.one_in(8) { TOO_LARGE - 2 + numbers.below(5) } else { size(numbers, arena_len) };
+    let n = if numbers.one_in(6) { TOO_LARGE - 2 + numbers.below(5) } else { size(numbers, arena_len) };
     if numbers.one_in(2) {
         n
     } else {
@@ -132,7 +132,7 @@ pub fn next_call(numbers: &mut Numbers, both: &Both, engine: Engine) -> Call {
         63..=80 => {
             let h = handle(numbers, both);
             let old = live.iter().find(|b| start_of(b.0) == start_of(h)).map_or(0, |b| b.1);
-            let n = match numbers.below(4) {
+            let n = match numbers.below(5) {
                 0 => old,
                 1 => (old + numbers.below(40)).saturating_sub(20),
                 2 => old / 2 + numbers.below(old + 1),
