@@ -38,7 +38,7 @@ fn w1_and_w2() {
 
 #[test]
 fn w3() {
-    due(&mut fresh(512), [(Grant(13), Refused(Refusal::NoRoom))]);
+    due(&mut fresh(512), [(Grant(13), NO_ROOM)]);
 }
 
 #[test]
@@ -50,7 +50,7 @@ fn w4() {
 
 #[test]
 fn w5() {
-    due(&mut fresh(130_560), [(Grant(131_051), Refused(Refusal::NoRoom))]);
+    due(&mut fresh(130_560), [(Grant(131_051), NO_ROOM)]);
 }
 
 #[test]
@@ -349,7 +349,7 @@ fn a_list_whose_last_entry_has_no_room() {
     for i in 0..21 {
         due(&mut both, [(Grant(160), Value(16 + 192 * i))]);
     }
-    due(&mut both, [(Release(16), Done), (list(373, 200, [160, 13, 200], 17), Refused(Refusal::NoRoom))]);
+    due(&mut both, [(Release(16), Done), (list(373, 200, [160, 13, 200], 17), NO_ROOM)]);
     due(&mut both, [(list(173, 200, [160, 13], 17), Value(2))]);
     assert_eq!(both.lent[0][..2], [33, 4112]);
 }
@@ -364,7 +364,7 @@ fn lists_that_are_too_long() {
 fn bad_proposals() {
     let lists = [list(18, 2, [1; 18], 17), list(1, 1, [1, 0], 17), list(13, 12, [13], 17), list(14, 14, [13], 17)];
     due(&mut fresh(512), lists.map(|list| (list, Refused(Refusal::BadProposal))));
-    due(&mut fresh(512), [(list(13, 13, [13], 17), Refused(Refusal::NoRoom))]);
+    due(&mut fresh(512), [(list(13, 13, [13], 17), NO_ROOM)]);
 }
 
 #[test]
@@ -384,7 +384,7 @@ fn alignments_up_to_16_and_none() {
     let none = [(1, 0), (1, 3), (1, 48), (1, 8192), (131_052, 4095)];
     due(&mut both, none.map(|(n, align)| (GrantAligned(n, align), Refused(Refusal::BadAlignment))));
     for (n, align) in [(131_052, 16), (131_036, 32), (126_972, 4096)] {
-        due(&mut both, [(GrantAligned(n, align), Refused(Refusal::TooLarge)), (GrantAligned(n - 1, align), Refused(Refusal::NoRoom))]);
+        due(&mut both, [(GrantAligned(n, align), Refused(Refusal::TooLarge)), (GrantAligned(n - 1, align), NO_ROOM)]);
     }
 }
 
