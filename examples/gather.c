@@ -1,5 +1,5 @@
-/* Grants a packet as one gather list and a ring of descriptors on a boundary, shows what the pool refuses, and prints a map of the arena's
- * rows. */
+/* Grants a packet as one gather list and a ring of descriptors on a boundary, lets a mapped buffer grow, shows what the pool refuses, and
+ * prints a map of the arena's rows. */
 #include <stdalign.h>
 #include <stdio.h>
 #include <stdlib.h>
@@ -21,7 +21,7 @@ static slotpool_totals totals;
 static const char *name(uint32_t answer)
 {
     static const char *const names[] = {"done", "bad arena", "unsound", "too large", "no such block",
-                                        "already free", "header damaged", "overrun", "no room", "list too long", "stale",
+                                        "already free", "header damaged", "overrun", "no room", "list too long", "stale", "not in place",
                                         [SLOTPOOL_BAD_ALIGNMENT] = "bad alignment", [SLOTPOOL_BAD_PROPOSAL] = "bad proposal"};
     return names[answer];
 }
@@ -55,6 +55,20 @@ static size_t grant_list(size_t length, size_t cap, const size_t *sizes, size_t 
     return entries;
 }
 
+/* Gives a block that the driver has mapped another size, if that can be done; its handle from then on. */
+static size_t resize_mapped(size_t handle, size_t n)
+{
+    size_t value;
+    uint32_t answer = slotpool_resize_in_place(POOL, handle, n, &value);
+    printf("resize %zu to %zu in place: %s\n", handle, n, name(answer));
+    if (answer == SLOTPOOL_NOT_IN_PLACE) {
+        /* the mapping is torn down here, before the block moves, and made anew after, where the block is then */
+        answer = slotpool_move(POOL, handle, n, &value);
+        printf("move %zu, %zu bytes: %s, %zu\n", handle, n, name(answer), value);
+    }
+    return answer == SLOTPOOL_DONE ? value : handle;
+}
+
 int main(void)
 {
     room_len = slotpool_room_len(ARENA);
@@ -86,8 +100,7 @@ int main(void)
     printf("release %zu with one byte written past its end: %s\n", list[1], name(slotpool_release(POOL, list[1])));
     arena[past] = kept;
 
-    printf("resize %zu to 188: %s", list[0], name(slotpool_resize(POOL, list[0], 188, &value)));
-    printf(", %zu\n", value);
+    printf("resize %zu to 188 in place: %s\n", list[0], name(slotpool_resize_in_place(POOL, list[0], 188, &value)));
     printf("release %zu: %s\n", list[1], name(slotpool_release(POOL, list[1])));
     printf("release %zu again: %s\n", list[1], name(slotpool_release(POOL, list[1])));
     printf("release %zu: %s\n", list[1] + 16, name(slotpool_release(POOL, list[1] + 16)));
@@ -102,6 +115,17 @@ int main(void)
     printf(", %zu\n", value);
     if ((uintptr_t)(arena + slotpool_start(value)) % 64 != 0)
         return 1;
+    map();
+
+    /* a mapped buffer of 80 bytes: its slot of 96 holds 92, and for 160 it moves to a slot of 192 */
+    size_t buffer;
+    if (slotpool_grant(POOL, 80, &buffer) != SLOTPOOL_DONE)
+        return 1;
+    memset(arena + slotpool_start(buffer), 'm', 80);
+    buffer = resize_mapped(buffer, 92);
+    buffer = resize_mapped(buffer, 160);
+    const uint8_t *bytes = arena + slotpool_start(buffer);
+    printf("its bytes 0 and 79 are %c and %c, and byte 80, which it gained, is %d\n", bytes[0], bytes[79], bytes[80]);
     map();
 
     /* a flipped bit in the tables: block 16 has 156 bytes for 188, which its slot may hold. The tables are sound by themselves, and without the

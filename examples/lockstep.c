@@ -65,22 +65,22 @@ static void set_up(void)
     end("set up", one, other);
 }
 
+/* Makes a call that gives a value on both pools, and gives it: the body of the functions that follow. */
+#define BOTH(name, ...)                                                        \
+    struct answer one, other;                                                  \
+    begin();                                                                   \
+    one.number = slotpool_##name(FIRST, __VA_ARGS__, &one.value);              \
+    other.number = slotpool_plain_##name(MONITOR, __VA_ARGS__, &other.value);  \
+    return end(call, one, other)
+
 static size_t grant(const char *call, size_t n)
 {
-    struct answer one, other;
-    begin();
-    one.number = slotpool_grant(FIRST, n, &one.value);
-    other.number = slotpool_plain_grant(MONITOR, n, &other.value);
-    return end(call, one, other);
+    BOTH(grant, n);
 }
 
 static size_t grant_aligned(const char *call, size_t n, size_t align)
 {
-    struct answer one, other;
-    begin();
-    one.number = slotpool_grant_aligned(FIRST, n, align, &one.value);
-    other.number = slotpool_plain_grant_aligned(MONITOR, n, align, &other.value);
-    return end(call, one, other);
+    BOTH(grant_aligned, n, align);
 }
 
 /* The handles go to two lists, which are compared as well. */
@@ -103,22 +103,19 @@ static void release(const char *call, size_t handle)
     end(call, one, other);
 }
 
-static size_t resize(const char *call, size_t handle, size_t n)
+static size_t resize_in_place(const char *call, size_t handle, size_t n)
 {
-    struct answer one, other;
-    begin();
-    one.number = slotpool_resize(FIRST, handle, n, &one.value);
-    other.number = slotpool_plain_resize(MONITOR, handle, n, &other.value);
-    return end(call, one, other);
+    BOTH(resize_in_place, handle, n);
 }
 
-static void measure(const char *call, size_t handle)
+static size_t move(const char *call, size_t handle, size_t n)
 {
-    struct answer one, other;
-    begin();
-    one.number = slotpool_measure(FIRST, handle, &one.value);
-    other.number = slotpool_plain_measure(MONITOR, handle, &other.value);
-    end(call, one, other);
+    BOTH(move, handle, n);
+}
+
+static size_t measure(const char *call, size_t handle)
+{
+    BOTH(measure, handle);
 }
 
 /* The first engine gives its record, the monitor counts. */
@@ -156,10 +153,15 @@ int main(void)
     grant_list("list of 18, at most 1 each", 18, 1, sizes, planned, list);
     report();
 
-    /* in place, and by a move */
-    packet = resize("resize the packet to 188", packet, 188);
-    packet = resize("resize the packet to 189", packet, 189);
+    /* the packet has room for 188 bytes where it is, and moves for more; the ring keeps its boundary */
+    packet = resize_in_place("resize the packet in place to 188", packet, 188);
+    resize_in_place("resize the packet in place to 189", packet, 189);
+    packet = move("move the packet, 189 bytes", packet, 189);
     measure("measure the packet", packet);
+    ring = move("move the ring, 128 bytes again", ring, 128);
+    if ((uintptr_t)(first.arena + slotpool_start(ring)) % 64 != 0)
+        return 1;
+    move("move the ring, 16000 bytes", ring, 16000);
 
     /* a store into the guard of the list's first entry, the last of 28 spare bytes, and one into its header; then both as they were */
     uint8_t *guard = first.arena + slotpool_start(list[0]) + 160 + 27, *header = first.arena + slotpool_start(list[0]) - 1;
@@ -167,7 +169,8 @@ int main(void)
     release("release an entry, guard damaged", list[0]);
     *header ^= 1;
     release("release it, header damaged, too", list[0]);
-    resize("resize it", list[0], 100);
+    resize_in_place("resize it in place to 100", list[0], 100);
+    move("move it, 100 bytes", list[0], 100);
     *guard ^= 1;
     *header ^= 1;
     release("release it, mended", list[0]);

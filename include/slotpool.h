@@ -38,6 +38,7 @@ enum {
     SLOTPOOL_NO_ROOM = 8,        /* no slot of the class, and no run of free rows for a new group */
     SLOTPOOL_TOO_LONG = 9,       /* lists: over 17 times the cap, a cap outside 1 to 131,051, or `handles` of fewer than 17 places */
     SLOTPOOL_STALE = 10,         /* a live block's start, but the handle is not the block's present one */
+    SLOTPOOL_NOT_IN_PLACE = 11,  /* resize in place only: the slot has too few bytes from the start on, or is not of a class for the size */
     SLOTPOOL_BAD_ALIGNMENT = 13, /* an alignment that is no power of two from 1 to 4,096 */
     SLOTPOOL_BAD_PROPOSAL = 17   /* a list whose proposal the check refuses */
 };
@@ -74,17 +75,25 @@ uint32_t slotpool_grant(uint8_t *arena, size_t arena_len, uint8_t *room, size_t 
 
 /* Grants a block of n bytes, all zero, that starts at a multiple of align, counted from the arena's first byte: its address is such a
  * multiple only if the arena's is. *value is its handle. align is a power of two from 1 to 4,096. Up to 16 this is a grant of n. From 32 on
- * the slot is taken for a size of n + align - 16, and a resize keeps the alignment. Answers 0, 2, 13, 3 or 8, refusals in this order. */
+ * the slot is taken for a size of n + align - 16, and the block keeps the alignment when it is resized or moved. Answers 0, 2, 13, 3 or 8,
+ * refusals in this order. */
 uint32_t slotpool_grant_aligned(uint8_t *arena, size_t arena_len, uint8_t *room, size_t room_len, slotpool_totals *totals, size_t n,
                                 size_t align, size_t *value);
 
 /* Takes a block back and clears it. Answers 0, 2, 4, 5, 10, 6 or 7, refusals in this order. */
 uint32_t slotpool_release(uint8_t *arena, size_t arena_len, uint8_t *room, size_t room_len, slotpool_totals *totals, size_t handle);
 
-/* Gives a block the size n, where it is or elsewhere; *value is its handle from then on, which is the same where it stays. Bytes it gains are
- * zero. Answers 0, 2, 3, 4, 5, 10, 6, 7 or 8, refusals in this order. */
-uint32_t slotpool_resize(uint8_t *arena, size_t arena_len, uint8_t *room, size_t room_len, slotpool_totals *totals, size_t handle,
-                         size_t n, size_t *value);
+/* Gives a block the size n where it is; *value is its handle, which stays the same. Bytes it gains are zero. That can be done if its slot has
+ * n bytes from its start on, and is of the class that a grant of n bytes with its alignment would take, or of the next one up; else the
+ * answer is 11. Answers 0, 2, 3, 4, 5, 10, 6, 7 or 11, refusals in this order. */
+uint32_t slotpool_resize_in_place(uint8_t *arena, size_t arena_len, uint8_t *room, size_t room_len, slotpool_totals *totals, size_t handle,
+                                  size_t n, size_t *value);
+
+/* Gives a block the size n elsewhere, even where it could stay: a block with its alignment is granted while it is live, the bytes that both
+ * have are copied, and it is released. *value is the handle from then on. Bytes it gains are zero. Answers 0, 2, 3, 4, 5, 10, 6, 7 or 8,
+ * refusals in this order. */
+uint32_t slotpool_move(uint8_t *arena, size_t arena_len, uint8_t *room, size_t room_len, slotpool_totals *totals, size_t handle, size_t n,
+                       size_t *value);
 
 /* *value is the size of a block. Answers 0, 2, 4, 5, 10, 6 or 7, refusals in this order. */
 uint32_t slotpool_measure(const uint8_t *arena, size_t arena_len, const uint8_t *room, size_t room_len, const slotpool_totals *totals,

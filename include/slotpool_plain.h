@@ -33,9 +33,14 @@ uint32_t slotpool_plain_grant_aligned(uint8_t *arena, size_t arena_len, uint8_t 
 /* Takes a block back and clears it. Answers 0, 2, 4, 5, 10, 6 or 7, refusals in this order. */
 uint32_t slotpool_plain_release(uint8_t *arena, size_t arena_len, uint8_t *room, size_t room_len, size_t handle);
 
-/* Gives a block the size n, where it is or elsewhere; *value is its handle from then on. Bytes it gains are zero. Answers 0, 2, 3, 4, 5,
- * 10, 6, 7 or 8, refusals in this order. */
-uint32_t slotpool_plain_resize(uint8_t *arena, size_t arena_len, uint8_t *room, size_t room_len, size_t handle, size_t n, size_t *value);
+/* Gives a block the size n where it is; *value is its handle, which stays the same. Bytes it gains are zero. Answers 0, 2, 3, 4, 5, 10, 6, 7
+ * or 11, refusals in this order. */
+uint32_t slotpool_plain_resize_in_place(uint8_t *arena, size_t arena_len, uint8_t *room, size_t room_len, size_t handle, size_t n,
+                                        size_t *value);
+
+/* Gives a block the size n elsewhere, even where it could stay; *value is its handle from then on. Bytes it gains are zero. Answers 0, 2, 3,
+ * 4, 5, 10, 6, 7 or 8, refusals in this order. */
+uint32_t slotpool_plain_move(uint8_t *arena, size_t arena_len, uint8_t *room, size_t room_len, size_t handle, size_t n, size_t *value);
 
 /* *value is the size of a block. Answers 0, 2, 4, 5, 10, 6 or 7, refusals in this order. */
 uint32_t slotpool_plain_measure(const uint8_t *arena, size_t arena_len, const uint8_t *room, size_t room_len, size_t handle,

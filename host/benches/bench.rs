@@ -110,8 +110,8 @@ fn program(trace: &[u8]) -> Vec<u8> {
     program::run(&mut Command::new(PROGRAM), &[trace]).stdout
 }
 
-/// A full trace: grants of 160 bytes, then as many rounds as there is room for. A round is told the handle that a grant of 160 bytes would give.
-fn full(grants: usize, round: fn(u32) -> Vec<Op>) -> Vec<Op> {
+/// A full trace: grants of 160 bytes, then as many rounds as there is room for. A round makes its calls on a pool, which tells the handles.
+fn full(grants: usize, round: fn(&mut Reference) -> Vec<Op>) -> Vec<Op> {
     let mut pool = Reference::set_up(16_384);
     let mut ops = vec![Op::Grant(160); grants];
     for _ in &ops {
@@ -119,15 +119,31 @@ fn full(grants: usize, round: fn(u32) -> Vec<Op>) -> Vec<Op> {
     }
     let mut len = trace::write(&ops).len();
     loop {
-        let handle = pool.grant(160).unwrap();
-        pool.release(handle).unwrap();
-        let more = round(handle as u32);
+        let more = round(&mut pool);
         len += trace::write(&more).len() - 1;
         if len > trace::MOST {
             return ops;
         }
         ops.extend(more);
     }
+}
+
+/// A round of a grant and its release.
+fn granted_and_released(pool: &mut Reference) -> Vec<Op> {
+    let block = pool.grant(160).unwrap();
+    pool.release(block).unwrap();
+    vec![Op::Grant(160), Op::Release(block as u32)]
+}
+
+/// A round of all calls on a block, and a store.
+fn all_on_a_block(pool: &mut Reference) -> Vec<Op> {
+    let block = pool.grant(160).unwrap();
+    pool.resize_in_place(block, 150).unwrap();
+    let moved = pool.move_block(block, 160).unwrap();
+    pool.release(moved).unwrap();
+    let (start, block, moved) = (start_of(block) as u32, block as u32, moved as u32);
+    let stored = Op::Store(start, vec![7; 160]);
+    vec![Op::Grant(160), stored, Op::Measure(block), Op::InPlace(block, 150), Op::Move(block, 160), Op::Release(moved)]
 }
 
 /// Times the replay program, started anew for each trace, beside the second implementation's replay in this process.
@@ -139,15 +155,9 @@ fn replays() {
     println!("\nreplay of full traces, records per second: median of {RUNS} runs (least to most)");
     println!("{:<34} {:>8} {:>34} {:>34}", "trace", "records", "program, from its start to its end", "second, in this process");
     for (name, ops) in [
-        ("grants and releases of 160 bytes", full(1, |block| vec![Op::Grant(160), Op::Release(block)])),
+        ("grants and releases of 160 bytes", full(1, granted_and_released)),
         ("reports over a half full pool", full(42, |_| vec![Op::Report])),
-        (
-            "stores of 160 bytes among calls",
-            full(1, |block| {
-                let start = start_of(block as usize) as u32;
-                vec![Op::Grant(160), Op::Store(start, vec![7; 160]), Op::Measure(block), Op::Resize(block, 150), Op::Release(block)]
-            }),
-        ),
+        ("stores of 160 bytes among calls", full(1, all_on_a_block)),
     ] {
         let trace = trace::write(&ops);
         let due = replay(&trace);
@@ -161,7 +171,7 @@ fn replays() {
         println!("{name:<34} {:>8} {:>34} {:>34}", ops.len(), per_second(one), per_second(other));
     }
     let (start, other, _) =
-        time_beside(10, || drop(black_box(program(&[1]))), || drop(black_box(program::run(&mut Command::new("true"), &[]).stdout)));
+        time_beside(10, || drop(black_box(program(&trace::write(&[])))), || drop(black_box(program::run(&mut Command::new("true"), &[]).stdout)));
     println!("nanoseconds of a run with no record, the program's start: {}; of a run of true: {}", show(&start).trim(), show(&other).trim());
 }
 

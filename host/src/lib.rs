@@ -30,6 +30,18 @@
 //! let ring = pool.grant_aligned(128, 64).unwrap().start();
 //! assert_eq!((ring, pool.arena()[ring..].as_ptr().addr() % 64), (448, 0));
 //!
+//! // a buffer that a driver has mapped: it grows where it is as far as its slot goes, and beyond that the driver itself has it moved
+//! let buffer = pool.grant(160).unwrap();
+//! assert_eq!(pool.resize_in_place(buffer, 188), Ok(buffer));
+//! let grown = match pool.resize_in_place(buffer, 300) {
+//!     Err(slotpool::Refusal::NotInPlace) => {
+//!         // the mapping is torn down before the block moves, and made anew where it is then
+//!         pool.move_block(buffer, 300)
+//!     }
+//!     in_place => in_place,
+//! };
+//! assert_eq!((buffer.start(), grown.unwrap().start()), (592, 7184));
+//!
 //! // two blocks fill a group, so the next one has the slot of one that was released: the old handle is refused
 //! let old = pool.grant(2028).unwrap();
 //! pool.grant(2028).unwrap();
@@ -56,12 +68,13 @@ pub enum Refusal {
     NoRoom = 8,
     TooLong = 9,
     Stale = 10,
+    NotInPlace = 11,
     BadAlignment = 13,
     BadProposal = 17,
 }
 
 /// Each refusal with its name.
-const REFUSALS: [(Refusal, &str); 12] = [
+const REFUSALS: [(Refusal, &str); 13] = [
     (Refusal::BadArena, "bad arena"),
     (Refusal::Unsound, "unsound"),
     (Refusal::TooLarge, "too large"),
@@ -72,6 +85,7 @@ const REFUSALS: [(Refusal, &str); 12] = [
     (Refusal::NoRoom, "no room"),
     (Refusal::TooLong, "list too long"),
     (Refusal::Stale, "stale"),
+    (Refusal::NotInPlace, "not in place"),
     (Refusal::BadAlignment, "bad alignment"),
     (Refusal::BadProposal, "bad proposal"),
 ];
@@ -127,11 +141,15 @@ impl Handle {
 }
 
 mod sys {
-    /// Declares a call on a pool. It begins with what the pool is lent, to be changed or only read: arena, room and, if there is one, the record.
+    /// Declares a call on a pool, by its name in C or under another. It begins with what the pool is lent, to be changed or only read: arena,
+    /// room and, if there is one, the record.
     macro_rules! on_pool {
-        ($prefix:literal [$($record:ident)?] $access:tt $name:ident($($argument:ident: $type:ty),*)) => {
+        ($prefix:literal $record:tt $access:tt $name:ident $arguments:tt) => {
+            on_pool!($prefix $record $access $name as $name $arguments);
+        };
+        ($prefix:literal [$($record:ident)?] $access:tt $in_c:ident as $name:ident($($argument:ident: $type:ty),*)) => {
             extern "C" {
-                #[link_name = concat!($prefix, stringify!($name))]
+                #[link_name = concat!($prefix, stringify!($in_c))]
                 pub fn $name(
                     arena: *$access u8,
                     arena_len: usize,
@@ -154,7 +172,8 @@ mod sys {
                 on_pool!($prefix $record mut grant(n: usize, value: *mut Handle));
                 on_pool!($prefix $record mut grant_aligned(n: usize, align: usize, value: *mut Handle));
                 on_pool!($prefix $record mut release(handle: Handle));
-                on_pool!($prefix $record mut resize(handle: Handle, n: usize, value: *mut Handle));
+                on_pool!($prefix $record mut resize_in_place(handle: Handle, n: usize, value: *mut Handle));
+                on_pool!($prefix $record mut move as move_block(handle: Handle, n: usize, value: *mut Handle));
                 on_pool!($prefix $record const measure(handle: Handle, value: *mut usize));
                 on_pool!($prefix $record const report(out: *mut Totals));
                 on_pool!($prefix $record mut grant_list(
@@ -243,8 +262,8 @@ macro_rules! calls {
 
             /// Grants a block of `n` zero bytes that starts at a multiple of `align`, a power of two from 1 to 4,096, counted from the arena's
             /// first byte: its address is such a multiple only if the arena's is. Up to 16 this is [`Self::grant`]; from 32 on the block takes
-            /// the slot of one of `n + align - 16` bytes, and keeps the alignment when it is resized. Refused with [`Refusal::BadAlignment`]
-            /// for any other `align`.
+            /// the slot of one of `n + align - 16` bytes, and keeps the alignment when it is resized or moved. Refused with
+            /// [`Refusal::BadAlignment`] for any other `align`.
             pub fn grant_aligned(&mut self, n: usize, align: usize) -> Result<Handle, Refusal> {
                 let mut value = Handle::default();
                 let number = call!(mut self $record $engine::grant_aligned(n, align, &mut value));
@@ -274,11 +293,21 @@ macro_rules! calls {
                 answer(call!(mut self $record $engine::release(handle)), ())
             }
 
-            /// Gives a block another size, and gives its handle from then on, the same if it stays where it is. An aligned block stays
-            /// aligned.
-            pub fn resize(&mut self, handle: Handle, n: usize) -> Result<Handle, Refusal> {
+            /// Gives a block the size `n` where it is; its handle, which is given back, stays the same. Refused with [`Refusal::NotInPlace`]
+            /// if `n` bytes are more than its slot has from its start on, or its slot's class is neither that of a grant of `n` bytes with
+            /// the block's alignment nor the next one up; see [`Self::move_block`].
+            pub fn resize_in_place(&mut self, handle: Handle, n: usize) -> Result<Handle, Refusal> {
                 let mut value = Handle::default();
-                let number = call!(mut self $record $engine::resize(handle, n, &mut value));
+                let number = call!(mut self $record $engine::resize_in_place(handle, n, &mut value));
+                answer(number, value)
+            }
+
+            /// Gives a block the size `n` elsewhere, even where [`Self::resize_in_place`] would do, and gives its handle from then on: a
+            /// block with its alignment is granted, the bytes that both have are copied, and the old block is released. Refused with
+            /// [`Refusal::NoRoom`] if that grant is, while the old block is live.
+            pub fn move_block(&mut self, handle: Handle, n: usize) -> Result<Handle, Refusal> {
+                let mut value = Handle::default();
+                let number = call!(mut self $record $engine::move_block(handle, n, &mut value));
                 answer(number, value)
             }
 

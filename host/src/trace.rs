@@ -1,10 +1,10 @@
 //! Field traces: calls on a pool and stores into its arena, as the bytes that the replay program reads and as lines for people.
 //!
-//! Bytes: a version, 1, then records. A record has its length first, two bytes that count what follows: the operation's number, its
+//! Bytes: a version, 2, then records. A record has its length first, two bytes that count what follows: the operation's number, its
 //! four-byte numbers and, in a store, the bytes to be stored. All numbers are big-endian.
 //!
-//! Lines: the operation's word, its numbers in decimal and, in a store, the bytes as pairs of hex digits. Blank lines are skipped, and
-//! so is what follows a `#`.
+//! Lines: the operation's word, its numbers in decimal and, in a store, the bytes as pairs of hex digits. The word of a resize in place is
+//! `resize`. Blank lines are skipped, and so is what follows a `#`.
 //!
 //! ```
 //! use slotpool::trace::{parse, read, text, write, Op};
@@ -12,14 +12,14 @@
 //! let ops = parse("grant 160  # a packet\nstore 16 00ff07\n").unwrap();
 //! assert_eq!(ops, [Op::Grant(160), Op::Store(16, vec![0, 255, 7])]);
 //! let trace = write(&ops);
-//! assert_eq!(trace, [1, 0, 5, 1, 0, 0, 0, 160, 0, 8, 5, 0, 0, 0, 16, 0, 255, 7]);
+//! assert_eq!(trace, [2, 0, 5, 1, 0, 0, 0, 160, 0, 8, 5, 0, 0, 0, 16, 0, 255, 7]);
 //! assert_eq!(read(&trace), (ops.clone(), None));
 //! assert_eq!(text(&ops), "grant 160\nstore 16 00ff07\n");
 //! ```
 
 use std::{error, fmt};
 
-const VERSION: u8 = 1;
+const VERSION: u8 = 2;
 
 /// The most bytes of a trace. A record's two bytes of length count as far.
 pub const MOST: usize = 65_535;
@@ -34,13 +34,15 @@ pub enum Op {
     Grant(u32),
     /// A handle.
     Release(u32),
-    /// A handle and the new size.
-    Resize(u32, u32),
+    /// A handle and the new size, which the block is to have where it is.
+    InPlace(u32, u32),
     /// A handle.
     Measure(u32),
     /// A place in the arena and the bytes that go there.
     Store(u32, Vec<u8>),
     Report,
+    /// A handle and the new size, which the block is to have elsewhere.
+    Move(u32, u32),
 }
 
 /// How an operation is written.
@@ -53,13 +55,14 @@ struct Kind {
 }
 
 /// The operations in the order of their numbers, from 1.
-const KINDS: [Kind; 6] = [
+const KINDS: [Kind; 7] = [
     Kind { word: "grant", numbers: &["SIZE"], bytes: false },
     Kind { word: "release", numbers: &["HANDLE"], bytes: false },
     Kind { word: "resize", numbers: &["HANDLE", "SIZE"], bytes: false },
     Kind { word: "measure", numbers: &["HANDLE"], bytes: false },
     Kind { word: "store", numbers: &["OFFSET"], bytes: true },
     Kind { word: "report", numbers: &[], bytes: false },
+    Kind { word: "move", numbers: &["HANDLE", "SIZE"], bytes: false },
 ];
 
 impl Kind {
@@ -91,10 +94,11 @@ impl Op {
         match *self {
             Op::Grant(n) => (1, vec![n], &[]),
             Op::Release(handle) => (2, vec![handle], &[]),
-            Op::Resize(handle, n) => (3, vec![handle, n], &[]),
+            Op::InPlace(handle, n) => (3, vec![handle, n], &[]),
             Op::Measure(handle) => (4, vec![handle], &[]),
             Op::Store(offset, ref bytes) => (5, vec![offset], bytes),
             Op::Report => (6, vec![], &[]),
+            Op::Move(handle, n) => (7, vec![handle, n], &[]),
         }
     }
 
@@ -103,10 +107,11 @@ impl Op {
         match (operation, numbers, bytes) {
             (1, &[n], []) => Some(Op::Grant(n)),
             (2, &[handle], []) => Some(Op::Release(handle)),
-            (3, &[handle, n], []) => Some(Op::Resize(handle, n)),
+            (3, &[handle, n], []) => Some(Op::InPlace(handle, n)),
             (4, &[handle], []) => Some(Op::Measure(handle)),
             (5, &[offset], bytes) => Some(Op::Store(offset, bytes.to_vec())),
             (6, [], []) => Some(Op::Report),
+            (7, &[handle, n], []) => Some(Op::Move(handle, n)),
             _ => None,
         }
     }

@@ -1,5 +1,5 @@
-//! Aligned blocks, beside the second implementation: which numbers are alignments, where the blocks start, what a resize keeps, and which
-//! alignments the tables may hold.
+//! Aligned blocks, beside the second implementation: which numbers are alignments, where the blocks start, what they keep in place and by a move,
+//! and which alignments the tables may hold.
 
 mod any;
 mod common;
@@ -11,14 +11,14 @@ mod sample;
 
 use any::{calls_on, over_any, refused, set_up_over, Judged};
 use common::Answer::{Done, Refused, Value};
-use common::Call::{self, Grant, GrantAligned, Measure, Release, Resize, Store};
-use common::{Both, Buffers};
+use common::Call::{self, Grant, GrantAligned, InPlace, Measure, Move, Release, Store};
+use common::{resizes, Both, Buffers};
 use due::due;
 use forged::over_each;
 use places::{marked, places, with_slot, Place};
 use random::{all_seen, kind, next_call, Numbers, Seen, UNDAMAGED};
 use sample::{no_store, sample, OLD};
-use slotpool::Refusal::{AlreadyFree, BadAlignment, HeaderDamaged, NoRoom, NoSuchBlock, Overrun, Stale, TooLarge, Unsound};
+use slotpool::Refusal::{self, AlreadyFree, BadAlignment, HeaderDamaged, NoRoom, NoSuchBlock, NotInPlace, Overrun, Stale, TooLarge, Unsound};
 use slotpool_reference::{class_of, rows_of, slot_bytes, slots_of, start_of, Group, Reference, Slot, State, Tables, ALIGNMENTS, ORDINARY, TOO_LARGE};
 
 /// Alignments that every start has.
@@ -153,81 +153,91 @@ fn the_count_steps_and_displaces_nothing() {
 #[test]
 fn the_tables_keep_the_alignment_of_a_live_block() {
     for (code, align) in (1..).zip(ALIGNMENTS) {
-        // the first bytes of the records of the first two slots
-        let first = |both: &Both| [both.first.room[32], both.first.room[40]];
+        // the first bytes of the records of the first three slots
+        let first = |both: &Both| [both.first.room[32], both.first.room[40], both.first.room[48]];
         let both = &mut Both::new(16_384, OLD);
         due(both, [(GrantAligned(0, align), Value(align))]);
-        assert_eq!(first(both), [code, 0], "alignment {align}");
-        due(both, [(Resize(align, 1), Value(align)), (Resize(align, 0), Value(align))]);
-        assert_eq!(first(both), [code, 0], "alignment {align}, after a resize");
+        assert_eq!(first(both), [code, 0, 0], "alignment {align}");
+        due(both, [(InPlace(align, 1), Value(align)), (InPlace(align, 0), Value(align))]);
+        assert_eq!(first(both), [code, 0, 0], "alignment {align}, after resizes in place");
         if slots_of(class_of(align - 16)) == 1 {
             continue;
         }
         both.call(GrantAligned(0, align)).unwrap();
-        assert_eq!(first(both), [code, code], "alignment {align}, two blocks");
+        assert_eq!(first(both), [code, code, 0], "alignment {align}, two blocks");
         due(both, [(Release(align), Done), (Release(align), Refused(AlreadyFree))]);
-        assert_eq!(first(both), [1, code], "alignment {align}, after a release");
+        assert_eq!(first(both), [1, code, 0], "alignment {align}, after a release");
+        // the second slot's block moves to the third, or to the first if there are two
+        let (handle, _) = both.second.live()[0];
+        both.call(Move(handle, 0)).unwrap();
+        let moved = if slots_of(class_of(align - 16)) > 2 { [1, 1, code] } else { [code, 1, 0] };
+        assert_eq!(first(both), moved, "alignment {align}, after a move");
     }
 }
 
 #[test]
-fn a_resize_in_place() {
+fn an_aligned_block_in_place() {
     // a slot of 48 bytes that begins at 64: 29 bytes would fit, but with the alignment they are of the next class
     let both = &mut Both::new(4096, OLD);
     due(both, [(GrantAligned(28, 32), Value(32)), (GrantAligned(28, 32), Value(64))]);
-    due(both, [13, 28, 12, 0, 28].map(|n| (Resize(64, n), Value(64))));
-    due(both, [(Store(64, 7), Done), (Store(91, 9), Done), (Resize(64, 29), Value(1568))]);
+    due(both, [13, 28, 12, 0, 28].map(|n| (InPlace(64, n), Value(64))));
+    due(both, [(Store(64, 7), Done), (Store(91, 9), Done), (InPlace(64, 29), Refused(NotInPlace)), (Move(64, 29), Value(1568))]);
     assert_eq!((both.first.arena[1568], both.first.arena[1595], both.first.arena[1596]), (7, 9, 0));
     // an ordinary block stays, up to what the slot holds
-    due(both, [(Grant(44), Value(112)), (Resize(112, 13), Value(112)), (Resize(112, 29), Value(112)), (Resize(112, 44), Value(112))]);
+    due(both, [(Grant(44), Value(112)), (InPlace(112, 13), Value(112)), (InPlace(112, 29), Value(112)), (InPlace(112, 44), Value(112))]);
+    due(both, [(InPlace(112, 45), Refused(NotInPlace))]);
 }
 
 #[test]
-fn a_resize_that_moves() {
+fn a_move_keeps_the_boundary() {
     // a slot of 80 bytes, from which 29 bytes are one class down, and 28 two
     let both = &mut Both::new(8192, OLD);
-    due(both, [(GrantAligned(60, 32), Value(32)), (Resize(32, 29), Value(32)), (Resize(32, 28), Value(2592))]);
+    due(both, [(GrantAligned(60, 32), Value(32)), (InPlace(32, 29), Value(32)), (InPlace(32, 28), Refused(NotInPlace)), (Move(32, 28), Value(2592))]);
     due(both, [(Measure(32), Refused(NoSuchBlock)), (Measure(2592), Value(28))]);
     // it is aligned still, and so are those that it is moved to
-    due(both, [(Resize(2592, 29), Value(32)), (Resize(32, 61), Value(2080))]);
+    due(both, [(Move(2592, 29), Value(32)), (Move(32, 61), Value(2080))]);
+    // to the same size it moves from slot to slot, here of 96 bytes from 2,064 on
+    due(both, [(Move(2080, 61), Value(2176)), (Move(2176, 61), Value(2272))]);
     // no rows for the other class
-    due(&mut Both::new(2560, OLD), [(GrantAligned(60, 32), Value(32)), (Resize(32, 28), Refused(NoRoom)), (Resize(32, 61), Refused(NoRoom))]);
+    due(&mut Both::new(2560, OLD), [(GrantAligned(60, 32), Value(32)), (Move(32, 28), Refused(NoRoom)), (Move(32, 61), Refused(NoRoom))]);
 }
 
 #[test]
-fn a_resize_that_is_too_large() {
+fn a_new_size_that_is_too_large() {
     // blocks in slots of 80 bytes: an aligned one at 64, which is released, and at 128, with 16 bytes to spare, and an ordinary one at 176
     let both = &mut Both::new(4096, OLD);
     due(both, [(GrantAligned(28, 64), Value(64)), (GrantAligned(28, 64), Value(128)), (Grant(61), Value(176)), (Release(64), Done)]);
-    let due_at = |both: &mut Both, handle, limit, otherwise| {
+    // what is due of each call below the limit
+    let due_at = |both: &mut Both, handle, limit, otherwise: [Refusal; 2]| {
         for n in [TOO_LARGE - 49, TOO_LARGE - 48, TOO_LARGE - 1, TOO_LARGE, usize::MAX - 47, usize::MAX] {
-            due(both, [(Resize(handle, n), Refused(if n < limit { otherwise } else { TooLarge }))]);
+            let calls = resizes(handle, n).into_iter().zip(otherwise);
+            due(both, calls.map(|(call, otherwise)| (call, Refused(if n < limit { otherwise } else { TooLarge }))));
         }
     };
     // at the start of the live aligned block the enlarged size counts, whether the handle is its present one or not, and it is damaged or not
-    due_at(both, 128, TOO_LARGE - 48, NoRoom);
+    due_at(both, 128, TOO_LARGE - 48, [NotInPlace, NoRoom]);
     for handle in 129..144 {
-        due_at(both, handle, TOO_LARGE - 48, Stale);
+        due_at(both, handle, TOO_LARGE - 48, [Stale; 2]);
     }
     due(both, [(Store(124, 1), Done)]);
-    due_at(both, 128, TOO_LARGE - 48, HeaderDamaged);
+    due_at(both, 128, TOO_LARGE - 48, [HeaderDamaged; 2]);
     due(both, [(Store(124, 0), Done), (Store(156, 1), Done)]);
-    due_at(both, 128, TOO_LARGE - 48, Overrun);
-    due_at(both, 129, TOO_LARGE - 48, Stale);
+    due_at(both, 128, TOO_LARGE - 48, [Overrun; 2]);
+    due_at(both, 129, TOO_LARGE - 48, [Stale; 2]);
     // at any other start the size itself does
-    due_at(both, 64, TOO_LARGE, AlreadyFree);
-    due_at(both, 79, TOO_LARGE, AlreadyFree);
-    due_at(both, 176, TOO_LARGE, NoRoom);
-    due_at(both, 177, TOO_LARGE, Stale);
+    due_at(both, 64, TOO_LARGE, [AlreadyFree; 2]);
+    due_at(both, 79, TOO_LARGE, [AlreadyFree; 2]);
+    due_at(both, 176, TOO_LARGE, [NotInPlace, NoRoom]);
+    due_at(both, 177, TOO_LARGE, [Stale; 2]);
     for handle in [0, 32, 127, 144, 4096, usize::MAX] {
-        due_at(both, handle, TOO_LARGE, NoSuchBlock);
+        due_at(both, handle, TOO_LARGE, [NoSuchBlock; 2]);
     }
 }
 
-/// Calls about a block, with those sizes for a resize that tell alignments apart.
+/// Calls about a block, with those new sizes that tell alignments apart.
 fn calls_about((handle, n): (usize, usize)) -> Vec<Call> {
     let sizes = [n, n + 1, n + 16, TOO_LARGE - 16, TOO_LARGE - 4080];
-    calls_on((handle, n)).into_iter().chain(sizes.map(|n| Resize(handle, n))).chain([GrantAligned(n, 64)]).collect()
+    calls_on((handle, n)).into_iter().chain(sizes.into_iter().flat_map(|n| resizes(handle, n))).chain([GrantAligned(n, 64)]).collect()
 }
 
 /// A pool over tables that no calls have made.
@@ -320,10 +330,10 @@ fn any_multiple_is_sound() {
         let start = 16 + 16 * d;
         let mut forged = forge(&both, &with_slot(&both.second.tables(), place, Slot { last: Some(d), ..place.slot }));
         if over_each(&forged, &calls_about((start, 2000)), format_args!("displacement {d}")) {
-            // what fits is in place, and a byte more moves to the lowest multiple of another slot
+            // what fits is in place, a byte more is not, and moves to the lowest multiple of another slot
             let most = 2332 - 16 * d;
-            due(&mut forged, [(Measure(start), Value(2000)), (Resize(start, most), Value(start)), (Resize(start, most + 1), Value(2624))]);
-            due(&mut forged, [(Measure(2624), Value(most + 1)), (Release(2624), Done)]);
+            due(&mut forged, [(Measure(start), Value(2000)), (InPlace(start, most), Value(start)), (InPlace(start, most + 1), Refused(NotInPlace))]);
+            due(&mut forged, [(Move(start, most + 1), Value(2624)), (Measure(2624), Value(most + 1)), (Release(2624), Done)]);
             starts.push(start);
         }
     }
@@ -402,20 +412,21 @@ fn aligned(pool: &Reference) -> Vec<Place> {
     places(&pool.groups).into_iter().filter(|place| place.is_live() && place.slot.align > ORDINARY).collect()
 }
 
-/// A resize of a live aligned block, to a size near one where it begins or ceases to be in place.
+/// A live aligned block resized in place or moved, to a size near one where it begins or ceases to fit.
 fn at_an_edge(numbers: &mut Numbers, both: &Both) -> Option<Call> {
     let blocks = aligned(&both.second);
     let place = blocks.get(numbers.below(blocks.len().max(1)))?;
     let of_class = |class| slot_bytes(class) - 4 - (place.slot.align - 16).min(slot_bytes(class) - 4);
     let edges =
         [place.end() - place.start(), of_class(place.class), of_class(place.class.saturating_sub(1)), of_class(place.class.saturating_sub(2))];
-    Some(Resize(place.handle(), (numbers.of(&edges) + numbers.below(4)).saturating_sub(1)))
+    let n = (numbers.of(&edges) + numbers.below(4)).saturating_sub(1);
+    Some(numbers.of(&resizes(place.handle(), n)))
 }
 
 #[test]
 fn random_calls_on_blocks_at_any_multiple() {
     let (mut seen, mut later) = (Seen::new(), 0);
-    // resizes of aligned blocks that fit with a class too low, and that do not with the right one
+    // aligned blocks that were not resized in place: one that fits with a class too low, and one that does not with the right one
     let (mut upwards, mut beyond) = (0, 0);
     for seed in 1..=300 {
         let mut numbers = Numbers::new(seed);
@@ -424,14 +435,14 @@ fn random_calls_on_blocks_at_any_multiple() {
         for _ in 0..150 {
             let call = if numbers.one_in(4) { at_an_edge(&mut numbers, &both) } else { None };
             let call = call.unwrap_or_else(|| next_call(&mut numbers, &both, no_store));
-            let before = if let Resize(handle, _) = call { aligned(&both.second).into_iter().find(|place| place.handle() == handle) } else { None };
+            let before = if let InPlace(handle, _) = call { live_at(&both.second, handle) } else { None };
             let answer = both.call(call).unwrap_or_else(|why| panic!("seed {seed}: {why}"));
             *seen.entry(kind(call, &answer, &both)).or_default() += 1;
-            if let (Resize(handle, n), Some(place), Value(after)) = (call, before, answer) {
+            if let (InPlace(handle, n), Some(place), false) = (call, before, answer == Refused(TooLarge)) {
                 let (fits, serves) = (place.start() + n <= place.end(), serves(place.class, n, place.slot.align));
-                assert_eq!(after == handle, fits && serves, "seed {seed}: {call:?}");
+                assert_eq!(answer, if fits && serves { Value(handle) } else { Refused(NotInPlace) }, "seed {seed}: {call:?}");
                 upwards += usize::from(fits && !serves && place.class < class_of(n + place.slot.align - 16));
-                beyond += usize::from(!fits && serves);
+                beyond += usize::from(!fits && serves && place.slot.align > ORDINARY);
             }
             if let (GrantAligned(_, align), Value(handle)) = (call, answer) {
                 assert_eq!(start_of(handle) % align, 0, "seed {seed}: {call:?}");
@@ -439,7 +450,7 @@ fn random_calls_on_blocks_at_any_multiple() {
             assert!(aligned(&both.second).iter().all(|place| place.start() % place.slot.align == 0), "seed {seed}: after {call:?}");
         }
     }
-    println!("{later} blocks at a later multiple; {upwards} resizes left a slot that has room, {beyond} one of the right class: {seen:?}");
+    println!("{later} blocks at a later multiple; not in place: {upwards} in slots that have room, {beyond} in those of the right class: {seen:?}");
     assert!(later > 0 && upwards > 0 && beyond > 0);
     all_seen(&seen, UNDAMAGED.into_iter().chain(["set up 0"]));
 }

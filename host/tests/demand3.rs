@@ -61,7 +61,7 @@ impl Run {
             (Call::GrantList(list), Answer::Value(_)) => {
                 list.sizes().iter().zip(self.both.lent[0]).map(|(&n, handle)| requested(handle, 0, n)).collect()
             }
-            (Call::Resize(before, n), Answer::Value(handle)) => {
+            (Call::InPlace(before, n) | Call::Move(before, n), Answer::Value(handle)) => {
                 let old = live.iter().find(|b| b.0 == before).map_or(0, |b| b.1);
                 vec![requested(handle, old.min(n), n)]
             }

@@ -4,6 +4,7 @@
 mod any;
 mod changed;
 mod common;
+mod damaged;
 mod due;
 mod fewer;
 mod places;
@@ -15,6 +16,7 @@ use changed::{any_room, every_byte};
 use common::Answer::{Done, Value};
 use common::Call::{Grant, GrantAligned, Release, Store};
 use common::{Both, Buffers, Call};
+use damaged::DAMAGED;
 use due::due;
 use fewer::fail;
 use places::{marked, places, with_slot};
@@ -104,8 +106,7 @@ fn any_stores_between_calls() {
         }
     }
     println!("{made} calls in {seed} pools: {seen:?}\n{stored} bytes stored; the first of each run was {parts:?}");
-    let damaged = ["release 6", "release 7", "resize 6", "resize 7", "aligned resize 6", "aligned resize 7", "measure 6", "measure 7"];
-    all_seen(&seen, UNDAMAGED.into_iter().chain(damaged).chain(["set up 0"]));
+    all_seen(&seen, UNDAMAGED.into_iter().chain(DAMAGED).chain(["set up 0"]));
     all_seen(&parts, PARTS);
 }
 

@@ -13,9 +13,9 @@ const CAPS: [usize; 14] = [1, 2, 3, 12, 13, 160, 4095, 65_536, 131_050, 131_051,
 
 #[test]
 fn refusals_have_names() {
-    let refusals = [Refusal::BadArena, Refusal::NoRoom, Refusal::TooLong, Refusal::Stale, Refusal::BadAlignment, Refusal::BadProposal];
-    let names = refusals.map(|refusal| refusal.to_string());
-    assert_eq!(names, ["bad arena", "no room", "list too long", "stale", "bad alignment", "bad proposal"]);
+    use Refusal::{BadAlignment, BadArena, BadProposal, NoRoom, NotInPlace, Stale, TooLong};
+    let names = [BadArena, NoRoom, TooLong, Stale, NotInPlace, BadAlignment, BadProposal].map(|refusal| refusal.to_string());
+    assert_eq!(names, ["bad arena", "no room", "list too long", "stale", "not in place", "bad alignment", "bad proposal"]);
 }
 
 /// Checks a proposal in both implementations: whether it is accepted.

@@ -34,7 +34,7 @@ fn list(cap: usize, sizes: &[usize]) -> Call {
 
 /// Pools of 512 to 4,096 bytes. The first slots of a class of s bytes start at 16, 16 + s, ...
 fn pools() -> Vec<Both> {
-    use Call::{Grant, GrantAligned, Release, Resize};
+    use Call::{Grant, GrantAligned, InPlace, Move, Release};
     let mut pools = vec![
         after(512, []),
         // class 0, sizes 0 to 12: every third block released, some of them granted again after a refill, and others released
@@ -54,20 +54,23 @@ fn pools() -> Vec<Both> {
             times(31, Grant(0)).chain((0..255).flat_map(|k| [Release(32 + k % 16), Grant(0)])).chain([Release(16), Release(32 + 15), Grant(0)]),
         ),
         // class 1: blocks resized to no bytes, one waiting; and, of a full group, some ready again
-        after(1024, times(5, Grant(20)).chain([Resize(16, 0), Resize(48, 0), Release(80), Grant(28)])),
-        after(1024, times(31, Grant(13)).chain([Release(16), Release(48), Release(80), Grant(28), Resize(112, 0)])),
+        after(1024, times(5, Grant(20)).chain([InPlace(16, 0), InPlace(48, 0), Release(80), Grant(28)])),
+        after(1024, times(31, Grant(13)).chain([Release(16), Release(48), Release(80), Grant(28), InPlace(112, 0)])),
         // mixed classes
         after(4096, [5, 20, 40, 0, 12, 28, 33, 13].map(Grant)),
         after(4096, [Grant(3200), Grant(3), Grant(0), Release(3600)]),
         // class 10: a full group, refilled; blocks displaced, and one shrunk and one grown in place
         after(
             4096,
-            times(21, Grant(160)).chain([16, 592, 784].map(Release)).chain([Grant(160), Grant(157), Resize(33, 141), Resize(208, 188), Release(976)]),
+            times(21, Grant(160)).chain([16, 592, 784].map(Release)).chain([Grant(160), Grant(157), InPlace(33, 141), InPlace(208, 188), Release(976)]),
         ),
-        // resizes by a move: the first leaves its group, the second ends it
-        after(4096, [Grant(40), Grant(40), Resize(16, 50), Resize(64, 52), Grant(60), Resize(1616, 20)]),
+        // moves: the first leaves its group, the second ends it, and the last stays in it
+        after(4096, [Grant(40), Grant(40), Move(16, 50), Move(64, 52), Grant(60), Move(1616, 20), Move(1552, 50)]),
         // aligned blocks of classes 1, 2 and 9, some released, one resized, and one whose size allows for other alignments
-        after(4096, times(4, GrantAligned(12, 32)).chain([Release(64), Resize(96, 0), GrantAligned(28, 32), GrantAligned(28, 32), Resize(1088, 13)])),
+        after(
+            4096,
+            times(4, GrantAligned(12, 32)).chain([Release(64), InPlace(96, 0), GrantAligned(28, 32), GrantAligned(28, 32), InPlace(1088, 13)]),
+        ),
         after(4096, times(3, GrantAligned(100, 64)).chain([Release(192), Grant(150), GrantAligned(44, 128)])),
         after(4096, [GrantAligned(2000, 64), GrantAligned(28, 32)]),
         // lists, the last with a refill in its midst

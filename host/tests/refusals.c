@@ -14,12 +14,14 @@
 #define RECORD , &pool.record.totals
 #endif
 
-enum call { SET_UP, GRANT, RELEASE, RESIZE, MEASURE, REPORT, GRANT_ALIGNED, GRANT_LIST, PLAN_LIST };
+enum call { SET_UP, GRANT, RELEASE, RESIZE_IN_PLACE, MOVE, MEASURE, REPORT, GRANT_ALIGNED, GRANT_LIST, PLAN_LIST };
 
-static const char *const names[] = {"set up", "grant", "release", "resize", "measure", "report", "grant aligned", "grant list", "plan list"};
+static const char *const names[] = {"set up", "grant", "release", "resize in place", "move", "measure", "report", "grant aligned",
+                                    "grant list", "plan list"};
 
 /* The numbers that each call on blocks can refuse with, in the order in which they are tested; 0 ends them. */
-static const uint8_t refusals[][9] = {{1}, {2, 3, 8}, {2, 4, 5, 10, 6, 7}, {2, 3, 4, 5, 10, 6, 7, 8}, {2, 4, 5, 10, 6, 7}, {2}};
+static const uint8_t refusals[][9] = {
+    {1}, {2, 3, 8}, {2, 4, 5, 10, 6, 7}, {2, 3, 4, 5, 10, 6, 7, 11}, {2, 3, 4, 5, 10, 6, 7, 8}, {2, 4, 5, 10, 6, 7}, {2}};
 
 /* The pool: one group holds all rows, with a freed block and a live one. Each is the second of its slot: it starts 16 bytes after the slot's
  * beginning, and the low bits of its handle are 1. The live one's guard is the 5 bytes before END. */
@@ -130,13 +132,18 @@ static enum call call;
 static uint32_t due, behind;
 
 /* Why 2 is due: by the tables, or, where there is a record, by a number of it that is one too large, or one too small. With which low bits 4, 5
- * or 10 is. */
+ * or 10 is. By which size 11 is. */
 static unsigned cause;
 #ifdef PLAIN
 enum { BY_TABLES, CAUSES, BITS = 16 };
 #else
 enum { BY_TABLES, CAUSES = 1 + 6 + 6, BITS = 16 };
 #endif
+
+/* Sizes that the live block does not get in place: a byte more than its slot has from its start on, a byte more than the slot has, and the most of
+ * the second class below. */
+static const size_t unfit[] = {MOST - 15, MOST + 1, 140};
+enum { UNFIT = sizeof unfit / sizeof *unfit };
 
 static void check(int holds, int line, const char *what)
 {
@@ -218,6 +225,9 @@ static void spoil(uint32_t refusal)
     case SLOTPOOL_NO_ROOM:
         n = MOST + 1;
         break;
+    case SLOTPOOL_NOT_IN_PLACE:
+        n = unfit[cause % UNFIT];
+        break;
     }
 }
 
@@ -234,8 +244,11 @@ static size_t make(uint32_t *answer)
     case RELEASE:
         *answer = ON_POOL(release)(LENT, handle);
         return 0;
-    case RESIZE:
-        *answer = ON_POOL(resize)(LENT, handle, n, VALUE);
+    case RESIZE_IN_PLACE:
+        *answer = ON_POOL(resize_in_place)(LENT, handle, n, VALUE);
+        return 1;
+    case MOVE:
+        *answer = ON_POOL(move)(LENT, handle, n, VALUE);
         return 1;
     case MEASURE:
         *answer = ON_POOL(measure)(LENT, handle, VALUE);
@@ -282,6 +295,8 @@ static unsigned causes(void)
         return BITS;
     case SLOTPOOL_STALE:
         return BITS - 1;
+    case SLOTPOOL_NOT_IN_PLACE:
+        return UNFIT;
     default:
         return 1;
     }

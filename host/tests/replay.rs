@@ -1,10 +1,12 @@
 //! The replay program beside the second implementation's replay: what they print of a trace is compared byte for byte.
 
 mod common;
+mod damaged;
 mod program;
 mod random;
 
 use common::{Answer, Both, Call};
+use damaged::DAMAGED;
 use program::run;
 use random::{all_seen, block, kind, next_call, Numbers, Seen, UNDAMAGED};
 use slotpool::trace::{parse, read, replayable, text, write, Op, ARENA, MOST};
@@ -86,7 +88,8 @@ fn records(call: Call, answer: Answer) -> Vec<Op> {
         (Call::Grant(n), _) => vec![Op::Grant(n as u32)],
         (Call::GrantList(list), Answer::Value(_)) => list.sizes().iter().map(|&n| Op::Grant(n as u32)).collect(),
         (Call::Release(handle), _) => vec![Op::Release(handle as u32)],
-        (Call::Resize(handle, n), _) => vec![Op::Resize(handle as u32, n as u32)],
+        (Call::InPlace(handle, n), _) => vec![Op::InPlace(handle as u32, n as u32)],
+        (Call::Move(handle, n), _) => vec![Op::Move(handle as u32, n as u32)],
         (Call::Measure(handle), _) => vec![Op::Measure(handle as u32)],
         (Call::Report, _) => vec![Op::Report],
         (Call::SetUp | Call::GrantAligned(..) | Call::GrantList(_) | Call::Store(..), _) => Vec::new(),
@@ -140,8 +143,7 @@ fn two_thousand_random_traces() {
         assert_eq!(read(&trace), (ops, None), "seed {seed}");
     }
     println!("{records} records: {seen:?}");
-    let undamaged = UNDAMAGED.into_iter().filter(|kind| !kind.contains("aligned"));
-    all_seen(&seen, undamaged.chain(["store", "release 6", "release 7", "resize 6", "resize 7", "measure 6", "measure 7"]));
+    all_seen(&seen, UNDAMAGED.into_iter().chain(DAMAGED).filter(|kind| !kind.contains("aligned")).chain(["store"]));
 }
 
 #[test]
@@ -161,7 +163,7 @@ fn random_traces_with_bytes_changed() {
 }
 
 /// Records with every operation and every answer, and what is printed of each.
-const EVERY: [(&str, &str); 23] = [
+const EVERY: [(&str, &str); 29] = [
     ("grant 160", "0 16"),
     ("grant 160", "0 208"),
     ("store 16 00ff07", "0 0"),
@@ -177,13 +179,19 @@ const EVERY: [(&str, &str); 23] = [
     ("measure 208", "7 0"),
     ("store 368 00", "0 0"),
     ("resize 209 189", "10 0"),
+    ("move 209 189", "10 0"),
     ("release 16", "0 0"),
     ("release 16", "5 0"),
     ("resize 17 0", "5 0"),
+    ("move 17 0", "5 0"),
     ("resize 15 0", "4 0"),
+    ("move 15 131052", "3 0"),
     ("grant 131052", "3 0"),
     ("grant 20000", "8 0"),
-    ("resize 208 189", "0 4112"),
+    ("move 208 20000", "8 0"),
+    ("resize 208 189", "11 0"),
+    ("measure 208", "0 160"),
+    ("move 208 189", "0 4112"),
     ("report", "0 1 189 8 24 16 0"),
 ];
 
@@ -222,7 +230,7 @@ fn pieces_make_a_trace() {
 fn every_version() {
     assert_eq!(prints(&[]), "bad 0\n");
     for version in 0..=255 {
-        let is_right = version == 1;
+        let is_right = version == 2;
         assert_eq!(prints(&[version]), if is_right { "" } else { "bad 0\n" }, "version {version}");
         assert_eq!(prints(&[version, 0, 5, 1, 0, 0, 0, 0]), if is_right { "0 16\n" } else { "bad 0\n" }, "version {version}");
     }
@@ -233,15 +241,19 @@ fn every_operation_in_bytes() {
     let grant = [0, 5, 1, 0, 0, 0, 160];
     let report = [0, 1, 6];
     let store = [0, 7, 5, 0, 0, 0, 16, 7, 9];
-    let resize = [0, 9, 3, 0, 0, 0, 16, 0, 0, 0, 188];
+    let in_place = [0, 9, 3, 0, 0, 0, 16, 0, 0, 0, 188];
+    let not_in_place = [0, 9, 3, 0, 0, 0, 16, 0, 0, 0, 189];
+    let moves = [0, 9, 7, 0, 0, 0, 16, 0, 0, 0, 189];
     let measure = [0, 5, 4, 0, 0, 0, 16];
     let release = [0, 5, 2, 0, 0, 0, 16];
     let (no_room, too_large) = ([0, 5, 1, 0, 1, 255, 235], [0, 5, 1, 0, 1, 255, 236]);
-    let trace = [&[1][..], &grant, &report, &store, &resize, &measure, &release, &no_room, &too_large].concat();
-    assert_eq!(prints(&trace), "0 16\n0 1 160 8 24 20 0\n0 0\n0 16\n0 188\n0 0\n8 0\n3 0\n");
+    let trace = [&[2][..], &grant, &report, &store, &in_place, &not_in_place, &measure, &release, &no_room, &too_large].concat();
+    assert_eq!(prints(&trace), "0 16\n0 1 160 8 24 20 0\n0 0\n0 16\n11 0\n0 188\n0 0\n8 0\n3 0\n");
+    let trace = [&[2][..], &grant, &moves, &measure].concat();
+    assert_eq!(prints(&trace), "0 16\n0 4112\n4 0\n");
     // a store over a header, and then back as it was
     let (spoils, mends) = ([0, 7, 5, 0, 0, 0, 12, 0, 1], [0, 7, 5, 0, 0, 0, 12, 0, 160]);
-    let trace = [&[1][..], &grant, &spoils, &measure, &mends, &measure].concat();
+    let trace = [&[2][..], &grant, &spoils, &measure, &mends, &measure].concat();
     assert_eq!(prints(&trace), "0 16\n0 0\n6 0\n0 0\n0 160\n");
 }
 
@@ -255,7 +267,7 @@ fn every_operation_with_every_length() {
         let trace = [&write(&[Op::Grant(160)])[..], &(length as u16).to_be_bytes(), &record, &[0, 1, 6]].concat();
         let right = match operation {
             1 | 2 | 4 => length == 5,
-            3 => length == 9,
+            3 | 7 => length == 9,
             5 => length >= 5 && 16 + length - 5 <= ARENA,
             6 => length == 1,
             _ => false,

@@ -7,16 +7,23 @@ mod forged;
 
 use any::{calls_on, refused, set_up_over};
 use common::Answer::{self, Done, Refused, Value};
-use common::Call::{self, Grant, GrantAligned, Measure, Release, Report, Resize, SetUp, Store};
-use common::{lent, Both, Buffers, List, Record};
+use common::Call::{self, Grant, GrantAligned, InPlace, Measure, Move, Release, Report, SetUp, Store};
+use common::{lent, resizes, Both, Buffers, List, Record};
 use due::due;
 use forged::over_each;
 use slotpool::{check_list, plan_list, room_len, PlainPool, Refusal, Totals, ENTRIES};
 
 const OVERRUN: Answer = Refused(Refusal::Overrun);
+const NOT_IN_PLACE: Answer = Refused(Refusal::NotInPlace);
+const NO_ROOM: Answer = Refused(Refusal::NoRoom);
 
 fn fresh(arena_len: usize) -> Both {
     Both::new(arena_len, 9)
+}
+
+/// Both calls that give a block another size, with the same refusal.
+fn neither(handle: usize, n: usize, why: Refusal) -> [(Call, Answer); 2] {
+    resizes(handle, n).map(|call| (call, Refused(why)))
 }
 
 #[test]
@@ -31,7 +38,7 @@ fn w1_and_w2() {
 
 #[test]
 fn w3() {
-    due(&mut fresh(512), [(Grant(13), Refused(Refusal::NoRoom))]);
+    due(&mut fresh(512), [(Grant(13), NO_ROOM)]);
 }
 
 #[test]
@@ -43,7 +50,7 @@ fn w4() {
 
 #[test]
 fn w5() {
-    due(&mut fresh(130_560), [(Grant(131_051), Refused(Refusal::NoRoom))]);
+    due(&mut fresh(130_560), [(Grant(131_051), NO_ROOM)]);
 }
 
 #[test]
@@ -64,7 +71,9 @@ fn w7_granted() -> Both {
 fn w7_and_its_stores() {
     due(&mut w7_granted(), [(Release(16), Done), (Grant(160), Value(400))]);
     for at in [176, 199] {
-        due(&mut w7_granted(), [(Store(at, 1), Done), (Measure(16), OVERRUN), (Resize(16, 188), OVERRUN), (Release(16), OVERRUN)]);
+        let mut both = w7_granted();
+        due(&mut both, [(Store(at, 1), Done), (Measure(16), OVERRUN), (Release(16), OVERRUN)]);
+        due(&mut both, neither(16, 188, Refusal::Overrun));
     }
     due(&mut w7_granted(), [(Store(198, 1), Done), (Release(16), Done)]);
 }
@@ -89,13 +98,15 @@ fn one_byte_past_a_block() {
 
 #[test]
 fn the_start_is_compared_where_no_bytes_were_asked_for() {
-    due(&mut fresh(512), [(Grant(0), Value(16)), (Store(16, 1), Done), (Measure(16), OVERRUN), (Resize(16, 1), OVERRUN), (Release(16), OVERRUN)]);
+    let mut both = fresh(512);
+    due(&mut both, [(Grant(0), Value(16)), (Store(16, 1), Done), (Measure(16), OVERRUN), (Release(16), OVERRUN)]);
+    due(&mut both, neither(16, 1, Refusal::Overrun));
 }
 
 #[test]
 fn the_compared_byte_moves_with_the_size() {
     let mut both = fresh(4096);
-    due(&mut both, [(Grant(160), Value(16)), (Resize(16, 141), Value(16)), (Store(157, 1), Done), (Measure(16), OVERRUN)]);
+    due(&mut both, [(Grant(160), Value(16)), (InPlace(16, 141), Value(16)), (Store(157, 1), Done), (Measure(16), OVERRUN)]);
     due(&mut both, [(Store(157, 0), Done), (Store(176, 1), Done), (Measure(16), Value(141))]);
 }
 
@@ -126,8 +137,9 @@ fn w8_and_w9() {
     assert_eq!(both.first.arena[28..32], [0, 160, 1, 0]);
     assert_eq!(both.first.arena[200..204], [12, 0, 0, 0]);
     due(&mut both, [(Release(32), Refused(Refusal::Stale)), (Release(16), Refused(Refusal::NoSuchBlock))]);
-    // it is displaced by one unit, so 172 bytes fit, and 173 do not
-    due(&mut both, [(Resize(33, 172), Value(33)), (Resize(33, 173), Refused(Refusal::NoRoom)), (Release(33), Done)]);
+    // it is displaced by one unit, so 172 bytes fit, and 173 do not; and no slot is left for a move
+    due(&mut both, [(InPlace(33, 172), Value(33)), (InPlace(33, 173), NOT_IN_PLACE), (Move(33, 173), NO_ROOM), (Move(33, 172), NO_ROOM)]);
+    due(&mut both, [(Measure(33), Value(172)), (Release(33), Done)]);
 }
 
 #[test]
@@ -162,14 +174,14 @@ fn w11() {
 #[test]
 fn w12() {
     let mut both = fresh(4096);
-    due(&mut both, [(Grant(160), Value(16)), (Resize(16, 188), Value(16)), (Measure(16), Value(188))]);
-    due(&mut both, [(Resize(16, 141), Value(16)), (Measure(16), Value(141))]);
+    due(&mut both, [(Grant(160), Value(16)), (InPlace(16, 188), Value(16)), (Measure(16), Value(188))]);
+    due(&mut both, [(InPlace(16, 141), Value(16)), (Measure(16), Value(141))]);
 }
 
 #[test]
 fn w13() {
-    due(&mut fresh(4096), [(Grant(160), Value(16)), (Resize(16, 189), Refused(Refusal::NoRoom))]);
-    due(&mut fresh(8192), [(Grant(160), Value(16)), (Resize(16, 189), Value(4112))]);
+    due(&mut fresh(4096), [(Grant(160), Value(16)), (Move(16, 189), NO_ROOM)]);
+    due(&mut fresh(8192), [(Grant(160), Value(16)), (Move(16, 189), Value(4112))]);
 }
 
 #[test]
@@ -180,8 +192,73 @@ fn size_156_is_class_9_and_157_class_10() {
 }
 
 #[test]
-fn from_160_to_140_moves() {
-    due(&mut fresh(8192), [(Grant(160), Value(16)), (Resize(16, 140), Value(4112))]);
+fn from_160_to_140_is_a_move() {
+    let mut both = fresh(8192);
+    due(&mut both, [(Grant(160), Value(16)), (InPlace(16, 140), NOT_IN_PLACE), (Measure(16), Value(160)), (Move(16, 140), Value(4112))]);
+    due(&mut both, [(Measure(4112), Value(140)), (Measure(16), Refused(Refusal::NoSuchBlock))]);
+}
+
+#[test]
+fn in_place_to_the_same_size() {
+    // a spare byte that is not compared becomes zero all the same
+    let mut both = fresh(4096);
+    due(&mut both, [(Grant(160), Value(16)), (Store(16, 7), Done), (Store(175, 9), Done), (Store(198, 5), Done), (InPlace(16, 160), Value(16))]);
+    assert_eq!([16, 175, 198].map(|at| both.first.arena[at]), [7, 9, 0]);
+    // also in a full pool
+    due(&mut w8_granted(), [(InPlace(16, 160), Value(16)), (InPlace(3856, 160), Value(3856))]);
+}
+
+#[test]
+fn a_move_to_the_same_size_moves() {
+    let mut both = fresh(4096);
+    due(&mut both, [(Grant(160), Value(16)), (Store(16, 7), Done), (Store(198, 5), Done), (Move(16, 160), Value(208))]);
+    assert_eq!([16, 198, 208, 390].map(|at| both.first.arena[at]), [0, 0, 7, 0]);
+    due(&mut both, [(Measure(16), Refused(Refusal::AlreadyFree)), (Measure(208), Value(160))]);
+}
+
+#[test]
+fn a_move_where_in_place_would_do_moves() {
+    // to the slot's most, in the same group; and to the most of the class below, whose group it makes
+    let mut both = fresh(8192);
+    due(&mut both, [(Grant(160), Value(16)), (Move(16, 188), Value(208)), (Move(208, 156), Value(4112)), (Measure(4112), Value(156))]);
+    due(&mut fresh(8192), [(Grant(160), Value(16)), (InPlace(16, 188), Value(16)), (InPlace(16, 156), Value(16)), (Measure(16), Value(156))]);
+}
+
+#[test]
+fn a_move_needs_a_second_slot() {
+    let mut both = w8_granted();
+    due(&mut both, [160, 141, 189].map(|n| (Move(16, n), NO_ROOM)));
+    // the other slot's second block is displaced, and so is the first one's, once it has moved and back
+    due(&mut both, [(Release(208), Done), (Move(16, 160), Value(225)), (Move(225, 160), Value(33)), (Move(33, 160), Value(210))]);
+    // one slot in all rows
+    due(&mut fresh(4096), [(Grant(3200), Value(16)), (InPlace(16, 3200), Value(16)), (Move(16, 3200), NO_ROOM)]);
+}
+
+#[test]
+fn what_is_told_before_not_in_place_and_no_room() {
+    // 189 bytes do not fit, 140 are two classes down, and neither has room elsewhere
+    for n in [189, 140] {
+        let mut both = fresh(4096);
+        due(&mut both, [(Grant(160), Value(16)), (InPlace(16, n), NOT_IN_PLACE), (Move(16, n), NO_ROOM)]);
+        due(&mut both, neither(17, n, Refusal::Stale));
+        // the guard, then the header as well, under which a wrong handle is still told first
+        due(&mut both, [(Store(199, 1), Done)]);
+        due(&mut both, neither(16, n, Refusal::Overrun));
+        due(&mut both, [(Store(12, 1), Done)]);
+        due(&mut both, neither(16, n, Refusal::HeaderDamaged));
+        due(&mut both, neither(17, n, Refusal::Stale));
+    }
+}
+
+#[test]
+fn a_new_size_that_is_too_large_is_told_first() {
+    let mut both = w7_granted();
+    due(&mut both, [(Release(208), Done), (Store(12, 1), Done)]);
+    for (handle, why) in [(400, Refusal::NoSuchBlock), (208, Refusal::AlreadyFree), (17, Refusal::Stale), (16, Refusal::HeaderDamaged)] {
+        due(&mut both, neither(handle, 131_052, Refusal::TooLarge));
+        due(&mut both, neither(handle, 131_051, why));
+    }
+    due(&mut both, [(Store(12, 0), Done), (InPlace(16, 131_051), NOT_IN_PLACE), (Move(16, 131_051), NO_ROOM)]);
 }
 
 #[test]
@@ -190,23 +267,24 @@ fn place_0_is_never_a_start() {
     let mut both = fresh(512);
     due(&mut both, [(Grant(0), Value(16))]);
     for handle in 0..16 {
-        due(&mut both, [(Release(handle), absent), (Measure(handle), absent), (Resize(handle, 0), absent)]);
+        due(&mut both, [(Release(handle), absent), (Measure(handle), absent)]);
+        due(&mut both, neither(handle, 0, Refusal::NoSuchBlock));
     }
 }
 
 #[test]
 fn a_resize_in_place_keeps_the_first_bytes() {
     let mut both = fresh(4096);
-    due(&mut both, [(Grant(160), Value(16)), (Store(16, 7), Done), (Store(175, 9), Done), (Resize(16, 188), Value(16))]);
+    due(&mut both, [(Grant(160), Value(16)), (Store(16, 7), Done), (Store(175, 9), Done), (InPlace(16, 188), Value(16))]);
     assert_eq!((both.first.arena[16], both.first.arena[175], both.first.arena[176]), (7, 9, 0));
-    due(&mut both, [(Store(156, 5), Done), (Store(157, 6), Done), (Resize(16, 141), Value(16))]);
+    due(&mut both, [(Store(156, 5), Done), (Store(157, 6), Done), (InPlace(16, 141), Value(16))]);
     assert_eq!((both.first.arena[16], both.first.arena[156], both.first.arena[157]), (7, 5, 0));
 }
 
 #[test]
 fn a_move_copies_the_first_bytes() {
     let mut both = fresh(8192);
-    due(&mut both, [(Grant(160), Value(16)), (Store(16, 7), Done), (Store(175, 9), Done), (Resize(16, 189), Value(4112))]);
+    due(&mut both, [(Grant(160), Value(16)), (Store(16, 7), Done), (Store(175, 9), Done), (Move(16, 189), Value(4112))]);
     assert_eq!((both.first.arena[4112], both.first.arena[4271], both.first.arena[4272]), (7, 9, 0));
     assert!(both.first.arena[..4096].iter().all(|&b| b == 0), "the old group is gone");
 }
@@ -271,7 +349,7 @@ fn a_list_whose_last_entry_has_no_room() {
     for i in 0..21 {
         due(&mut both, [(Grant(160), Value(16 + 192 * i))]);
     }
-    due(&mut both, [(Release(16), Done), (list(373, 200, [160, 13, 200], 17), Refused(Refusal::NoRoom))]);
+    due(&mut both, [(Release(16), Done), (list(373, 200, [160, 13, 200], 17), NO_ROOM)]);
     due(&mut both, [(list(173, 200, [160, 13], 17), Value(2))]);
     assert_eq!(both.lent[0][..2], [33, 4112]);
 }
@@ -286,7 +364,7 @@ fn lists_that_are_too_long() {
 fn bad_proposals() {
     let lists = [list(18, 2, [1; 18], 17), list(1, 1, [1, 0], 17), list(13, 12, [13], 17), list(14, 14, [13], 17)];
     due(&mut fresh(512), lists.map(|list| (list, Refused(Refusal::BadProposal))));
-    due(&mut fresh(512), [(list(13, 13, [13], 17), Refused(Refusal::NoRoom))]);
+    due(&mut fresh(512), [(list(13, 13, [13], 17), NO_ROOM)]);
 }
 
 #[test]
@@ -306,7 +384,7 @@ fn alignments_up_to_16_and_none() {
     let none = [(1, 0), (1, 3), (1, 48), (1, 8192), (131_052, 4095)];
     due(&mut both, none.map(|(n, align)| (GrantAligned(n, align), Refused(Refusal::BadAlignment))));
     for (n, align) in [(131_052, 16), (131_036, 32), (126_972, 4096)] {
-        due(&mut both, [(GrantAligned(n, align), Refused(Refusal::TooLarge)), (GrantAligned(n - 1, align), Refused(Refusal::NoRoom))]);
+        due(&mut both, [(GrantAligned(n, align), Refused(Refusal::TooLarge)), (GrantAligned(n - 1, align), NO_ROOM)]);
     }
 }
 
@@ -328,26 +406,30 @@ fn the_count_steps_by_aligned_grants() {
 }
 
 #[test]
-fn an_aligned_block_is_resized_in_place_and_by_a_move() {
+fn an_aligned_block_in_place_and_by_a_move() {
     let mut both = fresh(8192);
     due(&mut both, [(GrantAligned(20, 32), Value(32)), (GrantAligned(20, 32), Value(64)), (Store(64, 7), Done), (Store(83, 9), Done)]);
-    due(&mut both, [(Resize(32, 0), Value(32)), (Resize(32, 28), Value(32)), (Resize(64, 28), Value(64))]);
+    due(&mut both, [(InPlace(32, 0), Value(32)), (InPlace(32, 28), Value(32)), (InPlace(64, 28), Value(64))]);
     // 29 bytes would fit at 64, but the enlarged size is of a higher class
-    due(&mut both, [(Resize(64, 29), Value(1568))]);
+    due(&mut both, [(InPlace(64, 29), NOT_IN_PLACE), (Measure(64), Value(28)), (Move(64, 29), Value(1568))]);
     assert_eq!((both.first.arena[1568], both.first.arena[1587], both.first.arena[1588], both.first.arena[64]), (7, 9, 0, 0));
-    due(&mut both, [(Resize(1568, 28), Value(1568)), (Resize(1568, 12), Value(3616)), (Measure(3616), Value(12))]);
-    due(&mut fresh(1536), [(GrantAligned(20, 32), Value(32)), (Resize(32, 29), Refused(Refusal::NoRoom))]);
+    due(&mut both, [(InPlace(1568, 28), Value(1568)), (InPlace(1568, 12), NOT_IN_PLACE), (Move(1568, 12), Value(3616)), (Measure(3616), Value(12))]);
+    due(&mut fresh(1536), [(GrantAligned(20, 32), Value(32)), (InPlace(32, 29), NOT_IN_PLACE), (Move(32, 29), NO_ROOM)]);
 }
 
 #[test]
-fn the_enlarged_size_of_a_resize_is_tested_before_damage() {
-    let (too_large, no_room) = (Refused(Refusal::TooLarge), Refused(Refusal::NoRoom));
+fn the_enlarged_new_size_is_tested_before_damage() {
     let mut both = fresh(4096);
     due(&mut both, [(GrantAligned(20, 32), Value(32)), (GrantAligned(20, 32), Value(64)), (Grant(20), Value(1552))]);
-    due(&mut both, [(Resize(64, 131_036), too_large), (Resize(64, 131_035), no_room), (Store(61, 0), Done)]);
-    due(&mut both, [(Resize(64, 131_036), too_large), (Resize(64, 131_035), Refused(Refusal::HeaderDamaged)), (Release(32), Done)]);
-    due(&mut both, [(Resize(32, 131_051), Refused(Refusal::AlreadyFree)), (Resize(48, 131_051), Refused(Refusal::NoSuchBlock))]);
-    due(&mut both, [(Resize(1552, 131_051), no_room), (Resize(48, 131_052), too_large)]);
+    due(&mut both, neither(64, 131_036, Refusal::TooLarge));
+    due(&mut both, [(InPlace(64, 131_035), NOT_IN_PLACE), (Move(64, 131_035), NO_ROOM), (Store(61, 0), Done)]);
+    due(&mut both, neither(64, 131_036, Refusal::TooLarge));
+    due(&mut both, neither(64, 131_035, Refusal::HeaderDamaged));
+    due(&mut both, [(Release(32), Done)]);
+    due(&mut both, neither(32, 131_051, Refusal::AlreadyFree));
+    due(&mut both, neither(48, 131_051, Refusal::NoSuchBlock));
+    due(&mut both, neither(48, 131_052, Refusal::TooLarge));
+    due(&mut both, [(InPlace(1552, 131_051), NOT_IN_PLACE), (Move(1552, 131_051), NO_ROOM)]);
 }
 
 /// Puts a byte into both engines' rooms. The head, and use count, displacement and size of a slot's record, stand at the same places in both.
@@ -431,7 +513,7 @@ fn a_block_fits_its_slot_and_the_arena_has_the_recorded_length() {
 #[test]
 fn a_displacement_of_256_units_in_the_header() {
     let mut both = fresh(16_896);
-    due(&mut both, [(Grant(13_100), Value(16)), (Resize(16, 10_909), Value(16))]);
+    due(&mut both, [(Grant(13_100), Value(16)), (InPlace(16, 10_909), Value(16))]);
     spoil(&mut both, 35, 1);
     store(&mut both, 4109, 160);
     leaves(&both, Measure(4112), Refusal::HeaderDamaged);

@@ -8,15 +8,25 @@ mod random;
 mod sample;
 
 use common::Answer::{self, Done, Refused, Value};
-use common::Call::{self, Grant, GrantAligned, Measure, Release, Resize, Store};
-use common::{Both, List};
+use common::Call::{self, Grant, GrantAligned, InPlace, Measure, Move, Release, Store};
+use common::{resizes, Both, List};
 use due::due;
 use random::{all_seen, kind, next_call, Numbers, Seen, UNDAMAGED};
 use sample::{no_store, sample, OLD};
 use slotpool::Handle;
-use slotpool::Refusal::{self, AlreadyFree, HeaderDamaged, NoRoom, NoSuchBlock, Overrun, Stale, TooLarge};
+use slotpool::Refusal::{self, AlreadyFree, HeaderDamaged, NoRoom, NoSuchBlock, NotInPlace, Overrun, Stale, TooLarge};
 use slotpool_reference::{class_of, rows_of, slot_bytes, slots_of, start_of, ENTRIES, TOO_LARGE};
 use std::collections::BTreeSet;
+
+/// Every call on a block, with some size where it takes one.
+fn calls_on(handle: usize, n: usize) -> Vec<Call> {
+    [[Measure(handle), Release(handle)], resizes(handle, n)].concat()
+}
+
+/// Each call with the same refusal.
+fn all_refused(calls: Vec<Call>, why: Refusal) -> impl Iterator<Item = (Call, Answer)> {
+    calls.into_iter().map(move |call| (call, Refused(why)))
+}
 
 /// A full group of blocks of one size. Its last slot is granted again and again, and the others keep the group.
 struct Regranted {
@@ -53,23 +63,19 @@ impl Regranted {
 
     /// Makes calls with an old handle while another is live, or the same again. They leave the pool as it is; gives the answer to a measure.
     fn while_live(&mut self, old: usize, live: usize) -> Answer {
-        let answer = match (old == live, start_of(old) == start_of(live)) {
-            (true, _) => Value(self.n),
-            (_, true) => Refused(Stale),
-            _ => Refused(NoSuchBlock),
-        };
-        let resized = if old == live { Value(live) } else { answer };
-        due(&mut self.both, [(Measure(old), answer), (Resize(old, self.n), resized)]);
-        if old != live {
-            due(&mut self.both, [(Release(old), answer)]);
+        if old == live {
+            due(&mut self.both, [(Measure(old), Value(self.n)), (InPlace(old, self.n), Value(live))]);
+            return Value(self.n);
         }
-        answer
+        let why = if start_of(old) == start_of(live) { Stale } else { NoSuchBlock };
+        due(&mut self.both, all_refused(calls_on(old, self.n), why));
+        Refused(why)
     }
 
     /// Makes calls with an old handle while the slot waits, after a block with the last one.
     fn while_waiting(&mut self, old: usize, last: usize) {
-        let answer = Refused(if start_of(old) == start_of(last) { AlreadyFree } else { NoSuchBlock });
-        due(&mut self.both, [(Release(old), answer), (Measure(old), answer), (Resize(old, self.n), answer)]);
+        let why = if start_of(old) == start_of(last) { AlreadyFree } else { NoSuchBlock };
+        due(&mut self.both, all_refused(calls_on(old, self.n), why));
     }
 }
 
@@ -128,9 +134,9 @@ fn the_bits_of_every_count() {
         (both.first.room, both.plain.room) = (tables.write(), tables.write_plain());
         let present = slot.begin + (usize::from(count) + 15) % 16;
         for handle in (slot.begin..slot.begin + 16).filter(|&handle| handle != present) {
-            due(&mut both, [Measure(handle), Release(handle), Resize(handle, 2028)].map(|call| (call, Refused(Stale))));
+            due(&mut both, all_refused(calls_on(handle, 2028), Stale));
         }
-        due(&mut both, [(Measure(present), Value(2028)), (Resize(present, 2000), Value(present)), (Release(present), Done)]);
+        due(&mut both, [(Measure(present), Value(2028)), (InPlace(present, 2000), Value(present)), (Release(present), Done)]);
         // the next block has the next bits
         due(&mut both, [(Grant(2028), Value(slot.begin + usize::from(count) % 16))]);
     }
@@ -154,7 +160,7 @@ fn every_number_as_a_handle() {
     for mut both in (1..=16).map(|seed| sample(seed, [512, 1024, 4096, 8192][seed as usize % 4])) {
         for number in (0..both.first.arena.len() + 600).chain(usize::MAX - 600..=usize::MAX) {
             if let Some(why) = refused_with(&both, number) {
-                due(&mut both, [Measure(number), Release(number), Resize(number, 0)].map(|call| (call, Refused(why))));
+                due(&mut both, all_refused(calls_on(number, 0), why));
                 refused[[NoSuchBlock, AlreadyFree, Stale].iter().position(|&r| r == why).unwrap()] += 1;
             }
         }
@@ -173,7 +179,8 @@ fn with_old(numbers: &mut Numbers, both: &Both, call: Call) -> Option<Call> {
     let old = both.old.get(numbers.below(both.old.len().max(1)))?;
     match call {
         Release(_) => Some(Release(*old)),
-        Resize(_, n) => Some(Resize(*old, n)),
+        InPlace(_, n) => Some(InPlace(*old, n)),
+        Move(_, n) => Some(Move(*old, n)),
         Measure(_) => Some(Measure(*old)),
         _ => None,
     }
@@ -237,11 +244,12 @@ fn stale_is_told_before_damage() {
     let both = &mut Both::new(4096, OLD);
     due(both, (0..21).map(|i| (Grant(160), Value(16 + 192 * i))));
     due(both, [(Release(16), Done), (Grant(160), Value(33))]);
-    let on_block = |handle, why| [Measure(handle), Release(handle), Resize(handle, 188)].map(|call| (call, Refused(why)));
+    // 188 bytes do not fit it, and have no room elsewhere
+    let on_block = |handle, why| all_refused(calls_on(handle, 188), why);
     for stores in [&[(29, HeaderDamaged)][..], &[(192, Overrun)], &[(199, Overrun)], &[(203, Overrun)], &[(31, HeaderDamaged), (192, Overrun)]] {
         let kept = both.first.arena.clone();
         due(both, stores.iter().map(|&(at, _)| (Store(at, kept[at] ^ 1), Done)));
-        due(both, with_other_bits(33, |other| on_block(other, Stale).into()));
+        due(both, with_other_bits(33, |other| on_block(other, Stale).collect()));
         due(both, on_block(33, stores[0].1));
         due(both, stores.iter().map(|&(at, _)| (Store(at, kept[at]), Done)));
     }
@@ -249,7 +257,7 @@ fn stale_is_told_before_damage() {
 }
 
 #[test]
-fn stale_is_told_after_too_large_and_before_no_room() {
+fn stale_is_told_after_too_large_and_before_not_in_place_and_no_room() {
     // ordinary blocks and aligned ones, whose enlarged size counts whatever the bits
     for (n, align) in [(188, 16), (140, 64), (12, 128)] {
         let (both, class) = (&mut Both::new(4096, OLD), class_of(n + align - 16));
@@ -259,11 +267,13 @@ fn stale_is_told_after_too_large_and_before_no_room() {
         let (start, present, limit) = (align, align + 1, TOO_LARGE - (align - 16));
         due(both, [(Release(start), Done), (GrantAligned(n, align), Value(present))]);
         let sizes = [(0, Stale), (n, Stale), (limit - 1, Stale), (limit, TooLarge), (TOO_LARGE, TooLarge), (usize::MAX, TooLarge)];
-        due(both, with_other_bits(present, |other| sizes.map(|(size, why)| (Resize(other, size), Refused(why))).into()));
-        due(both, [(Resize(present, limit), Refused(TooLarge)), (Resize(present, limit - 1), Refused(NoRoom)), (Release(present), Done)]);
+        let refused = |handle, size, why| all_refused(resizes(handle, size).into(), why);
+        due(both, with_other_bits(present, |other| sizes.into_iter().flat_map(|(size, why)| refused(other, size, why)).collect()));
+        due(both, refused(present, limit, TooLarge));
+        due(both, [(InPlace(present, limit - 1), Refused(NotInPlace)), (Move(present, limit - 1), Refused(NoRoom)), (Release(present), Done)]);
         // of a slot that waits, the size itself counts
         let sizes = [(TOO_LARGE - 1, AlreadyFree), (TOO_LARGE, TooLarge)];
-        due(both, (start..start + 16).flat_map(|any| sizes.map(|(size, why)| (Resize(any, size), Refused(why)))));
+        due(both, (start..start + 16).flat_map(|any| sizes.into_iter().flat_map(move |(size, why)| refused(any, size, why))));
     }
 }
 
@@ -274,8 +284,8 @@ fn a_resize_in_place_keeps_the_handle() {
         slot.release(granted - 1);
         slot.grant(granted);
         let handle = slot.handle(granted);
-        due(&mut slot.both, [1629, 2000, 2028].map(|n| (Resize(handle, n), Value(handle))));
-        due(&mut slot.both, [(Resize(handle - handle % 16 + (granted + 1) % 16, 2000), Refused(Stale))]);
+        due(&mut slot.both, [1629, 2000, 2028].map(|n| (InPlace(handle, n), Value(handle))));
+        due(&mut slot.both, [(InPlace(handle - handle % 16 + (granted + 1) % 16, 2000), Refused(Stale))]);
     }
 }
 
@@ -290,11 +300,11 @@ fn a_move_gives_the_handle_of_the_new_slot() {
         }
         due(both, [(Grant(1628), Value(4112)), (Grant(1628), Value(5744))]);
         let moved = 2048 + times % 16;
-        due(both, [(Store(4112, 7), Done), (Resize(4112, 2028), Value(moved)), (Measure(moved), Value(2028))]);
+        due(both, [(Store(4112, 7), Done), (Move(4112, 2028), Value(moved)), (Measure(moved), Value(2028))]);
         assert_eq!((both.first.arena[2048], both.first.arena[4112]), (7, 0));
         // its old handle: the slot waits, and is then granted again at the same start
         due(both, (4112..4128).map(|old| (Release(old), Refused(AlreadyFree))));
-        due(both, [(Grant(1628), Value(4113)), (Release(4112), Refused(Stale)), (Resize(4112, 2028), Refused(Stale))]);
+        due(both, [(Grant(1628), Value(4113)), (Release(4112), Refused(Stale)), (Move(4112, 2028), Refused(Stale))]);
         due(both, [(Release(moved), Done), (Release(4113), Done)]);
     }
 }

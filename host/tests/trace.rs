@@ -11,17 +11,18 @@ use std::os::unix::ffi::OsStrExt;
 use std::process::{Command, Stdio};
 
 /// Each operation with its line and its record.
-fn samples() -> [(Op, &'static str, &'static [u8]); 9] {
+fn samples() -> [(Op, &'static str, &'static [u8]); 10] {
     [
         (Op::Grant(160), "grant 160", &[0, 5, 1, 0, 0, 0, 160]),
         (Op::Grant(u32::MAX), "grant 4294967295", &[0, 5, 1, 255, 255, 255, 255]),
         (Op::Release(0x01020304), "release 16909060", &[0, 5, 2, 1, 2, 3, 4]),
-        (Op::Resize(16, 188), "resize 16 188", &[0, 9, 3, 0, 0, 0, 16, 0, 0, 0, 188]),
+        (Op::InPlace(16, 188), "resize 16 188", &[0, 9, 3, 0, 0, 0, 16, 0, 0, 0, 188]),
         (Op::Measure(256), "measure 256", &[0, 5, 4, 0, 0, 1, 0]),
         (Op::Store(16, vec![0, 255, 7]), "store 16 00ff07", &[0, 8, 5, 0, 0, 0, 16, 0, 255, 7]),
         (Op::Store(16_384, vec![]), "store 16384", &[0, 5, 5, 0, 0, 64, 0]),
         (Op::Store(0, vec![10, 13, 35]), "store 0 0a0d23", &[0, 8, 5, 0, 0, 0, 0, 10, 13, 35]),
         (Op::Report, "report", &[0, 1, 6]),
+        (Op::Move(16, 189), "move 16 189", &[0, 9, 7, 0, 0, 0, 16, 0, 0, 0, 189]),
     ]
 }
 
@@ -29,7 +30,7 @@ fn samples() -> [(Op, &'static str, &'static [u8]); 9] {
 fn each_operation_has_its_line_and_its_record() {
     for (op, line, record) in samples() {
         let ops = vec![op];
-        let trace = [&[1], record].concat();
+        let trace = [&[2], record].concat();
         assert_eq!(write(&ops), trace, "{line}");
         assert_eq!(read(&trace), (ops.clone(), None), "{line}");
         assert_eq!(text(&ops), format!("{line}\n"));
@@ -64,6 +65,7 @@ fn a_wrong_text_is_told_with_its_line() {
         ("grant", "SIZE is missing, expected grant SIZE".to_string()),
         ("release # 16", "HANDLE is missing, expected release HANDLE".to_string()),
         ("resize 16", "SIZE is missing, expected resize HANDLE SIZE".to_string()),
+        ("move", "HANDLE is missing, expected move HANDLE SIZE".to_string()),
         ("store", "OFFSET is missing, expected store OFFSET HEX".to_string()),
         ("grant 160 16", "\"16\" is too much, expected grant SIZE".to_string()),
         ("resize 16 188 1", "\"1\" is too much, expected resize HANDLE SIZE".to_string()),
@@ -110,29 +112,31 @@ fn a_text_is_as_long_as_a_trace_can_be() {
 fn a_bad_trace_is_told_with_its_record() {
     for (trace, records, told) in [
         (&[][..], 0, "the trace is empty"),
-        (&[7], 0, "version 7, not 1"),
-        (&[0, 0, 1, 6], 0, "version 0, not 1"),
-        (&[1, 0], 0, "record 1: cut short"),
-        (&[1, 0, 1], 0, "record 1: cut short"),
-        (&[1, 0, 1, 6, 0, 5, 1, 0, 0, 0], 1, "record 2: cut short"),
-        (&[1, 0, 1, 6, 5, 0, 1, 0, 0, 0, 0], 1, "record 2: cut short"),
-        (&[1, 0, 0], 0, "record 1: no bytes, so no operation"),
-        (&[1, 0, 1, 6, 0, 1, 6, 0, 1, 0], 2, "record 3: no operation 0"),
-        (&[1, 0, 1, 6, 0, 1, 6, 0, 1, 6, 0, 1, 9], 3, "record 4: no operation 9"),
-        (&[1, 0, 1, 7], 0, "record 1: no operation 7"),
-        (&[1, 0, 4, 1, 0, 0, 0], 0, "record 1: operation 1 has 4 bytes, not 5"),
-        (&[1, 0, 6, 2, 0, 0, 0, 0, 0], 0, "record 1: operation 2 has 6 bytes, not 5"),
-        (&[1, 0, 5, 3, 0, 0, 0, 16], 0, "record 1: operation 3 has 5 bytes, not 9"),
-        (&[1, 0, 1, 4], 0, "record 1: operation 4 has 1 bytes, not 5"),
-        (&[1, 0, 4, 5, 0, 0, 0], 0, "record 1: operation 5 has 4 bytes, not 5 or more"),
-        (&[1, 0, 2, 6, 0], 0, "record 1: operation 6 has 2 bytes, not 1"),
-        (&[1; MOST + 1], 0, "longer than 65,535 bytes"),
+        (&[7], 0, "version 7, not 2"),
+        (&[0, 0, 1, 6], 0, "version 0, not 2"),
+        (&[1, 0, 1, 6], 0, "version 1, not 2"),
+        (&[2, 0], 0, "record 1: cut short"),
+        (&[2, 0, 1], 0, "record 1: cut short"),
+        (&[2, 0, 1, 6, 0, 5, 1, 0, 0, 0], 1, "record 2: cut short"),
+        (&[2, 0, 1, 6, 5, 0, 1, 0, 0, 0, 0], 1, "record 2: cut short"),
+        (&[2, 0, 0], 0, "record 1: no bytes, so no operation"),
+        (&[2, 0, 1, 6, 0, 1, 6, 0, 1, 0], 2, "record 3: no operation 0"),
+        (&[2, 0, 1, 6, 0, 1, 6, 0, 1, 6, 0, 1, 9], 3, "record 4: no operation 9"),
+        (&[2, 0, 1, 8], 0, "record 1: no operation 8"),
+        (&[2, 0, 4, 1, 0, 0, 0], 0, "record 1: operation 1 has 4 bytes, not 5"),
+        (&[2, 0, 6, 2, 0, 0, 0, 0, 0], 0, "record 1: operation 2 has 6 bytes, not 5"),
+        (&[2, 0, 5, 3, 0, 0, 0, 16], 0, "record 1: operation 3 has 5 bytes, not 9"),
+        (&[2, 0, 1, 4], 0, "record 1: operation 4 has 1 bytes, not 5"),
+        (&[2, 0, 4, 5, 0, 0, 0], 0, "record 1: operation 5 has 4 bytes, not 5 or more"),
+        (&[2, 0, 2, 6, 0], 0, "record 1: operation 6 has 2 bytes, not 1"),
+        (&[2, 0, 5, 7, 0, 0, 0, 16], 0, "record 1: operation 7 has 5 bytes, not 9"),
+        (&[2; MOST + 1], 0, "longer than 65,535 bytes"),
     ] {
         let (ops, bad) = read(trace);
         assert_eq!(ops.len(), records, "{told}");
         assert_eq!(bad.expect(told).to_string(), told);
     }
-    assert_eq!(read(&[1]), (vec![], None));
+    assert_eq!(read(&[2]), (vec![], None));
 }
 
 #[test]
@@ -152,7 +156,7 @@ fn a_store_past_the_arena_ends_a_trace() {
         assert_eq!(replayable(&write(&ops)), (ops, None), "{count} bytes at {offset}");
     }
     // what cannot be read is told as it is, if no such store comes before it
-    let cut = [1, 0, 1, 6, 0];
+    let cut = [2, 0, 1, 6, 0];
     assert_eq!(replayable(&cut), read(&cut));
 }
 
@@ -169,9 +173,9 @@ fn the_program_writes_and_shows() {
     let nothing = String::new();
     assert_eq!(trace("write", text.as_bytes()), (bytes.clone(), nothing.clone(), Some(0)));
     assert_eq!(trace("write", b"grant 0 # \xff\xfe"), (write(&[Op::Grant(0)]), nothing.clone(), Some(0)));
-    assert_eq!(trace("write", b""), (vec![1], nothing.clone(), Some(0)));
+    assert_eq!(trace("write", b""), (vec![2], nothing.clone(), Some(0)));
     assert_eq!(trace("show", &bytes), (text.into_bytes(), nothing.clone(), Some(0)));
-    assert_eq!(trace("show", &[1]), (vec![], nothing, Some(0)));
+    assert_eq!(trace("show", &[2]), (vec![], nothing, Some(0)));
 }
 
 #[test]
@@ -180,11 +184,11 @@ fn the_program_says_what_is_wrong() {
     for (argument, input, printed, why) in [
         ("write", &b"report\ngrant"[..], "", "line 2: SIZE is missing, expected grant SIZE"),
         ("write", b"report\nrep\xffrt\n", "", &unknown),
-        ("show", &[1, 0, 1, 6, 0, 5, 1, 0, 0, 0, 0, 0, 1, 9], "report\ngrant 0\n", "record 3: no operation 9"),
+        ("show", &[2, 0, 1, 6, 0, 5, 1, 0, 0, 0, 0, 0, 1, 9], "report\ngrant 0\n", "record 3: no operation 9"),
         ("show", b"", "", "the trace is empty"),
         (
             "show",
-            &[1, 0, 1, 6, 0, 7, 5, 0, 0, 63, 255, 1, 2, 0, 1, 6],
+            &[2, 0, 1, 6, 0, 7, 5, 0, 0, 63, 255, 1, 2, 0, 1, 6],
             "report\n",
             "record 2: the store at 16383 ends at 16385, past the arena of 16,384 bytes",
         ),

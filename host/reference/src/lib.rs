@@ -539,23 +539,35 @@ impl Reference {
         Ok(())
     }
 
-    pub fn resize(&mut self, handle: usize, n: usize) -> Result<usize, Refusal> {
+    /// The live, undamaged block whose handle this is, if `n` bytes are not too many for it, and their enlarged size.
+    fn resizable(&self, handle: usize, n: usize) -> Result<(At, usize), Refusal> {
         // the alignment of a live block counts before it is known whether there is one, with this handle and undamaged
-        let align = self.alignment(handle);
-        let size = enlarged(n, align).ok_or(Refusal::TooLarge)?;
-        let at = self.block(handle)?;
-        let g = &self.groups[at.group];
-        let kept = g.slots[at.slot].size.min(n);
+        let size = enlarged(n, self.alignment(handle)).ok_or(Refusal::TooLarge)?;
+        Ok((self.block(handle)?, size))
+    }
+
+    pub fn resize_in_place(&mut self, handle: usize, n: usize) -> Result<usize, Refusal> {
+        let (at, size) = self.resizable(handle, n)?;
         let (start, end) = (self.start(at), self.end(at));
-        if start + n <= end && serves(g.class, size) {
-            self.groups[at.group].slots[at.slot].size = n;
-            self.arena[start + kept..end].fill(0);
-            self.mark(at);
-            return Ok(handle);
+        let g = &mut self.groups[at.group];
+        if start + n > end || !serves(g.class, size) {
+            return Err(Refusal::NotInPlace);
         }
+        let slot = &mut g.slots[at.slot];
+        let kept = slot.size.min(n);
+        slot.size = n;
+        self.arena[start + kept..end].fill(0);
+        self.mark(at);
+        Ok(handle)
+    }
+
+    pub fn move_block(&mut self, handle: usize, n: usize) -> Result<usize, Refusal> {
+        let (at, _) = self.resizable(handle, n)?;
+        let (start, Slot { size, align, .. }) = (self.start(at), self.groups[at.group].slots[at.slot]);
         let moved = self.grant_as(n, align)?;
-        self.arena.copy_within(start..start + kept, start_of(moved));
-        let old = self.block(handle).expect("the old block is live and undamaged");
+        self.arena.copy_within(start..start + size.min(n), start_of(moved));
+        // a group that the grant made may have come before the old block's
+        let old = self.find(handle).expect("the old block is live");
         self.give_back(old);
         Ok(moved)
     }

@@ -21,7 +21,8 @@ fn answer(pool: &mut Reference, op: &Op) -> Option<String> {
     let value = match *op {
         Op::Grant(n) => pool.grant(n as usize),
         Op::Release(handle) => pool.release(handle as usize).map(|()| 0),
-        Op::Resize(handle, n) => pool.resize(handle as usize, n as usize),
+        Op::InPlace(handle, n) => pool.resize_in_place(handle as usize, n as usize),
+        Op::Move(handle, n) => pool.move_block(handle as usize, n as usize),
         Op::Measure(handle) => pool.measure(handle as usize),
         Op::Store(offset, ref bytes) => {
             let from = offset as usize;

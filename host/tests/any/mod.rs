@@ -5,9 +5,9 @@ use slotpool::{Refusal, Totals};
 use slotpool_reference::{Reference, Tables};
 use std::fmt::Arguments;
 
-/// Every call but set up: those on a block with its handle, a release and a resize with other bits, grants of its size, a list of two of its size,
-/// and an aligned grant and a list with everything wrong.
-pub fn calls_on((handle, n): (usize, usize)) -> [Call; 11] {
+/// Every call but set up: those on a block with its handle, a release, a resize in place and a move with other bits, grants of its size, a list of
+/// two of its size, and an aligned grant and a list with everything wrong.
+pub fn calls_on((handle, n): (usize, usize)) -> [Call; 13] {
     let (size, other) = (n.max(1), handle ^ 1);
     let lists = [List::new(2 * size, size, &[size, size], 17), List::new(usize::MAX, 0, &[0; 18], 16)].map(Call::GrantList);
     let aligned = [Call::GrantAligned(n, 32), Call::GrantAligned(usize::MAX, 0)];
@@ -16,8 +16,10 @@ pub fn calls_on((handle, n): (usize, usize)) -> [Call; 11] {
         Call::Release(other),
         Call::Grant(n),
         aligned[0],
-        Call::Resize(handle, n / 2),
-        Call::Resize(other, n),
+        Call::InPlace(handle, n / 2),
+        Call::InPlace(other, n),
+        Call::Move(handle, n / 2),
+        Call::Move(other, n),
         Call::Measure(handle),
         Call::Report,
         lists[0],

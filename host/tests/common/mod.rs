@@ -52,11 +52,17 @@ pub enum Call {
     GrantAligned(usize, usize),
     GrantList(List),
     Release(usize),
-    Resize(usize, usize),
+    InPlace(usize, usize),
+    Move(usize, usize),
     Measure(usize),
     Report,
     /// A byte that the engine, not the pool, writes to a place in the arena.
     Store(usize, u8),
+}
+
+/// The calls that give a block another size.
+pub fn resizes(handle: usize, n: usize) -> [Call; 2] {
+    [Call::InPlace(handle, n), Call::Move(handle, n)]
 }
 
 #[derive(Clone, Copy, Debug, PartialEq)]
@@ -90,8 +96,7 @@ fn entries(call: Call, answer: Answer) -> usize {
 /// The handle that a call has made old, if it has: that of a block which was released or moved.
 fn ended(call: Call, answer: Answer) -> Option<usize> {
     match (call, answer) {
-        (Call::Release(old), Answer::Done) => Some(old),
-        (Call::Resize(old, _), Answer::Value(new)) => (old != new).then_some(old),
+        (Call::Release(old), Answer::Done) | (Call::Move(old, _), Answer::Value(_)) => Some(old),
         _ => None,
     }
 }
@@ -136,7 +141,8 @@ macro_rules! answer {
                 value(entries)
             }
             Call::Release(h) => unit(pool.release(Handle::from_raw(h))),
-            Call::Resize(h, n) => handle(pool.resize(Handle::from_raw(h), n)),
+            Call::InPlace(h, n) => handle(pool.resize_in_place(Handle::from_raw(h), n)),
+            Call::Move(h, n) => handle(pool.move_block(Handle::from_raw(h), n)),
             Call::Measure(h) => value(pool.measure(Handle::from_raw(h))),
             Call::Report => pool.report().map_or_else(Answer::Refused, Answer::Totals),
             Call::Store(at, byte) => {
@@ -237,7 +243,8 @@ fn second(pool: &mut Reference, lent: &mut Lent, call: Call) -> Answer {
         Call::GrantAligned(n, align) => value(pool.grant_aligned(n, align)),
         Call::GrantList(l) => value(pool.grant_list(l.length, l.cap, l.sizes(), &mut lent[..l.places])),
         Call::Release(h) => unit(pool.release(h)),
-        Call::Resize(h, n) => value(pool.resize(h, n)),
+        Call::InPlace(h, n) => value(pool.resize_in_place(h, n)),
+        Call::Move(h, n) => value(pool.move_block(h, n)),
         Call::Measure(h) => value(pool.measure(h)),
         Call::Report => Answer::Totals(pool.report()),
         Call::Store(at, byte) => {

@@ -2,7 +2,7 @@
 
 pub mod lists;
 
-use crate::common::{Answer, Both, Call};
+use crate::common::{resizes, Answer, Both, Call};
 use lists::{fault, list};
 use slotpool_reference::{rows_of, slot_bytes, start_of, ORDINARY, TOO_LARGE};
 use std::collections::{BTreeMap, BTreeSet};
@@ -62,13 +62,13 @@ fn alignment(numbers: &mut Numbers, arena_len: usize) -> usize {
     }
 }
 
-/// A size at or near an edge by itself or, as often, once it is enlarged for an alignment; or any.
+/// A size near that which is too large, at or near an edge, or any; by itself or, as often, once it is enlarged for an alignment.
 fn aligned_size(numbers: &mut Numbers, arena_len: usize, align: usize) -> usize {
-    let more = align.saturating_sub(ORDINARY);
-    match numbers.below(20) {
-        0 => (TOO_LARGE - 2 + numbers.below(5)).saturating_sub(more),
-        1..=9 => size(numbers, arena_len).saturating_sub(more),
-        _ => size(numbers, arena_len),
+    let n = if numbers.one_in(6) { TOO_LARGE - 2 + numbers.below(5) } else { size(numbers, arena_len) };
+    if numbers.one_in(2) {
+        n
+    } else {
+        n.saturating_sub(align.saturating_sub(ORDINARY))
     }
 }
 
@@ -132,13 +132,13 @@ pub fn next_call(numbers: &mut Numbers, both: &Both, engine: Engine) -> Call {
         63..=80 => {
             let h = handle(numbers, both);
             let old = live.iter().find(|b| start_of(b.0) == start_of(h)).map_or(0, |b| b.1);
-            let n = match numbers.below(4) {
+            let n = match numbers.below(5) {
                 0 => old,
                 1 => (old + numbers.below(40)).saturating_sub(20),
                 2 => old / 2 + numbers.below(old + 1),
                 _ => aligned_size(numbers, both.first.arena.len(), both.second.alignment(h)),
             };
-            Call::Resize(h, n)
+            numbers.of(&resizes(h, n))
         }
         81..=87 => Call::Measure(handle(numbers, both)),
         88..=89 => Call::Report,
@@ -150,8 +150,7 @@ pub fn next_call(numbers: &mut Numbers, both: &Both, engine: Engine) -> Call {
 /// How often each kind of call had each answer.
 pub type Seen = BTreeMap<String, usize>;
 
-/// A call and its answer's number; for a resize that is done, how, for a list, what is wrong with it, and of a stale handle, whether it is old. The
-/// pool is as the call left it.
+/// A call and its answer's number; for a list, what is wrong with it, and of a stale handle, whether it is old. The pool is as the call left it.
 pub fn kind(call: Call, answer: &Answer, both: &Both) -> String {
     let told = match answer {
         Answer::Refused(r) => *r as usize,
@@ -159,6 +158,10 @@ pub fn kind(call: Call, answer: &Answer, both: &Both) -> String {
     };
     let enlarged = |n| if told == 3 && n < TOO_LARGE { " once enlarged" } else { "" };
     let old = |h| if told == 10 && both.old.contains(&h) { " by an old handle" } else { "" };
+    let resized = |name, h, n| {
+        let now = if let Answer::Value(v) = answer { *v } else { h };
+        format!("{}{name} {told}{}{}", aligned(both, now), enlarged(n), old(h))
+    };
     match (call, answer) {
         (Call::SetUp, _) => format!("set up {told}"),
         (Call::Grant(_), _) => format!("grant {told}"),
@@ -166,8 +169,8 @@ pub fn kind(call: Call, answer: &Answer, both: &Both) -> String {
         (Call::GrantAligned(n, _), _) => format!("aligned {told}{}", enlarged(n)),
         (Call::GrantList(list), _) => format!("list {told}{}", fault(&list).map_or(String::new(), |what| format!(" by {what}"))),
         (Call::Release(h), _) => format!("release {told}{}", old(h)),
-        (Call::Resize(h, _), Answer::Value(v)) => format!("{}resize {}", aligned(both, *v), if h == *v { "in place" } else { "by a move" }),
-        (Call::Resize(h, n), _) => format!("{}resize {told}{}{}", aligned(both, h), enlarged(n), old(h)),
+        (Call::InPlace(h, n), _) => resized("in place", h, n),
+        (Call::Move(h, n), _) => resized("move", h, n),
         (Call::Measure(h), _) => format!("measure {told}{}", old(h)),
         (Call::Report, _) => format!("report {told}"),
         (Call::Store(..), _) => "store".to_string(),
@@ -184,7 +187,7 @@ fn aligned(both: &Both, handle: usize) -> &'static str {
 }
 
 /// Every answer of every call but set up while no block is damaged, and every cause of a list's 9 and 17.
-pub const UNDAMAGED: [&str; 47] = [
+pub const UNDAMAGED: [&str; 58] = [
     "grant 0",
     "grant 3",
     "grant 8",
@@ -211,21 +214,32 @@ pub const UNDAMAGED: [&str; 47] = [
     "release 5",
     "release 10",
     "release 10 by an old handle",
-    "resize in place",
-    "resize by a move",
-    "resize 3",
-    "resize 4",
-    "resize 5",
-    "resize 10",
-    "resize 10 by an old handle",
-    "resize 8",
-    "aligned resize in place",
-    "aligned resize by a move",
-    "aligned resize 3",
-    "aligned resize 3 once enlarged",
-    "aligned resize 10",
-    "aligned resize 10 by an old handle",
-    "aligned resize 8",
+    "in place 0",
+    "in place 3",
+    "in place 4",
+    "in place 5",
+    "in place 10",
+    "in place 10 by an old handle",
+    "in place 11",
+    "aligned in place 0",
+    "aligned in place 3",
+    "aligned in place 3 once enlarged",
+    "aligned in place 10",
+    "aligned in place 10 by an old handle",
+    "aligned in place 11",
+    "move 0",
+    "move 3",
+    "move 4",
+    "move 5",
+    "move 10",
+    "move 10 by an old handle",
+    "move 8",
+    "aligned move 0",
+    "aligned move 3",
+    "aligned move 3 once enlarged",
+    "aligned move 10",
+    "aligned move 10 by an old handle",
+    "aligned move 8",
     "measure 0",
     "measure 4",
     "measure 5",
