@@ -11,15 +11,15 @@ use Rattle.model.specs.declared.Slot.{Slot}
 use Rattle.model.specs.declared.Slot.the-variants.{Fresh}
 use Rattle.model.specs.declared.Refusal.{Refusal}
 use Rattle.model.specs.declared.Refusal.the-variants.{BadArena, Unsound, TooLarge, NoSuchBlock, AlreadyFree, Stale, HeaderDamaged, Overrun, NoRoom}
-use Rattle.model.specs.declared.Refusal.the-variants.{TooLong, BadProposal, BadAlignment}
+use Rattle.model.specs.declared.Refusal.the-variants.{NotInPlace, TooLong, BadProposal, BadAlignment}
 use Rattle.model.specs.State.{Pool, Place, group, isLive, align, wellFormed, startOf, poolOf, become, beginning, start, handle}
 use Rattle.model.specs.Answers.{numberOf, done}
-use Rattle.model.specs.Plans.{Plan, Site, refused, refill, grantIn, reserve, grantAt, grantAs, grantAligned, lookup, onHandle, releaseAt, inPlace}
-use Rattle.model.specs.Plans.{resizeInPlace, moveTo, newSize, resizeMove, resizeAt, resize, freshPool}
-use Rattle.model.specs.Plans.{Call, setsUp, grants, grantsAligned, releases, resizes, measures, reports, grantsList}
+use Rattle.model.specs.Plans.{Plan, Site, refused, refusedOn, refill, grantIn, reserve, grantAt, grantAs, grantAligned, lookup, onHandle, releaseAt, inPlace}
+use Rattle.model.specs.Plans.{onHandleFor, resizeAt, moveTo, moveAt, inPlaceAt, resizeInPlace, move, freshPool}
+use Rattle.model.specs.Plans.{Call, setsUp, grants, grantsAligned, releases, resizesInPlace, moves, measures, reports, grantsList}
 use Rattle.model.proofs.Reserve.{Open, New, site-found, Served, grant-live}
 use Rattle.model.proofs.Lookup.{lookup-found}
-use Rattle.model.proofs.Formed.{on-handle, resizable}
+use Rattle.model.proofs.Formed.{on-handle, on-handle-for}
 use Rattle.model.proofs.Calls.{Asks}
 
 -- no refusal's number is 0
@@ -32,6 +32,7 @@ refuses AlreadyFree e = omega arith
 refuses Stale e = omega arith
 refuses HeaderDamaged e = omega arith
 refuses Overrun e = omega arith
+refuses NotInPlace e = omega arith
 refuses NoRoom e = omega arith
 refuses TooLong e = omega arith
 refuses BadProposal e = omega arith
@@ -43,7 +44,8 @@ by-call M s f setsUp = s
 by-call M s f (grants n) = f (grants n) tt
 by-call M s f (grantsAligned n b) = f (grantsAligned n b) tt
 by-call M s f (releases h) = f (releases h) tt
-by-call M s f (resizes h n) = f (resizes h n) tt
+by-call M s f (resizesInPlace h n) = f (resizesInPlace h n) tt
+by-call M s f (moves h n) = f (moves h n) tt
 by-call M s f (measures h) = f (measures h) tt
 by-call M s f reports = f reports tt
 by-call M s f (grantsList total cap places ns) = f (grantsList total cap places ns) tt
@@ -89,22 +91,27 @@ module _ (row : ℕ) (pos : 0 < row) (P : Pool) (M : Plan → Type 0) (no : (r :
   on-aligned n b f =
       choose-case M (ltb 0 (codeOf b)) _ _ (λ e. on-grant (codeOf b) n (ltb-true 0 (codeOf b) e) (code-most b) f) (λ e. no BadAlignment)
 
-  -- a move asks for the block's own alignment
-  pub on-resize : T (wellFormed P) → (h n : ℕ) → ((p : Place) → Named row P h p → T (inPlace p n) → M (resizeInPlace row p n))
-      → ((p : Place) → Named row P h p → M (moveTo row P p n none))
-      → ((p q : Place) → Named row P h p → Askable (align (p .state)) n → reserve row P (align (p .state)) n ≡ some q → M (moveTo row P p n (some q)))
-      → M (resize row P h n)
-  unfolding resize resizeAt resizeMove
-  on-resize w h n here full moved =
-      choose-case M (leb tooLarge (newSize (lookup row P o) n)) _ _ (λ e. no TooLarge)
-      (λ e. on-named h (resizeAt row P n)
-      (λ p b. choose-case M (inPlace p n) (resizeInPlace row p n) (resizeMove row P p n) (λ t. here p b (true-T (inPlace p n) t))
-      (λ t. go p b (resizable row pos P o n w p (b .found) (b .pool) (b .live) (leb-false tooLarge (newSize (lookup row P o) n) e))
-      (reserve row P (align (p .state)) n) refl)))
-    where
-      o : ℕ
-      o = startOf h
+  -- what is done with the block of a handle that is to have n bytes, which can be asked for
+  on-named-for : T (wellFormed P) → (h n : ℕ) (f : Place → Plan) → ((p : Place) → Named row P h p → Askable (align (p .state)) n → M (f p))
+      → M (onHandleFor row P h n f)
+  on-named-for w h n f k =
+      on-handle-for row pos M P h n f w no
+      (λ p e i l b. k p (record { found = e; pool = i; live = l; starts = lookup-found row pos P (startOf h) p e .2; present = b }))
 
+  pub on-in-place : T (wellFormed P) → (h n : ℕ) → ((p : Place) → Named row P h p → T (inPlace p n) → M (resizeAt row p n))
+      → ((p : Place) → Named row P h p → M (refusedOn NotInPlace P p)) → M (resizeInPlace row P h n)
+  unfolding resizeInPlace inPlaceAt
+  on-in-place w h n here elsewhere =
+      on-named-for w h n (inPlaceAt row P n)
+      (λ p b _. choose-case M (inPlace p n) (resizeAt row p n) (refusedOn NotInPlace P p) (λ t. here p b (true-T (inPlace p n) t)) (λ _. elsewhere p b))
+
+  -- a move asks for the block's own alignment
+  pub on-move : T (wellFormed P) → (h n : ℕ) → ((p : Place) → Named row P h p → M (refusedOn NoRoom P p))
+      → ((p q : Place) → Named row P h p → Askable (align (p .state)) n → reserve row P (align (p .state)) n ≡ some q → M (moveTo row P p n (some q)))
+      → M (move row P h n)
+  unfolding move moveAt
+  on-move w h n full moved = on-named-for w h n (moveAt row P n) (λ p b s. go p b s (reserve row P (align (p .state)) n) refl)
+    where
       go : (p : Place) → Named row P h p → Askable (align (p .state)) n → (r : Option Place) → reserve row P (align (p .state)) n ≡ r
           → M (moveTo row P p n r)
       go p b s none e = full p b

@@ -10,17 +10,18 @@ use Rattle.classes.specs.Alignments.{ordinary, alignOf, codeOf, enlarged}
 use Rattle.classes.proofs.Alignments.{enlarged-least}
 use Rattle.model.specs.declared.Slot.{Slot}
 use Rattle.model.specs.declared.Slot.the-variants.{Fresh, Idle, Live}
-use Rattle.model.specs.declared.Refusal.the-variants.{BadArena, TooLarge, AlreadyFree, Stale, NoRoom}
+use Rattle.model.specs.declared.Refusal.the-variants.{BadArena, TooLarge, AlreadyFree, Stale, NotInPlace, NoRoom}
 use Rattle.model.specs.declared.Refusal.the-variants.{TooLong, BadProposal, BadAlignment}
 use Rattle.model.specs.declared.Damage.{Damage}
 use Rattle.model.specs.State.{Pool, Place, isLive, granted, count, align, wellFormed, useBits, startOf, poolOf, start, handle}
 use Rattle.model.specs.Blocks.{damageIn}
 use Rattle.model.specs.Answers.{numberOf, refusal}
-use Rattle.model.specs.Plans.{Plan, Call, setsUp, grants, grantsAligned, releases, resizes, measures, reports, grantsList, valuesOf, refused, plan, NoPlace}
+use Rattle.model.specs.Plans.{Plan, Call, setsUp, grants, grantsAligned, releases, resizesInPlace, moves, measures, reports, grantsList, valuesOf}
+use Rattle.model.specs.Plans.{refused, refusedOn, plan, NoPlace}
 use Rattle.model.specs.Proposals.{entries, accepts, plannable}
 use Rattle.model.specs.Plans.{reserveAll, grantAllAt, grantList}
-use Rattle.model.specs.Plans.{reserve, grantAt, grantAs, grantAligned, lookup, newSize, onBlock, byHandle, onHandle, releaseAt, inPlace, resizeInPlace}
-use Rattle.model.specs.Plans.{resizeMove, moveTo, resizeAt, measureAt}
+use Rattle.model.specs.Plans.{reserve, grantAt, grantAs, grantAligned, lookup, newSize, onBlock, byHandle, onHandle, releaseAt, onHandleFor, resizeAt}
+use Rattle.model.specs.Plans.{moveTo, moveAt, inPlace, inPlaceAt, measureAt}
 use Rattle.model.specs.Calls as calls
 use Rattle.model.specs.Calls.{Form, FormLaws, Stands, Outcome, keeps, applied, unless, setUpRightBy, callBy, carriedBy, checkedBy, setUpBy}
 use Rattle.model.proofs.Lookup.{fits, lookup-start, lookup-found}
@@ -28,7 +29,8 @@ use Rattle.model.proofs.Formed.{code-kept}
 use Rattle.model.proofs.Lowest.{reserve-none, reserve-some}
 use Rattle.claims.specs.Demand1.{StaysInPlace, Reason, when, FirstDue, RefusedValues, six-zeros}
 use Rattle.claims.specs.Demand1.{one-zero, StartsAt, LiveAt, headerDue, guardDue, TooLargeAt}
-use Rattle.claims.specs.Demand1.{alreadyFree, stale, headerDamaged, overrun, blockReasons, sizeReasons, NoRoomToMove, listReasons}
+use Rattle.claims.specs.Demand1.{alreadyFree, stale, headerDamaged, overrun, blockReasons, sizeReasons, NotServed, NoRoomToMove, newSizeReasons}
+use Rattle.claims.specs.Demand1.{listReasons}
 use Rattle.claims.specs.Demand1.{NoAlignment, Meets, unsoundReason, reasons, Demand1}
 use Rattle.claims.proofs.StaysInPlace.{in-place-serves}
 use Rattle.claims.proofs.Codes.{no-code, some-code, enlarged-align, enlarged-code}
@@ -36,7 +38,7 @@ use Rattle.model.proofs.Handles.{by-bits}
 use Rattle.claims.proofs.Cases.{release-parts}
 use Rattle.claims.proofs.Meets.{too-long, short-enough, meets, meets-none}
 
--- a slot that is not live has no alignment: the size that a resize goes by is n itself
+-- a slot that is not live has no alignment: the size that answer 3 goes by is n itself
 idle-size : (x : Slot) (n : ℕ) → isLive x ≡ false → enlarged (align x) n ≡ n
 idle-size Fresh n e = refl
 idle-size (Idle r k d) n e = refl
@@ -81,10 +83,10 @@ module _ (row : ℕ) (pos : 0 < row) (P : Pool) (o : ℕ) where
   pub live-serves : (p : Place) (n : ℕ) → T (wellFormed P) → LiveAt row P o p → T (inPlace p n) ↔ StaysInPlace p n
   live-serves p n w l = in-place-serves p n (live-code p w l)
 
--- answer 3 of a resize, by what is found at the start of its handle
+-- answer 3 of a call that gives a block another size, by what is found at the start of its handle
 module _ (row : ℕ) (pos : 0 < row) (P : Pool) (h : ℕ) where
-  pub resize-large : (n : ℕ) → T (wellFormed P) → (tooLarge ≤ newSize (lookup row P (startOf h)) n) ↔ TooLargeAt row P h n
-  resize-large n w = go (lookup row P o) refl
+  pub size-large : (n : ℕ) → T (wellFormed P) → (tooLarge ≤ newSize (lookup row P (startOf h)) n) ↔ TooLargeAt row P h n
+  size-large n w = go (lookup row P o) refl
     where
       o : ℕ
       o = startOf h
@@ -259,27 +261,32 @@ module _ (row : ℕ) (pos : 0 < row) (F : Form) (L : FormLaws row F) (a : List �
         sized : 0 < codeOf b → (M : ℕ → Type 0) → M (enlarged (codeOf b) n) ↔ M (n + (b - 16))
         sized h M = (subst M (enlarged-code b n h), subst M (sym (enlarged-code b n h)))
 
-    resizes-right : (h n : ℕ) → Right (resizes h n) (when TooLarge (TooLargeAt row P h n) ∷ blockReasons row a P h (when NoRoom (NoRoomToMove row P h n) ∷ []))
-        (carriedBy row F a t (plan row P (resizes h n)))
+    -- a call that gives the block of a handle n bytes, and that the block itself may refuse
+    sized-right : (c : Call) → valuesOf c ≡ 1 → (h n : ℕ) (r : Reason) (f : Place → Plan)
+        → ((p : Place) → (f p .checks ≡ some p) × (LiveAt row P (startOf h) p → Right c (r ∷ []) (applied F a (f p))))
+        → Right c (newSizeReasons row a P h n r) (carriedBy row F a t (onHandleFor row P h n f))
+    unfolding onHandleFor
+    sized-right c v h n r f k =
+        small-right s c v _ (newSize (lookup row P (startOf h)) n) (size-large row pos P h n (s .0 .formed)) (block-right s c v h (r ∷ []) f k)
+
+    in-place-right : (h n : ℕ) → Right (resizesInPlace h n) (newSizeReasons row a P h n (when NotInPlace (NotServed row P h n)))
+        (carriedBy row F a t (plan row P (resizesInPlace h n)))
     unfolding plan
-    resizes-right h n =
-        small-right s c refl _ (newSize (lookup row P o) n) (resize-large row pos P h n (s .0 .formed))
-        (block-right s c refl h no-room (resizeAt row P n)
-        (λ p. choose-case (M p) (inPlace p n) (resizeInPlace row p n) (resizeMove row P p n)
-        (λ e. (refl, λ l. later-right c (λ (q, m, d, _). d (fitting p q e l m)) (done-right c _ refl)))
-        (λ e. room p e (reserve row P (align (p .state)) n) refl)))
+    in-place-right h n =
+        sized-right c refl h n no-place (inPlaceAt row P n)
+        (λ p. choose-case (λ (z : Plan). (z .checks ≡ some p) × (LiveAt row P o p → Right c (no-place ∷ []) (applied F a z))) (inPlace p n)
+        (resizeAt row p n) (refusedOn NotInPlace P p)
+        (λ e. (refl, λ l. later-right c (λ (q, m, d). d (fitting p q e l m)) (done-right c _ refl)))
+        (λ e. (refl, λ l. due-right c (gives-one c refl) (sym (s .1)) (p, l, λ v. subst T e (live-serves row pos P o p n (s .0 .formed) l .1 v)))))
       where
         c : Call
-        c = resizes h n
-
-        no-room : List Reason
-        no-room = when NoRoom (NoRoomToMove row P h n) ∷ []
+        c = resizesInPlace h n
 
         o : ℕ
         o = startOf h
 
-        M : Place → Plan → Type 0
-        M p z = (z .checks ≡ some p) × (LiveAt row P o p → Right c no-room (applied F a z))
+        no-place : Reason
+        no-place = when NotInPlace (NotServed row P h n)
 
         -- the block at the start is but one
         fitting : (p q : Place) → inPlace p n ≡ true → LiveAt row P o p → LiveAt row P o q → StaysInPlace q n
@@ -287,24 +294,35 @@ module _ (row : ℕ) (pos : 0 < row) (F : Form) (L : FormLaws row F) (a : List �
             live-serves row pos P o q n (s .0 .formed) m .0
             (starts-alike row pos P o (λ z. inPlace z n) p q (s .0 .formed) (l .here) (m .here) (true-T (inPlace p n) e))
 
+    moves-right : (h n : ℕ) → Right (moves h n) (newSizeReasons row a P h n (when NoRoom (NoRoomToMove row P h n)))
+        (carriedBy row F a t (plan row P (moves h n)))
+    unfolding plan
+    moves-right h n = sized-right c refl h n no-room (moveAt row P n) (λ p. room p (reserve row P (align (p .state)) n) refl)
+      where
+        c : Call
+        c = moves h n
+
+        o : ℕ
+        o = startOf h
+
+        no-room : Reason
+        no-room = when NoRoom (NoRoomToMove row P h n)
+
         -- there is no place for a size
         Full : ℕ → Type 0
         Full m = NoPlace row P (classOf m)
 
-        room : (p : Place) → inPlace p n ≡ false → (r : Option Place) → reserve row P (align (p .state)) n ≡ r → M p (moveTo row P p n r)
-        room p e none f = (
+        room : (p : Place) (r : Option Place) → reserve row P (align (p .state)) n ≡ r
+            → (moveTo row P p n r .checks ≡ some p) × (LiveAt row P o p → Right c (no-room ∷ []) (applied F a (moveTo row P p n r)))
+        room p none f = (
           refl,
-          λ l. due-right c (gives-one c refl) (sym (s .1)) (
-            p,
-            l,
-            λ v. subst T e (live-serves row pos P o p n (s .0 .formed) l .1 v),
-            subst Full (live-enlarged row pos P o p n (s .0 .formed) l) (reserve-none row pos P (align (p .state)) n f),
-          ),
+          λ l. due-right c (gives-one c refl) (sym (s .1))
+              (p, l, subst Full (live-enlarged row pos P o p n (s .0 .formed) l) (reserve-none row pos P (align (p .state)) n f)),
         )
-        room p e (some q) f = (
+        room p (some q) f = (
           refl,
           λ l. later-right c
-              (λ (x, m, _, d). reserve-some row P (align (p .state)) n q f
+              (λ (x, m, d). reserve-some row P (align (p .state)) n q f
               (subst (λ (x : Place). Full (enlarged (align (x .state)) n))
               (starts-same row pos P o x p (s .0 .formed) (m .here) (l .here))
               (subst Full (sym (live-enlarged row pos P o x n (s .0 .formed) m)) d)))
@@ -343,7 +361,8 @@ module _ (row : ℕ) (pos : 0 < row) (F : Form) (L : FormLaws row F) (a : List �
       checked-right (releases h) _ (gives-one _ refl)
       (λ s. block-right s (releases h) refl h [] (releaseAt row)
       (λ p. (release-parts row p .0, λ l. done-right (releases h) _ (ap (λ r. r .number) (release-parts row p .1)))))
-  call-right (resizes h n) = checked-right (resizes h n) _ (gives-one _ refl) (λ s. resizes-right s h n)
+  call-right (resizesInPlace h n) = checked-right (resizesInPlace h n) _ (gives-one _ refl) (λ s. in-place-right s h n)
+  call-right (moves h n) = checked-right (moves h n) _ (gives-one _ refl) (λ s. moves-right s h n)
   call-right (measures h) =
       checked-right (measures h) _ (gives-one _ refl)
       (λ s. block-right s (measures h) refl h [] (measureAt row P) (λ p. (refl, λ l. done-right (measures h) _ refl)))

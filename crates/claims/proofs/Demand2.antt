@@ -1,25 +1,27 @@
 -- Demand 2: release, measure and grant accept exactly what document 01 says, a granted block is where and what it says, and live blocks
 -- never share a byte.
 use Rattle.mem.proofs.Prelude.{_∙_, _≡_, sym, ap, refl, ap₂, subst, true, Bool, false, not, ⊎-elim, inl, inr, _⊎_, some, none, Option, List, [], _∷_, _++_, ℕ}
-use Rattle.mem.proofs.Prelude.{_<_, _≤_, _+_, _*_, _%_, arith, le-leb, leb, T, T-not, eqb, eq-eqb, eqb→eq, lit≤, length, length-map, map, getD}
+use Rattle.mem.proofs.Prelude.{_<_, _≤_, _+_, _*_, _-_, _%_, _&&_, arith, le-leb, leb, leb-true, leb-false, T, T-not, eqb, eq-eqb, eqb→eq, lit≤, length}
+use Rattle.mem.proofs.Prelude.{length-map, map, getD}
 use mathlib.Core.Logic.{_↔_}
 use lib.ListN.{List·getD-map}
 use Rattle.mem.specs.Lists.{choose, any, first}
 use Rattle.mem.specs.Bytes.{put}
-use Rattle.mem.proofs.Tests.{T-true, eq→eqb, none-any, choose-true, choose-false}
+use Rattle.mem.proofs.Tests.{T-true, and-left, and-right, eq→eqb, none-any, choose-true, choose-false}
 use Rattle.mem.proofs.Laws.{zeros-length}
-use Rattle.classes.specs.Classes.{classOf, rowsOf, tooLarge}
-use Rattle.classes.specs.Alignments.{ordinary, enlarged, Askable}
+use Rattle.classes.specs.Classes.{slotBytes, classOf, rowsOf, tooLarge}
+use Rattle.classes.specs.Alignments.{ordinary, alignOf, enlarged, Askable}
 use Rattle.model.specs.declared.Slot.{Slot}
 use Rattle.model.specs.declared.Slot.the-variants.{Fresh, Idle, Live}
+use Rattle.model.specs.declared.Refusal.the-variants.{TooLarge, NotInPlace}
 use Rattle.model.specs.declared.Damage.{Damage}
 use Rattle.model.specs.declared.Damage.the-variants.{Intact, Damaged}
-use Rattle.model.specs.State.{Pool, Place, group, isLive, isReady, count, disp, size, wellFormed, useBits, startOf, poolOf, slotNumber, rows}
+use Rattle.model.specs.State.{Pool, Place, group, isLive, isReady, count, disp, size, align, wellFormed, useBits, startOf, poolOf, slotNumber, rows}
 use Rattle.model.specs.State.{beginning, owned, start, handle}
 use Rattle.model.specs.Blocks.{frame, damageIn}
-use Rattle.model.specs.Answers.{refusal}
+use Rattle.model.specs.Answers.{numberOf, refusal}
 use Rattle.model.specs.Plans.{Plan, Site, freshPool, AllLive, NoPlace, plan, reserve, turnReady, refill, displaced, grantSlot, enframe}
-use Rattle.model.specs.Plans.{Call, setsUp, grants, grantsAligned, releases, resizes, measures, reports, grantsList}
+use Rattle.model.specs.Plans.{Call, setsUp, grants, grantsAligned, releases, resizesInPlace, moves, measures, reports, grantsList}
 use Rattle.model.specs.Plans.{grantAt, grantIn, lookup}
 use Rattle.model.specs.Calls.{Form, FormLaws, Outcome, Stands, applied, keeps, damaged, setUpRightBy, callBy, carriedBy, checkedBy, unless}
 use Rattle.model.proofs.Fresh.{whole-units, set-up-done, set-up-sound}
@@ -29,10 +31,11 @@ use Rattle.model.proofs.Lookup.{Fits, fits, disp-inside, owned-inside, Owns, ow
 use Rattle.model.proofs.Reserve.{Served, served, Granted, reserve-formed}
 use Rattle.model.proofs.Moves.{live-granted}
 use Rattle.model.proofs.Lowest.{site-lowest, first-lowest}
-use Rattle.claims.specs.Demand1.{Reason, FirstDue, StartsAt, LiveAt, headerDue, guardDue, blockReasons, unsoundReason, reasons}
+use Rattle.claims.specs.Demand1.{Reason, when, FirstDue, Near, StaysInPlace, StartsAt, LiveAt, headerDue, guardDue, blockReasons, TooLargeAt}
+use Rattle.claims.specs.Demand1.{NotServed, newSizeReasons, unsoundReason, reasons}
 use Rattle.claims.specs.Demand2 as demand2
 use Rattle.claims.specs.Demand2.{ReleasesExactly, MeasuresExactly, GrantsExactly, TurnsReady, Refilled, LaidOut, GrantedBy, GrantsAsSaid, InBlock}
-use Rattle.claims.specs.Demand2.{NeverShared, LeavesSound}
+use Rattle.claims.specs.Demand2.{Outgrows, InPlaceExactly, NeverShared, LeavesSound}
 use Rattle.model.proofs.Handles.{stepped-bits, start-cleared, by-bits}
 use Rattle.claims.proofs.Cases.{refuses, by-call, on-grant, reserve-live}
 use Rattle.claims.proofs.Demand1.{starts-found, none-starts, starts-same, starts-alike, found-starts, demand1}
@@ -63,6 +66,28 @@ due-none [] k d n = d
 due-none (r ∷ rs) k (inl (_, x)) n = absurd (n .0 x)
 due-none (r ∷ rs) k (inr (_, d)) n = due-none rs k d (n .1)
 
+-- a call's number is that of the last reason, which none before it has, exactly if that is the first due
+abbrev others : List Reason → ℕ → Bool
+others [] k = true
+others (r ∷ rs) k = not (eqb (numberOf (r .refusal)) k) && others rs k
+
+due-last : (rs : List Reason) (r : Reason) (k : ℕ) → FirstDue (rs ++ (r ∷ [])) k → k ≡ numberOf (r .refusal) → T (others rs (numberOf (r .refusal)))
+    → NoneDue rs × r .due
+due-last [] r k (inl (_, x)) e o = (tt, x)
+due-last [] r k (inr (_, z)) e o = absurd (refuses (r .refusal) (sym e ∙ z))
+due-last (d ∷ rs) r k (inl (f, _)) e o =
+    let same : Bool = eqb (numberOf (d .refusal)) (numberOf (r .refusal)) in
+    absurd (T-not same (and-left (not same) (others rs (numberOf (r .refusal))) o) (eq→eqb (numberOf (d .refusal)) (numberOf (r .refusal)) (sym f ∙ e)))
+due-last (d ∷ rs) r k (inr (n, g)) e o =
+    let same : Bool = eqb (numberOf (d .refusal)) (numberOf (r .refusal)) in
+    let (m, x) = due-last rs r k g e (and-right (not same) (others rs (numberOf (r .refusal))) o) in ((n, m), x)
+
+last-due : (rs : List Reason) (r : Reason) (k : ℕ) → FirstDue (rs ++ (r ∷ [])) k → NoneDue rs → r .due → k ≡ numberOf (r .refusal)
+last-due [] r k (inl (e, _)) n x = e
+last-due [] r k (inr (m, _)) n x = absurd (m x)
+last-due (d ∷ rs) r k (inl (_, y)) n x = absurd (n .0 y)
+last-due (d ∷ rs) r k (inr (_, g)) n x = last-due rs r k g (n .1) x
+
 -- ---- accepted calls
 
 module _ (row : ℕ) (pos : 0 < row) (F : Form) (L : FormLaws row F) (a : List ℕ) (t : F .Kept) where
@@ -85,7 +110,8 @@ module _ (row : ℕ) (pos : 0 < row) (F : Form) (L : FormLaws row F) (a : List �
       asked-sound (grants m) k n = unrefuted (F .sound (length a) t) (n .0)
       asked-sound (grantsAligned m b) k n = unrefuted (F .sound (length a) t) (n .0)
       asked-sound (releases h) k n = unrefuted (F .sound (length a) t) (n .0)
-      asked-sound (resizes h m) k n = unrefuted (F .sound (length a) t) (n .0)
+      asked-sound (resizesInPlace h m) k n = unrefuted (F .sound (length a) t) (n .0)
+      asked-sound (moves h m) k n = unrefuted (F .sound (length a) t) (n .0)
       asked-sound (measures h) k n = unrefuted (F .sound (length a) t) (n .0)
       asked-sound reports k n = unrefuted (F .sound (length a) t) (n .0)
       asked-sound (grantsList total cap places ns) k n = unrefuted (F .sound (length a) t) (n .0)
@@ -156,34 +182,76 @@ module _ (row : ℕ) (pos : 0 < row) (F : Form) (L : FormLaws row F) (a : List �
             },
           )
 
+  -- and of such a block none is due
+  intact-none : (h : ℕ) (p : Place) → demand2.Intact row a P h p → NoneDue (blockReasons row a P h [])
+  intact-none h p i =
+      let o : ℕ = startOf h in
+      let alike : (M : Place → Bool) (q : Place) → StartsAt row P o q → T (M p) → T (M q) = λ M q g. starts-alike row pos P o M p q w (i .live .here) g in (
+        λ d. d p (i .live .here),
+        (
+          λ (q, g, d). T-not (isLive (q .state)) d (alike (λ z. isLive (z .state)) q g (i .live .live)),
+          (
+            λ (q, l, d). d (subst (λ z. handle row z ≡ h) (starts-same row pos P o p q w (i .live .here) (l .here)) (i .present)),
+            (
+              λ (q, l, d). T-not (headerDue row a q) d (alike (headerDue row a) q (l .here) (i .header)),
+              (λ (q, l, _, d). T-not (guardDue row a q) d (alike (guardDue row a) q (l .here) (i .guard)), tt),
+            ),
+          ),
+        ),
+      )
+
   -- the number of a call on the block of a handle is 0 exactly if it is the present one of a live, intact block
   exactly : (h k : ℕ) → FirstDue (unsoundReason row F a t ∷ blockReasons row a P h []) k → (k ≡ 0) ↔ ((p : Place) × demand2.Intact row a P h p)
-  exactly h k d = (λ z. found-intact h [] (none-due all k d z .1), λ (p, i). due-none all k d (fine p i))
+  exactly h k d =
+      let all : List Reason = unsoundReason row F a t ∷ blockReasons row a P h [] in
+      (λ z. found-intact h [] (none-due all k d z .1), λ (p, i). due-none all k d (λ d. T-not (F .sound (length a) t) d s, intact-none h p i))
+
+  -- that of a resize in place is 11 exactly if moreover the block's slot does not serve the size
+  in-place-eleven : (h n k : ℕ) → FirstDue (unsoundReason row F a t ∷ newSizeReasons row a P h n (when NotInPlace (NotServed row P h n))) k
+      → (k ≡ 11) ↔ ((p : Place) × demand2.Intact row a P h p × Outgrows p n)
+  in-place-eleven h n k d = (
+    λ e.
+        let ((n₂, (n₃, m)), (q, l, x)) = due-last before r k d e tt in
+        let (p, i) = found-intact h [] m in
+        let y : q ≡ p = starts-same row pos P o q p w (l .here) (i .live .here) in (
+          p,
+          i,
+          record {
+            small = not-large (sized p) (λ g. n₃ (inr (p, i .live, g)));
+            fails = subst (λ (q : Place). (room q < n) ⊎ (Near (q .cls) (sized q) → ⊥)) y (by-size q x (leb n (room q)) refl);
+          },
+        ),
+    λ (p, i, v). last-due before r k d (
+      λ d. T-not (F .sound (length a) t) d s,
+      (
+        ⊎-elim (λ g. omega (arith, g, v .small))
+            (λ (q, l, g). omega (arith, subst (λ (q : Place). tooLarge ≤ sized q) (starts-same row pos P o q p w (l .here) (i .live .here)) g, v .small)),
+        intact-none h p i,
+      ),
+    ) (p, i .live, λ u. ⊎-elim (λ g. omega (arith, g, u .fits)) (λ g. g (u .near)) (v .fails)),
+  )
     where
       o : ℕ
       o = startOf h
 
-      all : List Reason
-      all = unsoundReason row F a t ∷ blockReasons row a P h []
+      before : List Reason
+      before = unsoundReason row F a t ∷ when TooLarge (TooLargeAt row P h n) ∷ blockReasons row a P h []
 
-      fine : (p : Place) → demand2.Intact row a P h p → NoneDue all
-      fine p i =
-          let alike : (M : Place → Bool) (q : Place) → StartsAt row P o q → T (M p) → T (M q) = λ M q g. starts-alike row pos P o M p q w (i .live .here) g in (
-            λ d. T-not (F .sound (length a) t) d s,
-            (
-              λ d. d p (i .live .here),
-              (
-                λ (q, g, d). T-not (isLive (q .state)) d (alike (λ z. isLive (z .state)) q g (i .live .live)),
-                (
-                  λ (q, l, d). d (subst (λ z. handle row z ≡ h) (starts-same row pos P o p q w (i .live .here) (l .here)) (i .present)),
-                  (
-                    λ (q, l, d). T-not (headerDue row a q) d (alike (headerDue row a) q (l .here) (i .header)),
-                    (λ (q, l, _, d). T-not (guardDue row a q) d (alike (guardDue row a) q (l .here) (i .guard)), tt),
-                  ),
-                ),
-              ),
-            ),
-          )
+      r : Reason
+      r = when NotInPlace (NotServed row P h n)
+
+      room : Place → ℕ
+      room q = slotBytes (q .cls) - 4 - 16 * disp (q .state)
+
+      sized : Place → ℕ
+      sized q = n + (alignOf (align (q .state)) - 16)
+
+      not-large : (x : ℕ) → (tooLarge ≤ x → ⊥) → x < tooLarge
+      not-large x f = omega (arith, f)
+
+      by-size : (q : Place) → (StaysInPlace q n → ⊥) → (b : Bool) → leb n (room q) ≡ b → (room q < n) ⊎ (Near (q .cls) (sized q) → ⊥)
+      by-size q x true e = inr (λ u. x (record { fits = leb-true n (room q) e; near = u }))
+      by-size q x false e = inl (leb-false n (room q) e)
 
   -- the size of an intact block
   measured : (h : ℕ) (p : Place) → demand2.Intact row a P h p → callBy row F a t (measures h) .answer .values ≡ size (p .state) ∷ []
@@ -204,6 +272,9 @@ releases-exactly row pos F L a t h s = exactly row pos F L a t s h _ (demand1 ro
 pub measures-exactly : (row : ℕ) → 0 < row → (F : Form) → FormLaws row F → MeasuresExactly row F
 measures-exactly row pos F L a t h s =
     (exactly row pos F L a t s h _ (demand1 row pos F L a t (measures h) .number), λ p i. measured row pos F L a t s h p i)
+
+pub in-place-exactly : (row : ℕ) → 0 < row → (F : Form) → FormLaws row F → InPlaceExactly row F
+in-place-exactly row pos F L a t h n s = in-place-eleven row pos F L a t s h n _ (demand1 row pos F L a t (resizesInPlace h n) .number)
 
 -- ---- what a grant refuses, and what it gives
 

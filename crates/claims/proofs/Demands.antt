@@ -15,15 +15,15 @@ use Rattle.claims.specs.Demands.{MeetsDemands, Demands}
 use Rattle.claims.proofs.Tables.{tables, plain-tables}
 use Rattle.claims.proofs.Bench.{too-large-anywhere}
 use Rattle.claims.proofs.Demand1.{demand1}
-use Rattle.claims.proofs.Demand2.{releases-exactly, measures-exactly, grants-exactly, grants-as-said, never-shared, leaves-sound}
+use Rattle.claims.proofs.Demand2.{releases-exactly, measures-exactly, in-place-exactly, grants-exactly, grants-as-said, never-shared, leaves-sound}
 use Rattle.claims.proofs.AsSaid.{never-at-zero, sets-up-as-said, sets-up-as-planned, reads-only, reports-as-said, releases-as-said}
 use Rattle.claims.proofs.StaysInPlace.{serves-ordinary}
 use Rattle.claims.proofs.Stays.{others-stay}
-use Rattle.claims.proofs.Kept.{resizes-keep-alignment}
+use Rattle.claims.proofs.Kept.{sizes-keep-alignment}
 use Rattle.claims.proofs.Aligned.{aligned-ordinary, aligned-exactly, aligned-as-said}
 use Rattle.claims.proofs.Guards.{headers-as-said, guards-as-said}
 use Rattle.claims.proofs.Soundness.{arenas-as-said, sets-up-exactly, sound-by-rules}
-use Rattle.claims.proofs.Resizes.{resizes-as-said}
+use Rattle.claims.proofs.Resizes.{in-place-as-said, moves-as-said}
 use Rattle.claims.proofs.Demand3.{steers-nothing, stores-admitted, stores-only, model-stands}
 use Rattle.claims.proofs.History.{history}
 use Rattle.claims.proofs.Stale.{starts-cleared, counts-step, stale-refused}
@@ -39,6 +39,7 @@ meets-demands row pos F L = record {
   demand1 = demand1 row pos F L;
   releases-exactly = releases-exactly row pos F L;
   measures-exactly = measures-exactly row pos F L;
+  in-place-exactly = in-place-exactly row pos F L;
   grants-exactly = grants-exactly row pos F L;
   aligned-exactly = aligned-exactly row pos F L;
   sets-up-as-said = sets-up-as-said row pos F L;
@@ -47,7 +48,8 @@ meets-demands row pos F L = record {
   aligned-as-said = aligned-as-said row pos F L;
   aligned-ordinary = aligned-ordinary row F;
   releases-as-said = releases-as-said row pos F L;
-  resizes-as-said = resizes-as-said row pos F L;
+  in-place-as-said = in-place-as-said row pos F L;
+  moves-as-said = moves-as-said row pos F L;
   reports-as-said = reports-as-said row F;
   reads-only = reads-only row pos F L;
   headers-as-said = headers-as-said row pos F L;
@@ -57,7 +59,7 @@ meets-demands row pos F L = record {
   too-large-anywhere = too-large-anywhere row pos F L;
   lists-as-grants = lists-as-grants row F pos L;
   lists-exactly = lists-exactly row F pos L;
-  resizes-keep-alignment = resizes-keep-alignment row pos F L;
+  sizes-keep-alignment = sizes-keep-alignment row pos F L;
   others-stay = others-stay row pos F L;
   starts-cleared = starts-cleared row F L;
   counts-step = counts-step row pos F L;

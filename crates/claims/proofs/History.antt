@@ -12,9 +12,9 @@ use Rattle.model.specs.declared.Slot.the-variants.{Fresh, Idle, Live}
 use Rattle.model.specs.declared.Refusal.{Refusal}
 use Rattle.model.specs.State.{Span, Pool, Place, free, group, isLive, isReady, disp, size, wellFormed, poolOf, become, slotNumber, rowsIn, rows, beginning}
 use Rattle.model.specs.State.{handle, count, align, useBits}
-use Rattle.model.specs.Plans.{Plan, turnReady, refill, reserve, vacant, releaseAt, freshPool, refused, release, discard, resizeInPlace, moveTo, measureAt}
-use Rattle.model.specs.Plans.{slotSum, totals, report, Call, setsUp, grants, grantsAligned, releases, resizes, measures, reports, grantsList, plan}
-use Rattle.model.specs.Plans.{measure, reserveAll, poolAfter}
+use Rattle.model.specs.Plans.{Plan, turnReady, refill, reserve, vacant, releaseAt, freshPool, refused, release, discard, resizeAt, moveTo, measureAt}
+use Rattle.model.specs.Plans.{slotSum, totals, report, measure, reserveAll, poolAfter, plan}
+use Rattle.model.specs.Plans.{Call, setsUp, grants, grantsAligned, releases, resizesInPlace, moves, measures, reports, grantsList}
 use Rattle.model.proofs.Lists.{small, by-grants, on-list}
 use Rattle.model.specs.Calls.{Form, FormLaws, Outcome, Stands, callBy, setUpBy, setUpRightBy}
 use Rattle.model.proofs.Rooms.{rows-append}
@@ -28,7 +28,7 @@ use Rattle.model.proofs.Moves.{Old, old, old-released}
 use Rattle.claims.specs.History.{LedgerBlock, Ledger, opening, without, enteredGrant, enteredEach}
 use Rattle.claims.specs.History.{entered, Asked, booked, booksAfter, Balances, ReportTells, History}
 use Rattle.model.proofs.Handles.{same-start, stays-handle}
-use Rattle.claims.proofs.Cases.{reserve-live, taken-same, refuses, by-call, Named, on-named, on-grant, on-aligned, on-resize}
+use Rattle.claims.proofs.Cases.{reserve-live, taken-same, refuses, by-call, Named, on-named, on-grant, on-aligned, on-in-place, on-move}
 use Rattle.claims.proofs.Demand1.{demand1}
 use Rattle.claims.proofs.Demand2.{Accepted, accepted, set-up-accepted, sound-leaves}
 use Rattle.claims.proofs.AsSaid.{reports-as-said}
@@ -290,18 +290,27 @@ module _ (row : ℕ) where
           count = omega (arith, struck p h n (λ e. 1), t .count);
         }
 
-    in-place-enters : (h m : ℕ) (p : Place) → Named row P h p → Enters (resizes h m) (resizeInPlace row p m)
-    unfolding resizeInPlace rest
+    in-place-enters : (h m : ℕ) (p : Place) → Named row P h p → Enters (resizesInPlace h m) (resizeAt row p m)
+    unfolding resizeAt rest
     in-place-enters h m p n z =
         let q : Place = become p (Live (record { count = count (p .state); disp = disp (p .state); size = m; align = align (p .state) })) in
         record {
-          sums = λ g. omega (arith, struck p h n g, t .sums g, ap (weigh row g 0) (n .pool), live-weigh row g p (n .live), live-weigh row g q tt);
+          sums = λ g.
+              omega (
+                arith,
+                struck p h n g,
+                t .sums g,
+                ap (weigh row g 0) (n .pool),
+                live-weigh row g p (n .live),
+                live-weigh row g q tt,
+                ap (λ v. g (record { handle = v; size = m })) (n .present),
+              );
           count = omega (arith, struck p h n (λ e. 1), t .count);
         }
 
     -- the old block is where it was when the new one has been granted
     moved-enters : (h m : ℕ) (p q : Place) → Named row P h p → Askable (align (p .state)) m → reserve row P (align (p .state)) m ≡ some q
-        → Enters (resizes h m) (moveTo row P p m (some q))
+        → Enters (moves h m) (moveTo row P p m (some q))
     moved-enters h m p q n s e z =
         let k : ℕ = align (p .state) in
         let y : Old row pos P w k m s q e p (n .pool) (n .live) = old row pos P w k m s q e p (n .pool) (n .live) in
@@ -334,9 +343,12 @@ module _ (row : ℕ) where
         on-aligned row pos P (Enters (grantsAligned m b)) (refused-enters (grantsAligned m b)) m b (λ q h e z. grant-tallies P (codeOf b) m q w e l t)
     plan-enters (releases h) =
         on-named row pos P (Enters (releases h)) (refused-enters (releases h)) h (releaseAt row) (λ p n. release-enters h p n)
-    plan-enters (resizes h m) =
-        on-resize row pos P (Enters (resizes h m)) (refused-enters (resizes h m)) w h m (λ p n i. in-place-enters h m p n)
-        (λ p n z. absurd (omega arith)) (λ p q n s e. moved-enters h m p q n s e)
+    plan-enters (resizesInPlace h m) =
+        on-in-place row pos P (Enters (resizesInPlace h m)) (refused-enters (resizesInPlace h m)) w h m (λ p n i. in-place-enters h m p n)
+        (λ p n z. absurd (omega arith))
+    plan-enters (moves h m) =
+        on-move row pos P (Enters (moves h m)) (refused-enters (moves h m)) w h m (λ p n z. absurd (omega arith))
+        (λ p q n s e. moved-enters h m p q n s e)
     plan-enters (measures h) = on-named row pos P (Enters (measures h)) (refused-enters (measures h)) h (measureAt row P) (λ p n z. t)
     plan-enters reports = λ z. t
     plan-enters (grantsList total cap places ns) =

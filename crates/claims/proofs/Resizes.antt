@@ -1,5 +1,5 @@
--- A resize leaves what document 01 says: in place, or as a grant, a copy and a release.
-use Rattle.mem.proofs.Prelude.{_∙_, _≡_, sym, ap, refl, subst, false, ⊎-elim, inl, inr, _⊎_, some, none, Option, List, [], _∷_, _++_}
+-- What gives a block another size leaves what document 01 says: in place, or as a grant, a copy and a release.
+use Rattle.mem.proofs.Prelude.{_∙_, _≡_, sym, ap, refl, subst, ⊎-elim, inl, inr, _⊎_, some, none, Option, List, [], _∷_, _++_}
 use Rattle.mem.proofs.Prelude.{append-assoc, append-nil, _+_, ℕ, _<_, _≤_, _*_, _-_, arith, lt-leb, lt-ltb, T, leb, ltb, drop, getD}
 use Rattle.mem.proofs.Prelude.{length, length-append}
 use Rattle.mem.specs.Lists.{choose}
@@ -9,30 +9,31 @@ use Rattle.mem.proofs.Laws.{put-length, put-before, put-past, part-put, part-wr
 use Rattle.mem.proofs.Laws.{zeros-put, eq→same}
 use Rattle.classes.specs.Classes.{slotBytes, tooLarge}
 use Rattle.classes.specs.Alignments.{alignOf, codeOf, enlarged, Askable}
-use Rattle.model.specs.declared.Refusal.the-variants.{NoRoom}
+use Rattle.model.specs.declared.Refusal.the-variants.{NotInPlace, NoRoom}
 use Rattle.model.specs.declared.Damage.the-variants.{Intact}
 use Rattle.model.specs.State.{Pool, Place, disp, size, align, wellFormed, aligned, startOf, poolOf, slotNumber, rows, owned, start, handle}
 use Rattle.model.specs.Blocks.{reserved, header, guard, firstSpare, spare, headerRight, guardRight, damageIn, damage, frame}
-use Rattle.model.specs.Plans.{Plan, Call, grantsAligned, releases, resizes, plan, lookup, newSize, onHandle, releaseAt, release, discard, inPlace}
-use Rattle.model.specs.Plans.{resizeInPlace, resizeMove, moveTo, resizeAt, resize, reserve, grantAt, grantAs, grantAligned, enframe}
+use Rattle.model.specs.Plans.{Plan, Call, grantsAligned, releases, resizesInPlace, moves, plan, lookup, newSize, onHandle, onHandleFor, releaseAt, release}
+use Rattle.model.specs.Plans.{discard, inPlace, resizeAt, moveTo, moveAt, inPlaceAt, resizeInPlace, move, refusedOn}
+use Rattle.model.specs.Plans.{reserve, grantAt, grantAs, grantAligned, enframe}
 use Rattle.model.specs.Tables.{view, arenaRight}
 use Rattle.model.specs.Calls.{Form, FormLaws, Stands, Outcome, applied, written, damaged, carriedBy, callBy}
 use Rattle.model.proofs.Fresh.{whole-units}
 use Rattle.model.proofs.Blocks.{header-length, guard-fits, spare-length, spare-guarded, spare-bare, spare-first, frame-length}
 use Rattle.model.proofs.Lookup.{Fits, fits, disp-inside, owned-inside, Owns, outside-group}
 use Rattle.model.proofs.Reserve.{Granted, reserve-formed, reserve-size, served}
-use Rattle.model.proofs.Formed.{resize-in-place-formed, resizable}
-use Rattle.model.proofs.Calls.{call-sound, carried-whole}
+use Rattle.model.proofs.Formed.{resize-at-formed, resizable}
+use Rattle.model.proofs.Calls.{Asks, call-sound, carried-whole}
 use Rattle.model.proofs.Moves.{Old, old, old-released, old-apart, slot-owned, stays-start}
-use Rattle.claims.specs.Demand1.{when, NoRoomToMove, StaysInPlace, headerDue, guardDue, reasons}
+use Rattle.claims.specs.Demand1.{Reason, when, NotServed, NoRoomToMove, StaysInPlace, headerDue, guardDue, newSizeReasons, unsoundReason, reasons}
 use Rattle.claims.specs.Demand2 as demand2
-use Rattle.claims.specs.AsSaid.{Waits, Goes, sized, stay, InPlace, Moved, MovedBy, ResizesAsSaid}
+use Rattle.claims.specs.AsSaid.{Waits, Goes, sized, stay, InPlace, InPlaceAsSaid, Moved, MovedBy, MovesAsSaid}
 use Rattle.model.proofs.Handles.{start-cleared, stays-handle, on-present}
 use Rattle.claims.proofs.Cases.{release-parts, reserve-live}
 use Rattle.claims.proofs.Codes.{code-align}
 use Rattle.claims.proofs.StaysInPlace.{in-place-serves}
-use Rattle.claims.proofs.Demand1.{demand1, starts-found, resize-large}
-use Rattle.claims.proofs.Demand2.{Accepted, accepted, none-due, found-intact}
+use Rattle.claims.proofs.Demand1.{demand1, starts-found, size-large}
+use Rattle.claims.proofs.Demand2.{Accepted, accepted, NoneDue, none-due, found-intact}
 use Rattle.claims.proofs.AsSaid.{released-as-said, on-intact, place-formed}
 use Rattle.claims.proofs.Frames.{guard-or-none}
 use Rattle.claims.proofs.Stays.{live-at}
@@ -142,15 +143,16 @@ module _ (row : ℕ) (pos : 0 < row) (a : List ℕ) (n : ℕ) (p : Place) (w : T
       bare : (x s h o k n r m : ℕ) → h ≤ r → r ≤ s → k ≤ n → o + n + r ≡ x + s → m ≡ n - k + (r - h) → x + (s - h) ≡ o + k + m
       bare x s h o k n r m j b i e f = omega arith
 
-  in-place-as-said : (F : Form) → FormLaws row F → (P : Pool) (h : ℕ) → demand2.Intact row a P h p
-      → (z : Outcome (F .Kept)) → z ≡ applied F a (resizeInPlace row p n) → InPlace row F a h n p z
-  unfolding resizeInPlace
-  in-place-as-said F L P h b z e =
+  in-place : (F : Form) → FormLaws row F → (u : F .Kept) (h : ℕ) → demand2.Intact row a (F .view u) h p
+      → (z : Outcome (F .Kept)) → z ≡ applied F a (resizeAt row p n) → InPlace row F a u h n p z
+  unfolding resizeAt
+  in-place F L u h b z e =
       let x : z .arena ≡ reframed = ap (λ (r : Outcome (F .Kept)). r .arena) e in
       let y : F .view (z .kept) ≡ poolOf (sized p n) =
       ap (λ (r : Outcome (F .Kept)). F .view (r .kept)) e
-      ∙ L .says (poolOf (sized p n)) (resize-in-place-formed row p n w (b .live .live) (asked .small) t .formed) in
+      ∙ L .says (poolOf (sized p n)) (resize-at-formed row p n w (b .live .live) (asked .small) t .formed) in
       record {
+        block = b;
         serves = serves;
         value = ap (λ (r : Outcome (F .Kept)). r .answer .values) e ∙ ap (λ v. v ∷ []) (b .present);
         pool = y;
@@ -176,7 +178,7 @@ module _ (row : ℕ) (pos : 0 < row) (a : List ℕ) (n : ℕ) (p : Place) (w : T
             ∙ put-past (o - 4) head a i 0 (omega (arith, b, whole, header-length c (slotNumber p) d n)));
       }
 
--- ---- resize by a move
+-- ---- move
 
 -- the old block p and the new block q, which has its alignment, in an arena as long as the pool
 module _ (row : ℕ) (pos : 0 < row) (P : Pool) (w : T (wellFormed P)) (a : List ℕ) (long : length a ≡ row * rows row P) (n : ℕ) (p : Place)
@@ -314,10 +316,10 @@ module _ (row : ℕ) (pos : 0 < row) (P : Pool) (w : T (wellFormed P)) (a : List
         (reserve-live row P code n q (served row P code n q w found)) o (g .none-live))
 
     -- the grant, the copy and the release make the move
-    moved : (g z : Outcome (F .Kept)) → g ≡ applied F a (grantAt row P (some q)) → T (arenaRight row (length a)) → T (aligned row P)
-        → inPlace p n ≡ false → z ≡ applied F a (moveTo row P p n (some q)) → MovedBy row F a h n p g z
+    moved : (t : F .Kept) → P ≡ F .view t → (g z : Outcome (F .Kept)) → g ≡ applied F a (grantAt row P (some q)) → T (arenaRight row (length a))
+        → T (aligned row P) → z ≡ applied F a (moveTo row P p n (some q)) → MovedBy row F a t h n p g z
     unfolding enframe
-    moved g z e m b f l =
+    moved t says g z e m b l =
         let r : Outcome (F .Kept) = callBy row F copy (F .encode (poolOf q)) (releases h) in
         let x : r ≡ applied F copy (releaseAt row (beside .place)) = release-done m b in
         let v : startOf (handle row q) ≡ start row q = start-cleared row (whole-units row (length a) m) q in
@@ -325,22 +327,23 @@ module _ (row : ℕ) (pos : 0 < row) (P : Pool) (w : T (wellFormed P)) (a : List
         let y : z .arena ≡ r .arena =
         ap (λ (r : Outcome (F .Kept)). r .arena) l ∙ ap (λ (d : Plan). written copy (d .changes)) discarded-old
         ∙ sym (ap (λ (r : Outcome (F .Kept)). r .arena) x) in
-        subst (λ (g : Outcome (F .Kept)). MovedBy row F a h n p g z) (sym e)
-        (subst (λ s. Moved row F a h n p G (handle row q) (put s first laid) z) (sym v) (record {
-          serves-not = λ v. subst T f (in-place-serves p n (asked .some-code) .1 v);
+        subst (λ (g : Outcome (F .Kept)). MovedBy row F a t h n p g z) (sym e)
+        (subst (λ s. Moved row F a t h n p G (handle row q) (put s first laid) z) (sym v) (record {
+          block = subst (λ P. demand2.Intact row a P h p) says i;
           granted = refl;
           answer = ap (λ (r : Outcome (F .Kept)). r .answer) l;
           released = ap (λ (r : Outcome (F .Kept)). r .answer .number) x ∙ ap (λ r. r .number) (release-parts row (beside .place) .1);
           arena = y;
           kept = ap (λ (r : Outcome (F .Kept)). r .kept) l ∙ ap (λ (d : Plan). F .encode (d .pool)) discarded-old
               ∙ sym (ap (λ (r : Outcome (F .Kept)). r .kept) x);
+          elsewhere = λ s. ⊎-elim (λ x. omega (arith, x, v, s, inside-p)) (λ x. omega (arith, x, v, s, inside-q)) apart;
           stays = λ j k.
               ap (λ s. getD (z .arena) (s + j) 0) v ∙ ap (λ b. getD b (start row q + j) 0) y
               ∙ new-kept r (released-as-said row pos F L copy (beside .place) (beside .formed) (beside .live) r x) (start row q + j) (new-owns j k)
               ∙ copy-there j k;
         }))
 
--- ---- every accepted resize
+-- ---- every accepted call
 
 -- a grant of a code's bytes is one with that code
 aligned-as : (row : ℕ) (P : Pool) (k n : ℕ) → 1 ≤ k → k ≤ 9 → grantAligned row P n (alignOf k) ≡ grantAs row P k n
@@ -371,45 +374,73 @@ module _ (row : ℕ) (pos : 0 < row) (F : Form) (L : FormLaws row F) (a : List �
       ∙ ap (grantAt row P) e)
       ∙ carried-whole row F a t (grantAt row P (some q)) refl
 
-  -- a resize that was done, of the block p
-  resized-as-said : (h : ℕ) → demand2.Intact row a P h p → (z : Outcome (F .Kept)) → z .answer .number ≡ 0
-      → z ≡ applied F a (resizeAt row P n p) → InPlace row F a h n p z ⊎ MovedBy row F a h n p (callBy row F a t asks) z
-  unfolding resizeAt resizeMove
-  resized-as-said h i z d l =
-      choose-case (λ (r : Plan). z ≡ applied F a r → InPlace row F a h n p z ⊎ M) (inPlace p n) (resizeInPlace row p n)
-      (resizeMove row P p n)
-      (λ e l. inl (in-place-as-said row pos a n p (place-formed row pos P (s .formed) a h p i)
-      (s .long ∙ ap (λ Q. row * rows row Q) (sym (i .live .here .slotted .pool))) asked (true-T (inPlace p n) e) F L P h i z l))
-      (λ e l. inr (go e (reserve row P (align (p .state)) n) refl l)) l
+  -- a call that was done, of the block p
+  in-place-done : (h : ℕ) → demand2.Intact row a P h p → (z : Outcome (F .Kept)) → z .answer .number ≡ 0
+      → z ≡ applied F a (inPlaceAt row P n p) → InPlace row F a t h n p z
+  unfolding inPlaceAt
+  in-place-done h i z d =
+      choose-case (λ (r : Plan). z ≡ applied F a r → InPlace row F a t h n p z) (inPlace p n) (resizeAt row p n) (refusedOn NotInPlace P p)
+      (λ e. in-place row pos a n p (place-formed row pos P (s .formed) a h p i)
+      (s .long ∙ ap (λ Q. row * rows row Q) (sym (i .live .here .slotted .pool))) asked (true-T (inPlace p n) e) F L t h i z)
+      (λ e l. absurd (omega (arith, d, ap (λ (r : Outcome (F .Kept)). r .answer .number) l)))
+
+  move-done : (h : ℕ) → demand2.Intact row a P h p → (z : Outcome (F .Kept)) → z .answer .number ≡ 0
+      → z ≡ applied F a (moveAt row P n p) → MovedBy row F a t h n p (callBy row F a t asks) z
+  unfolding moveAt
+  move-done h i z d = go (reserve row P (align (p .state)) n) refl
     where
-      M : Type 0
-      M = MovedBy row F a h n p (callBy row F a t asks) z
+      go : (r : Option Place) → reserve row P (align (p .state)) n ≡ r → z ≡ applied F a (moveTo row P p n r)
+          → MovedBy row F a t h n p (callBy row F a t asks) z
+      go none f l = absurd (omega (arith, d, ap (λ (r : Outcome (F .Kept)). r .answer .number) l))
+      go (some q) f l =
+          moved row pos P (s .formed) a (s .long) n p asked q f h i F L t refl (callBy row F a t asks) z (grant-done q f) (s .lawful) (s .bounds) l
 
-      go : inPlace p n ≡ false → (r : Option Place) → reserve row P (align (p .state)) n ≡ r → z ≡ applied F a (moveTo row P p n r) → M
-      go e none f l = absurd (omega (arith, d, ap (λ (r : Outcome (F .Kept)). r .answer .number) l))
-      go e (some q) f l =
-          moved row pos P (s .formed) a (s .long) n p asked q f h i F L (callBy row F a t asks) z (grant-done q f) (s .lawful) (s .bounds) e l
+-- the block of an accepted call that gives it n bytes, and that its plan for the block is carried out
+module _ (row : ℕ) (pos : 0 < row) (F : Form) (L : FormLaws row F) (a : List ℕ) (t : F .Kept) (h n : ℕ) (f : Place → Plan) where
+  record SizedBy (c : Call) : Type 0 where
+    sound-tables : T (F .sound (length a) t)
+    place : Place
+    block : demand2.Intact row a (F .view t) h place
+    asked : Askable (align (place .state)) n
+    left : callBy row F a t c ≡ applied F a (f place)
 
-pub resizes-as-said : (row : ℕ) → 0 < row → (F : Form) → FormLaws row F → ResizesAsSaid row F
-unfolding plan resize
-resizes-as-said row pos F L a t h n z =
-    let c : Call = resizes h n in
-    let o : ℕ = startOf h in
-    let y : Accepted row pos F L a t c = accepted row pos F L a t c tt z in
-    let P : Pool = F .view t in
-    let w : T (wellFormed P) = L .only (length a) t (y .sound-tables) .0 .formed in
-    let (_, (n₃, m)) = none-due (reasons row F a t c) _ (demand1 row pos F L a t c .number) z in
-    let x : ℕ = newSize (lookup row P o) n in
-    let s : x < tooLarge = not-large x (λ g. n₃ (resize-large row pos P h n w .0 g)) in
-    let (p, i) = found-intact row pos F L a t (y .sound-tables) h (when NoRoom (NoRoomToMove row P h n) ∷ []) m in
-    let k : Askable (align (p .state)) n =
-    resizable row pos P o n w p (starts-found row pos P o p w (i .live .here)) (i .live .here .slotted .pool) (i .live .live) s in
-    let l : callBy row F a t c ≡ applied F a (resizeAt row P n p) =
-    y .left
-    ∙ ap (applied F a)
-    (choose-false (leb tooLarge x) _ (onHandle row P h (resizeAt row P n)) (lt-leb tooLarge x s)
-    ∙ on-intact row pos P w a h p i (resizeAt row P n)) in
-    (p, record { block = i; done = resized-as-said row pos F L a t (y .sound-tables) n p k h i (callBy row F a t c) z l })
-  where
-    not-large : (x : ℕ) → (tooLarge ≤ x → ⊥) → x < tooLarge
-    not-large x f = omega (arith, f)
+  sized-by : (c : Call) → Asks c → (r : Reason) → NoneDue (unsoundReason row F a t ∷ newSizeReasons row a (F .view t) h n r)
+      → plan row (F .view t) c ≡ onHandleFor row (F .view t) h n f → callBy row F a t c .answer .number ≡ 0 → SizedBy c
+  unfolding onHandleFor
+  sized-by c k r (_, (n₃, m)) e z =
+      let o : ℕ = startOf h in
+      let y : Accepted row pos F L a t c = accepted row pos F L a t c k z in
+      let P : Pool = F .view t in
+      let w : T (wellFormed P) = L .only (length a) t (y .sound-tables) .0 .formed in
+      let x : ℕ = newSize (lookup row P o) n in
+      let s : x < tooLarge = not-large x (λ g. n₃ (size-large row pos P h n w .0 g)) in
+      let (p, i) = found-intact row pos F L a t (y .sound-tables) h (r ∷ []) m in
+      record {
+        sound-tables = y .sound-tables;
+        place = p;
+        block = i;
+        asked = resizable row pos P o n w p (starts-found row pos P o p w (i .live .here)) (i .live .here .slotted .pool) (i .live .live) s;
+        left = y .left
+            ∙ ap (applied F a) (e ∙ choose-false (leb tooLarge x) _ (onHandle row P h f) (lt-leb tooLarge x s) ∙ on-intact row pos P w a h p i f);
+      }
+    where
+      not-large : (x : ℕ) → (tooLarge ≤ x → ⊥) → x < tooLarge
+      not-large x f = omega (arith, f)
+
+pub in-place-as-said : (row : ℕ) → 0 < row → (F : Form) → FormLaws row F → InPlaceAsSaid row F
+unfolding plan resizeInPlace
+in-place-as-said row pos F L a t h n z =
+    let c : Call = resizesInPlace h n in
+    let y : SizedBy row pos F L a t h n (inPlaceAt row (F .view t) n) c =
+    sized-by row pos F L a t h n (inPlaceAt row (F .view t) n) c tt (when NotInPlace (NotServed row (F .view t) h n))
+    (none-due (reasons row F a t c) _ (demand1 row pos F L a t c .number) z) refl z in
+    (y .place, in-place-done row pos F L a t (y .sound-tables) n (y .place) (y .asked) h (y .block) (callBy row F a t c) z (y .left))
+
+pub moves-as-said : (row : ℕ) → 0 < row → (F : Form) → FormLaws row F → MovesAsSaid row F
+unfolding plan move
+moves-as-said row pos F L a t h n z =
+    let c : Call = moves h n in
+    let y : SizedBy row pos F L a t h n (moveAt row (F .view t) n) c =
+    sized-by row pos F L a t h n (moveAt row (F .view t) n) c tt (when NoRoom (NoRoomToMove row (F .view t) h n))
+    (none-due (reasons row F a t c) _ (demand1 row pos F L a t c .number) z) refl z in
+    (y .place, move-done row pos F L a t (y .sound-tables) n (y .place) (y .asked) h (y .block) (callBy row F a t c) z (y .left))

@@ -9,9 +9,9 @@ use Rattle.classes.specs.Alignments.{ordinary, codeOf, Askable}
 use Rattle.classes.proofs.Laws.{rows-pos}
 use Rattle.model.specs.declared.Slot.{Slot}
 use Rattle.model.specs.State.{Pool, Place, isLive, align, wellFormed, poolOf, become, rows, SameSlot}
-use Rattle.model.specs.Plans.{Plan, reserve, reserveAll, poolAfter, vacant, releaseAt, release, resizeInPlace, moveTo}
+use Rattle.model.specs.Plans.{Plan, reserve, reserveAll, poolAfter, vacant, releaseAt, release, resizeAt, moveTo}
 use Rattle.model.specs.Plans.{measure, measureAt, report, freshPool, plan}
-use Rattle.model.specs.Plans.{Call, setsUp, grants, grantsAligned, releases, resizes, measures, reports, grantsList}
+use Rattle.model.specs.Plans.{Call, setsUp, grants, grantsAligned, releases, resizesInPlace, moves, measures, reports, grantsList}
 use Rattle.model.proofs.Rooms.{rows-append}
 use Rattle.model.proofs.Fresh.{fresh-rows}
 use Rattle.model.proofs.Lookup.{groupOf, fits, one-or-other}
@@ -20,8 +20,8 @@ use Rattle.model.proofs.Moves.{slot-unique, Old, old, old-released}
 use Rattle.model.proofs.Lists.{small, by-grants, on-list}
 use Rattle.model.proofs.Formed.{any-middle, vacant-sound, become-formed}
 use Rattle.model.proofs.Calls.{Asks}
-use Rattle.claims.specs.Stale.{Grants, grants-one, grants-aligned, grants-resized, grants-list, NotGranted, Steps}
-use Rattle.claims.proofs.Cases.{Named, on-named, on-grant, on-aligned, on-resize}
+use Rattle.claims.specs.Stale.{Grants, grants-one, grants-aligned, grants-moved, grants-list, NotGranted, Steps}
+use Rattle.claims.proofs.Cases.{Named, on-named, on-grant, on-aligned, on-in-place, on-move}
 use Rattle.claims.proofs.Stays.{KeptIn, become-keeps}
 
 module _ (row : ℕ) (pos : 0 < row) where
@@ -136,20 +136,20 @@ module _ (row : ℕ) (pos : 0 < row) where
 
     -- a move: a grant, and the old block is given back
     move-steps : (h n : ℕ) (o g : Place) → Named row P h o → Askable (align (o .state)) n → reserve row P (align (o .state)) n ≡ some g
-        → Fate (resizes h n) (moveTo row P o n (some g))
+        → Fate (moves h n) (moveTo row P o n (some g))
     move-steps h n o g b s f _ q i u =
         let (p′, a, v, go) = reserve-goes row P (align (o .state)) n g w f p e in
         let y : Old row pos P w (align (o .state)) n s g f o (b .pool) (b .live) = old row pos P w (align (o .state)) n s g f o (b .pool) (b .live) in
         let d : poolOf q ≡ releaseAt row (y .place) .pool =
         i ∙ ap (λ (r : Plan). r .pool) (old-released row pos P w (align (o .state)) n s g f o (b .pool) (b .live)) in
-        steps-after (resizes h n) grants-resized (p′ .state) (q .state) go (given-back (y .place) (y .formed) (y .live) q d .others p′ (a ∙ sym (y .pool))
+        steps-after (moves h n) grants-moved (p′ .state) (q .state) go (given-back (y .place) (y .formed) (y .live) q d .others p′ (a ∙ sym (y .pool))
         (slot-after row p′ p q (slot-back row p p′ v) u))
 
     -- in place another slot changes, or this one keeps its count
-    in-place-steps : (h n : ℕ) (o : Place) → Named row P h o → Fate (resizes h n) (resizeInPlace row o n)
-    unfolding resizeInPlace
+    in-place-steps : (h n : ℕ) (o : Place) → Named row P h o → Fate (resizesInPlace h n) (resizeAt row o n)
+    unfolding resizeAt
     in-place-steps h n o b v q i u =
-        became o _ (Steps (resizes h n)) (subst (λ Q. T (wellFormed Q)) (sym (b .pool)) w) v (inl (refl, refl, λ _. b .live))
+        became o _ (Steps (resizesInPlace h n)) (subst (λ Q. T (wellFormed Q)) (sym (b .pool)) w) v (inl (refl, refl, λ _. b .live))
         (λ y. inl (refl, refl, λ z. z)) p q (e ∙ sym (b .pool)) i u
 
     release-steps : (h : ℕ) (o : Place) → Named row P h o → Fate (releases h) (releaseAt row o)
@@ -179,9 +179,12 @@ module _ (row : ℕ) (pos : 0 < row) where
       (λ g _ f v. goes-steps P w p e (grantsAligned n b) grants-aligned (poolOf g) v (reserve-goes row P (codeOf b) n g w f p e))
   plan-steps P w p e (releases h) k =
       on-named row pos P (Fate P w p e (releases h)) (λ _ _. as-it-was P w p e (releases h)) h (releaseAt row) (release-steps P w p e h)
-  plan-steps P w p e (resizes h n) k =
-      on-resize row pos P (Fate P w p e (resizes h n)) (λ _ _. as-it-was P w p e (resizes h n)) w h n (λ o b _. in-place-steps P w p e h n o b)
-      (λ _ _ _. as-it-was P w p e (resizes h n)) (λ o g b s f. move-steps P w p e h n o g b s f)
+  plan-steps P w p e (resizesInPlace h n) k =
+      let c : Call = resizesInPlace h n in
+      on-in-place row pos P (Fate P w p e c) (λ _ _. as-it-was P w p e c) w h n (λ o b _. in-place-steps P w p e h n o b) (λ _ _ _. as-it-was P w p e c)
+  plan-steps P w p e (moves h n) k =
+      let c : Call = moves h n in
+      on-move row pos P (Fate P w p e c) (λ _ _. as-it-was P w p e c) w h n (λ _ _ _. as-it-was P w p e c) (λ o g b s f. move-steps P w p e h n o g b s f)
   plan-steps P w p e (measures h) k =
       on-named row pos P (Fate P w p e (measures h)) (λ _ _. as-it-was P w p e (measures h)) h (measureAt row P) (λ _ _ _. as-it-was P w p e (measures h))
   plan-steps P w p e reports k = λ _. as-it-was P w p e reports

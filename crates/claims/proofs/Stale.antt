@@ -6,9 +6,7 @@ use Rattle.classes.specs.Classes.{slotBytes}
 use Rattle.classes.proofs.Laws.{bytes-units}
 use Rattle.model.specs.declared.Slot.{Slot}
 use Rattle.model.specs.State.{Pool, Place, isLive, count, disp, size, align, wellFormed, useBits, startOf, poolOf, start, SameSlot, handle}
-use Rattle.model.specs.Answers.{Answer}
-use Rattle.model.specs.Plans.{Plan, releaseAt, release, resizeInPlace, freshPool, plan, vacant}
-use Rattle.model.specs.Plans.{Call, setsUp, grants, releases, resizes}
+use Rattle.model.specs.Plans.{Plan, releaseAt, release, freshPool, plan, vacant, Call, setsUp, moves}
 use Rattle.model.specs.Calls.{Form, FormLaws, Outcome, callBy}
 use Rattle.model.proofs.Fresh.{whole-units, fresh-formed}
 use Rattle.model.proofs.Tables.{count-small}
@@ -19,19 +17,25 @@ use Rattle.model.proofs.Formed.{plan-formed}
 use Rattle.model.proofs.Calls.{Asks}
 use Rattle.claims.specs.Demand2.{Intact}
 use Rattle.claims.specs.History.{Asked}
-use Rattle.claims.specs.Stale.{Uses, uses-release, uses-resize, uses-measure, Ends, ends-release, ends-move}
+use Rattle.claims.specs.Alignment.{sizes-in-place, sizes-move}
+use Rattle.claims.specs.Stale.{Uses, uses-release, uses-sized, uses-measure, Ends, ends-release, ends-move}
 use Rattle.claims.specs.Stale.{Steps, StartsCleared, CountsStep, Remains, RemainsAll, after, StaleRefused}
 use Rattle.model.proofs.Handles.{start-cleared}
-use Rattle.claims.proofs.Cases.{refuses, by-call, Named, on-named, on-resize}
+use Rattle.claims.proofs.Cases.{refuses, by-call, Named, on-named, on-move}
 use Rattle.claims.proofs.Demand1.{demand1}
 use Rattle.claims.proofs.Demand2.{Accepted, accepted, measures-exactly}
 use Rattle.claims.proofs.AsSaid.{sets-up-as-said, releases-as-said}
-use Rattle.claims.proofs.Resizes.{resizes-as-said}
+use Rattle.claims.proofs.Resizes.{in-place-as-said, moves-as-said}
 use Rattle.claims.proofs.Stays.{sound-formed, accepted-pool}
 use Rattle.claims.proofs.Slots.{given-back, as-it-was, plan-steps}
 
 pub starts-cleared : (row : ℕ) (F : Form) → FormLaws row F → StartsCleared row F
 starts-cleared row F L n t p s e = start-cleared row (whole-units row n (L .only n t s .0 .lawful)) p
+
+-- set up ends no block by its handle
+ends-asks : {h : ℕ} (c : Call) → Ends c h → Asks c
+ends-asks c ends-release = tt
+ends-asks c ends-move = tt
 
 -- ---- what a call leaves of the pool
 
@@ -75,7 +79,7 @@ module _ (row : ℕ) (pos : 0 < row) (F : Form) (L : FormLaws row F) where
     Idles q = (count (q .state) ≡ count (p .state)) × (T (isLive (q .state)) → ⊥)
 
     abbrev EndedBy : Plan → Type 0
-    EndedBy r = r .answer .number ≡ 0 → (r .answer .values ≡ h ∷ [] → ⊥) → (q : Place) → poolOf q ≡ r .pool → SameSlot row p q → Idles q
+    EndedBy r = r .answer .number ≡ 0 → (q : Place) → poolOf q ≡ r .pool → SameSlot row p q → Idles q
 
     -- the block that the handle names
     the-block : (o : Place) → Named row P h o → o ≡ p
@@ -90,12 +94,11 @@ module _ (row : ℕ) (pos : 0 < row) (F : Form) (L : FormLaws row F) where
         waits o q (ap (λ p. count (p .state)) z)
         (given-back row pos o (subst (λ Q. T (wellFormed Q)) (sym (b .pool)) w) (b .live) q f .own (subst (λ p. SameSlot row p q) (sym z) s))
 
-    pub resize-ends : (n : ℕ) → EndedBy (plan row P (resizes h n))
-    unfolding plan resizeInPlace
-    resize-ends n =
-        on-resize row pos P EndedBy (λ r z. absurd (refuses r z)) w h n (λ o b _ _ d. absurd (d (ap (λ v. v ∷ []) (b .present))))
-        (λ o b z. absurd (omega arith))
-        (λ o g b s f _ _ q i u.
+    move-ends : (n : ℕ) → EndedBy (plan row P (moves h n))
+    unfolding plan
+    move-ends n =
+        on-move row pos P EndedBy (λ r z. absurd (refuses r z)) w h n (λ o b z. absurd (omega arith))
+        (λ o g b s f _ q i u.
         let z : o ≡ p = the-block o b in
         let y : Old row pos P w (align (o .state)) n s g f o (b .pool) (b .live) = old row pos P w (align (o .state)) n s g f o (b .pool) (b .live) in
         waits (y .place) q (ap count (y .stays .state) ∙ ap (λ p. count (p .state)) z)
@@ -103,39 +106,27 @@ module _ (row : ℕ) (pos : 0 < row) (F : Form) (L : FormLaws row F) where
         (i ∙ ap (λ (r : Plan). r .pool) (old-released row pos P w (align (o .state)) n s g f o (b .pool) (b .live))) .own
         (slot-after row (y .place) o q (slot-back row o (y .place) (y .stays .slot)) (subst (λ p. SameSlot row p q) (sym z) u))))
 
-    pub release-plan-ends : plan row P (releases h) .answer .number ≡ 0 → (q : Place) → poolOf q ≡ plan row P (releases h) .pool → SameSlot row p q → Idles q
+    plan-ends : (c : Call) → Ends c h → EndedBy (plan row P c)
     unfolding plan release
-    release-plan-ends =
-        on-named row pos P (λ (r : Plan). r .answer .number ≡ 0 → (q : Place) → poolOf q ≡ r .pool → SameSlot row p q → Idles q)
-        (λ r z. absurd (refuses r z)) h (releaseAt row) (λ o b _. release-ends o b)
+    plan-ends c ends-release = on-named row pos P EndedBy (λ r z. absurd (refuses r z)) h (releaseAt row) (λ o b _. release-ends o b)
+    plan-ends c (ends-move {n = n}) = move-ends n
 
   -- the slot of a block in the tables that a call leaves which ends it
   call-ends : (a : List ℕ) (t : F .Kept) (h : ℕ) (p : Place) → Intact row a (F .view t) h p → (c : Call) → callBy row F a t c .answer .number ≡ 0
-      → Ends c h (callBy row F a t c .answer) → (q : Place) → poolOf q ≡ F .view (callBy row F a t c .kept) → SameSlot row p q
+      → Ends c h → (q : Place) → poolOf q ≡ F .view (callBy row F a t c .kept) → SameSlot row p q
       → (count (q .state) ≡ count (p .state)) × (T (isLive (q .state)) → ⊥)
-  call-ends a t h p i c z ends-release q f s =
-      let y : Accepted row pos F L a t c = accepted row pos F L a t c tt z in
-      let P : Pool = F .view t in
-      release-plan-ends P (sound-formed row pos F L a t (y .sound-tables)) h p (i .live .here .slotted .pool) (i .live .here .starts)
+  call-ends a t h p i c z d q f s =
+      let y : Accepted row pos F L a t c = accepted row pos F L a t c (ends-asks c d) z in
+      plan-ends (F .view t) (sound-formed row pos F L a t (y .sound-tables)) h p (i .live .here .slotted .pool) (i .live .here .starts) c d
       (ap (λ (r : Outcome (F .Kept)). r .answer .number) (sym (y .left)) ∙ z) q (f ∙ accepted-pool row pos F L a t c y) s
-  call-ends a t h p i c z (ends-move {n = m} d) q f s =
-      let y : Accepted row pos F L a t c = accepted row pos F L a t c tt z in
-      let P : Pool = F .view t in
-      resize-ends P (sound-formed row pos F L a t (y .sound-tables)) h p (i .live .here .slotted .pool) (i .live .here .starts) m
-      (ap (λ (r : Outcome (F .Kept)). r .answer .number) (sym (y .left)) ∙ z)
-      (λ v. d (ap (λ (r : Outcome (F .Kept)). r .answer .values) (y .left) ∙ v)) q (f ∙ accepted-pool row pos F L a t c y) s
 
   -- a call that is done on a handle has found its block
   call-finds : (b : List ℕ) (t : F .Kept) (h : ℕ) (c : Call) → Uses c h → callBy row F b t c .answer .number ≡ 0
       → (p : Place) × Intact row b (F .view t) h p
   call-finds b t h c uses-release z = let (p, r) = releases-as-said row pos F L b t h z in (p, r .block)
-  call-finds b t h c (uses-resize {n = m}) z = let (p, r) = resizes-as-said row pos F L b t h m z in (p, r .block)
+  call-finds b t h c (uses-sized (sizes-in-place {n = n})) z = let (p, r) = in-place-as-said row pos F L b t h n z in (p, r .block)
+  call-finds b t h c (uses-sized (sizes-move {n = n})) z = let (p, r) = moves-as-said row pos F L b t h n z in (p, r .block)
   call-finds b t h c uses-measure z = measures-exactly row pos F L b t h (accepted row pos F L b t c tt z .sound-tables) .0 .0 z
-
--- set up ends no block by its handle
-ends-asks : {h : ℕ} {r : Answer} (c : Call) → Ends c h r → Asks c
-ends-asks c ends-release = tt
-ends-asks c (ends-move d) = tt
 
 -- ---- how often a slot was granted since
 

@@ -9,8 +9,8 @@ use Rattle.classes.specs.Alignments.{ordinary, codeOf}
 use Rattle.model.specs.declared.Slot.{Slot}
 use Rattle.model.specs.State.{Pool, Place, group, isLive, align, wellFormed, startOf, poolOf, become, rows, start, handle}
 use Rattle.model.specs.Plans.{Plan, reserve, reserveAll, poolAfter, vacant, releaseAt, release, discard}
-use Rattle.model.specs.Plans.{resizeInPlace, moveTo, resize, measureAt, measure, report, freshPool, plan}
-use Rattle.model.specs.Plans.{Call, setsUp, grants, grantsAligned, releases, resizes, measures, reports, grantsList}
+use Rattle.model.specs.Plans.{resizeAt, moveTo, resizeInPlace, move, measureAt, measure, report, freshPool, plan}
+use Rattle.model.specs.Plans.{Call, setsUp, grants, grantsAligned, releases, resizesInPlace, moves, measures, reports, grantsList}
 use Rattle.model.specs.Calls.{Form, FormLaws, Outcome, callBy}
 use Rattle.model.proofs.Fresh.{fresh-rows}
 use Rattle.model.proofs.Calls.{Asks}
@@ -20,9 +20,9 @@ use Rattle.model.proofs.Moves.{live-granted, stays-start}
 use Rattle.model.proofs.Lists.{small, by-grants, on-list}
 use Rattle.model.proofs.Formed.{on-block, plan-formed}
 use Rattle.claims.specs.Demand1.{LiveAt}
-use Rattle.claims.specs.Alignment.{Names, names-all, names-release, names-resize, OthersStay}
+use Rattle.claims.specs.Alignment.{sizes-in-place, sizes-move, Names, names-all, names-release, names-sized, OthersStay}
 use Rattle.model.proofs.Handles.{stays-handle}
-use Rattle.claims.proofs.Cases.{by-call, Named, on-named, on-grant, on-aligned, on-resize}
+use Rattle.claims.proofs.Cases.{by-call, on-named, on-grant, on-aligned, on-in-place, on-move}
 use Rattle.claims.proofs.Demand2.{Accepted, accepted}
 
 -- an element of a list of one
@@ -182,15 +182,17 @@ module _ (row : ℕ) where
           discard-keeps (poolOf q) old p′ a (subst (λ x. T (isLive x)) (sym (s .state)) l) (λ z. other (sym (stays-start row p p′ s) ∙ z)) in
           (p″, b, stays-twice p p′ p″ s u)
 
-      -- in place another slot changes, else another block moves
-      resize-keeps : (h n : ℕ) → (start row p ≡ startOf h → ⊥) → Keeps (resize row P h n)
-      unfolding resizeInPlace
-      resize-keeps h n other =
-          on-resize row pos P Keeps (λ _. as-it-is P p e) w h n (λ old b _. become-keeps old _ p (e ∙ sym (b .pool)) (λ z. apart-from old b (ap (start row) z)))
-          (λ _ _. as-it-is P p e) (λ old q b _ f. move-keeps old q n (apart-from old b) f)
-        where
-          apart-from : (old : Place) → Named row P h old → start row p ≡ start row old → ⊥
-          apart-from old b z = other (z ∙ b .starts)
+      -- in place another slot changes
+      in-place-keeps : (h n : ℕ) → (start row p ≡ startOf h → ⊥) → Keeps (resizeInPlace row P h n)
+      unfolding resizeAt
+      in-place-keeps h n other =
+          on-in-place row pos P Keeps (λ _. as-it-is P p e) w h n
+          (λ old b _. become-keeps old _ p (e ∙ sym (b .pool)) (λ z. other (ap (start row) z ∙ b .starts))) (λ _ _. as-it-is P p e)
+
+      -- another block moves
+      moves-keeps : (h n : ℕ) → (start row p ≡ startOf h → ⊥) → Keeps (move row P h n)
+      moves-keeps h n other =
+          on-move row pos P Keeps (λ _. as-it-is P p e) w h n (λ _ _. as-it-is P p e) (λ old q b _ f. move-keeps old q n (λ z. other (z ∙ b .starts)) f)
 
     -- grants, one after the other
     list-keeps : (P : Pool) (ns : List ℕ) (qs : List Place) → T (wellFormed P) → T (small ns) → reserveAll row P ns ≡ some qs → (p : Place) → poolOf p ≡ P
@@ -212,7 +214,8 @@ module _ (row : ℕ) where
     plan-keeps P w p e l (grantsAligned n b) other =
         on-aligned row pos P (Keeps P w p e l) (λ _. as-it-is P p e) n b (λ q _ f. reserve-keeps row P (codeOf b) n q w f p e l)
     plan-keeps P w p e l (releases h) other = release-keeps P h p e l (λ z. other (names-release (sym z)))
-    plan-keeps P w p e l (resizes h n) other = resize-keeps P w p e l h n (λ z. other (names-resize (sym z)))
+    plan-keeps P w p e l (resizesInPlace h n) other = in-place-keeps P w p e l h n (λ z. other (names-sized sizes-in-place (sym z)))
+    plan-keeps P w p e l (moves h n) other = moves-keeps P w p e l h n (λ z. other (names-sized sizes-move (sym z)))
     plan-keeps P w p e l (measures h) other =
         on-named row pos P (Keeps P w p e l) (λ _. as-it-is P p e) h (measureAt row P) (λ _ _. as-it-is P p e)
     plan-keeps P w p e l reports other = as-it-is P p e

@@ -13,13 +13,15 @@ use Rattle.classes.proofs.Laws.{rows-hold}
 use Rattle.model.specs.declared.Slot.{Slot}
 use Rattle.model.specs.declared.Slot.the-variants.{Fresh, Idle, Live}
 use Rattle.model.specs.declared.Refusal.{Refusal}
+use Rattle.model.specs.declared.Refusal.the-variants.{NotInPlace, NoRoom}
 use Rattle.model.specs.declared.Damage.the-variants.{Intact}
 use Rattle.model.specs.State.{Pool, Place, group, isLive, disp, size, align, slotSound, wellFormed, startOf, poolOf, become, slotNumber, rows, base, start}
 use Rattle.model.specs.State.{owned, handle}
 use Rattle.model.specs.Blocks.{reserved, header, spare}
-use Rattle.model.specs.Answers.{Answer, done}
-use Rattle.model.specs.Plans.{Plan, refused, turnReady, refill, grantIn, reserve, enframe, vacant, releaseAt, release, discard, inPlace, resizeInPlace, moveTo}
-use Rattle.model.specs.Plans.{measureAt, measure, report, freshPool, Call, setsUp, grants, grantsAligned, releases, resizes, measures, reports, grantsList}
+use Rattle.model.specs.Answers.{done}
+use Rattle.model.specs.Plans.{Plan, refused, refusedOn, turnReady, refill, grantIn, reserve, enframe, vacant, releaseAt, release, discard, inPlace, resizeAt}
+use Rattle.model.specs.Plans.{moveTo, measureAt, measure, report, freshPool}
+use Rattle.model.specs.Plans.{Call, setsUp, grants, grantsAligned, releases, resizesInPlace, moves, measures, reports, grantsList}
 use Rattle.model.specs.Plans.{plan, grantAt, reserveAll, poolAfter}
 use Rattle.model.proofs.Lists.{small, by-grants, on-list}
 use Rattle.model.specs.Calls.{write, written, damaged}
@@ -27,9 +29,9 @@ use Rattle.model.proofs.Lookup.{Fits, fits, disp-inside, place-unique}
 use Rattle.model.proofs.Reserve.{plain, Served, served, reserve-formed, refill-sound, reserve-size}
 use Rattle.model.proofs.Formed.{on-block, become-fits, vacant-sound}
 use Rattle.claims.specs.Demand1.{LiveAt}
-use Rattle.claims.specs.Demand3.{Gains, gains-grant, gains-aligned, gains-resize, gains-list, given, Cleared}
+use Rattle.claims.specs.Demand3.{Gains, gains-grant, gains-aligned, gains-in-place, gains-move, gains-list, given, Cleared}
 use Rattle.model.proofs.Handles.{start-cleared}
-use Rattle.claims.proofs.Cases.{release-parts, Named, on-named, on-grant, on-aligned, on-resize, reserve-live, taken-same, refuses}
+use Rattle.claims.proofs.Cases.{release-parts, Named, on-named, on-grant, on-aligned, on-in-place, on-move, reserve-live, taken-same, refuses}
 use Rattle.claims.proofs.Gathers.{framed, list-clears}
 use Rattle.claims.proofs.Cells.{due, slotCells, slotsCells, pad, spanCells, cells, cells-append, cells-length, group-length, fresh-pool-cells, zeros-due}
 use Rattle.claims.proofs.Cells.{due-zeros, Agrees, agrees-length, agrees-due, agrees-over, agrees-frame, undamaged, slot-written, copied, resized}
@@ -52,11 +54,6 @@ unfolding slotCells choose
 fresh-cells c i zero = ap due (sym zeros-none) ∙ ap (λ k. due (zeros k)) (sym (zero-mul (slotBytes c)))
 fresh-cells c i (suc m) =
     let e : slotBytes c + m * slotBytes c ≡ suc m * slotBytes c = omega arith in simp (fresh-cells c (suc i) m, due-zeros, e)
-
--- the bytes that a resize gains are those of a live block at the start of its handle
-resize-gains : {row : ℕ} {P : Pool} {h n : ℕ} {r : Answer} {i : ℕ} → Gains row P (resizes h n) r i
-    → (p : Place) × LiveAt row P (startOf h) p × (given row r + min (size (p .state)) n ≤ i) × (i < given row r + n)
-resize-gains (gains-resize p l from to) = (p, l, from, to)
 
 module _ (row : ℕ) (pos : 0 < row) where
   new-cells : (c : ℕ) → spanCells row (group c (replicate (slotsOf c) Fresh)) ≡ due (zeros (row * rowsOf row c))
@@ -173,27 +170,31 @@ module _ (row : ℕ) (pos : 0 < row) where
           cleared = λ z i g. elim g [ ];
         })
 
-    -- the bytes that a resize gains, by the block that it names
-    gained : (p : Place) (h n v i : ℕ) → Named row P h p
-        → (q : Place) × LiveAt row P (startOf h) q × (v + min (size (q .state)) n ≤ i) × (i < v + n) → (v + min (size (p .state)) n ≤ i) × (i < v + n)
-    gained p h n v i b (q, l, from, to) =
-        subst (λ (q : Place). (v + min (size (q .state)) n ≤ i) × (i < v + n))
-        (place-unique row pos p q (subst (λ Q. T (wellFormed Q)) (sym (b .pool)) w) (l .here .slotted .pool ∙ sym (b .pool))
-        (l .here .starts ∙ sym (b .starts))) (from, to)
+    -- a refusal that names its block
+    refused-on-kept : (c : Call) (r : Refusal) (p : Place) (h : ℕ) → Named row P h p → Kept P c a (refusedOn r P p)
+    unfolding Cleared
+    refused-on-kept c r p h b = record { agrees = g; whole = block-whole p h b; cleared = λ z. absurd (refuses r z) }
 
-    in-place-kept : (p : Place) (h n : ℕ) → Named row P h p → T (inPlace p n) → Kept P (resizes h n) a (resizeInPlace row p n)
-    unfolding resizeInPlace inPlace Cleared
+    -- the block that a call names is the live one at the start of its handle
+    named-only : (p q : Place) (h : ℕ) → Named row P h p → LiveAt row P (startOf h) q → q ≡ p
+    named-only p q h b l =
+        place-unique row pos p q (subst (λ Q. T (wellFormed Q)) (sym (b .pool)) w) (l .here .slotted .pool ∙ sym (b .pool)) (l .here .starts ∙ sym (b .starts))
+
+    in-place-kept : (p : Place) (h n : ℕ) → Named row P h p → T (inPlace p n) → Kept P (resizesInPlace h n) a (resizeAt row p n)
+    unfolding resizeAt inPlace Cleared
     in-place-kept p h n b t =
         let f : Fits p = block-fits p h b in
         let l : n ≤ slotBytes (p .cls) - 4 - 16 * disp (p .state) = leb→le _ _ (and-left (leb n (slotBytes (p .cls) - 4 - 16 * disp (p .state))) _ t) in
-        let s : startOf (handle row p) ≡ start row p = ap startOf (b .present) ∙ sym (b .starts) in
         let k : ℕ = min (size (p .state)) n in
         let x : List ℕ = put (start row p - 4) (header (p .cls) (slotNumber p) (disp (p .state)) n) a in
         record {
           agrees = resized row pos p f (b .live) a n (omega (arith, disp-inside (p .cls) (p .state) (f .class) (f .state))) (block-agrees p h b);
           whole = block-whole p h b;
           cleared = λ z i g.
-              let (from, to) = subst (λ j. (j + k ≤ i) × (i < j + n)) s (gained p h n (startOf (handle row p)) i b (resize-gains g)) in
+              let (from, to) : (start row p + size (p .state) ≤ i) × (i < start row p + n) = elim g [
+                | gains-in-place q l f t ↦
+                    subst (λ (q : Place). (start row q + size (q .state) ≤ i) × (i < start row q + n)) (named-only p q h b l) (f, t)
+              ] in
               zeros-put (start row p + k) [] (n - k) (spare (reserved (p .cls) (disp (p .state)) n)) x i (omega (arith, from)) (omega (arith, to));
         }
 
@@ -207,7 +208,7 @@ module _ (row : ℕ) (pos : 0 < row) where
   module _ (u : row % 16 ≡ 0) (P : Pool) (w : T (wellFormed P)) (a : List ℕ) (g : Agrees (cells row P) a) where
     -- "a grant of n is made while the old block is live, that many bytes are copied, then the old is released"
     moved-kept : (p q : Place) (h n : ℕ) → Named row P h p → Askable (align (p .state)) n → reserve row P (align (p .state)) n ≡ some q
-        → Kept P (resizes h n) a (moveTo row P p n (some q))
+        → Kept P (moves h n) a (moveTo row P p n (some q))
     unfolding Cleared
     moved-kept p q h n b s r =
         let m : ℕ = align (p .state) in
@@ -223,8 +224,12 @@ module _ (row : ℕ) (pos : 0 < row) where
           agrees = discarded (poolOf q) p (put (start row q) bs x) w′ y;
           whole = block-whole P w a g p h b;
           cleared = λ _ i y′.
-              let (from, to) = subst (λ v. (v + k ≤ i) × (i < v + n)) (start-cleared row u q) (gained P w a g p h n (startOf (handle row q)) i b
-              (resize-gains y′)) in
+              let (from, to) : (start row q + size (p .state) ≤ i) × (i < start row q + n) =
+              subst (λ v. (v + size (p .state) ≤ i) × (i < v + n)) (start-cleared row u q) (elim y′ [
+                | gains-move o l f t ↦
+                    subst (λ (o : Place). (startOf (handle row q) + size (o .state) ≤ i) × (i < startOf (handle row q) + n)) (named-only P w a g p o h b l)
+                    (f, t)
+              ]) in
               discard-zero (poolOf q) p (put (start row q) bs x) i
               (put-past (start row q) bs x i 0 (omega (arith, from)) ∙ framed row q a i (omega (arith, from)) (omega (arith, to)));
         }
@@ -256,9 +261,14 @@ module _ (row : ℕ) (pos : 0 < row) where
         on-aligned row pos P (Kept P (grantsAligned n b) a) (refused-kept P w a g (grantsAligned n b)) n b
         (λ q h e. granted-kept (grantsAligned n b) (codeOf b) n q h e (λ i x. elim x [ gains-aligned f t ↦ (f, t) ]))
     plan-kept (releases h) = release-kept P w a g h
-    plan-kept (resizes h n) =
-        on-resize row pos P (Kept P (resizes h n) a) (refused-kept P w a g (resizes h n)) w h n (λ p b t. in-place-kept P w a g p h n b t)
-        (λ p b. record { agrees = g; whole = block-whole P w a g p h b; cleared = λ z. absurd (omega arith) }) (λ p q b s e. moved-kept p q h n b s e)
+    plan-kept (resizesInPlace h n) =
+        let c : Call = resizesInPlace h n in
+        on-in-place row pos P (Kept P c a) (refused-kept P w a g c) w h n (λ p b t. in-place-kept P w a g p h n b t)
+        (λ p b. refused-on-kept P w a g c NotInPlace p h b)
+    plan-kept (moves h n) =
+        let c : Call = moves h n in
+        on-move row pos P (Kept P c a) (refused-kept P w a g c) w h n (λ p b. refused-on-kept P w a g c NoRoom p h b)
+        (λ p q b s e. moved-kept p q h n b s e)
     plan-kept (measures h) =
         on-named row pos P (Kept P (measures h) a) (refused-kept P w a g (measures h)) h (measureAt row P)
         (λ p b. record { agrees = g; whole = block-whole P w a g p h b; cleared = λ z i g. elim g [ ] })

@@ -9,13 +9,13 @@ use Rattle.mem.proofs.Laws.{zeros-length, put-length, put-before, put-past}
 use Rattle.classes.specs.Classes.{rowBytes}
 use Rattle.model.specs.State.{Pool, wellFormed, aligned}
 use Rattle.model.specs.Answers.{Answer}
-use Rattle.model.specs.Plans.{Plan, Call, grants, releases, resizes, measures, reports, plan}
+use Rattle.model.specs.Plans.{Plan, Call, grants, releases, resizesInPlace, moves, measures, reports, plan}
 use Rattle.model.specs.Tables.{arenaRight, roomBytes}
 use Rattle.model.specs.Calls.{KeptBytes, keptIn, Result, engine, applied, call, callBy, written, setUpRight, setUpRightBy}
 use Rattle.model.proofs.Kept.{engine-lawful}
 use Rattle.model.proofs.Fresh.{fresh-formed, all-fresh, whole-rows, whole-units, set-up-lawful, set-up-done}
 use Rattle.model.proofs.Formed.{Formed, plan-formed}
-use Rattle.trace.specs.Trace.{Operation, grant, release, resize, measure, store, report, Item, does, items, traceRight}
+use Rattle.trace.specs.Trace.{Operation, grant, release, resizeInPlace, measure, store, report, move, Item, does, items, traceRight}
 use Rattle.trace.specs.Replay.{noTotals, arenaBytes, Line, Effect, effect, lineThen, performed, linesFrom, replayedOver, replayed}
 use Rattle.claims.specs.Demand3.{fed, requested, SameOutside}
 use Rattle.claims.specs.Traces.{blank, Stepped, stepped, modelStep, modelLines, GoesOn, StoresRequested, StoresInside, PastAsksNothing, LinesModelled}
@@ -85,7 +85,7 @@ module _ (row : ℕ) (pos : 0 < row) (n : ℕ) (h : T (arenaRight row n)) where
     unfolding performed modelStep
     acted (grant k) s = call-follows-plan (grants k)
     acted (release h) s = call-follows-plan (releases h)
-    acted (resize h k) s = call-follows-plan (resizes h k)
+    acted (resizeInPlace h k) s = call-follows-plan (resizesInPlace h k)
     acted (measure h) s = call-follows-plan (measures h)
     acted (store o bs) s =
         let after : Holds row n P (put o bs a) t = record {
@@ -98,6 +98,7 @@ module _ (row : ℕ) (pos : 0 < row) (n : ℕ) (h : T (arenaRight row n)) where
         rw (r .long)
         (choose-both (Follows row n) (leb (o + length bs) n) _ _ _ _ (record { tells = refl; holds = after }) (record { tells = refl; holds = r }))
     acted report s = call-follows-plan reports
+    acted (move h k) s = call-follows-plan (moves h k)
 
   -- ---- all records
 
@@ -109,7 +110,8 @@ module _ (row : ℕ) (pos : 0 < row) (n : ℕ) (h : T (arenaRight row n)) where
   unfolding performed modelStep
   on-or-ends (grant k) = inl tt
   on-or-ends (release h) = inl tt
-  on-or-ends (resize h k) = inl tt
+  on-or-ends (resizeInPlace h k) = inl tt
+  on-or-ends (move h k) = inl tt
   on-or-ends (measure h) = inl tt
   on-or-ends (store o bs) = go (leb (o + length bs) n) refl
     where
@@ -157,10 +159,11 @@ module _ (row n : ℕ) where
   on-blank {ℓ} : (M : Item → Item → Type ℓ) → ((x y : Operation) → Like x y → M (does x) (does y)) → M Item.bad Item.bad → (x : Item) → M (blank x) x
   on-blank M f b (does (grant k)) = f _ _ (itself (grant k))
   on-blank M f b (does (release h)) = f _ _ (itself (release h))
-  on-blank M f b (does (resize h k)) = f _ _ (itself (resize h k))
+  on-blank M f b (does (resizeInPlace h k)) = f _ _ (itself (resizeInPlace h k))
   on-blank M f b (does (measure h)) = f _ _ (itself (measure h))
   on-blank M f b (does (store o bs)) = f _ _ (store-like o (zeros (length bs)) bs (zeros-length (length bs)))
   on-blank M f b (does report) = f _ _ (itself report)
+  on-blank M f b (does (move h k)) = f _ _ (itself (move h k))
   on-blank M f b Item.bad = b
 
   -- neither the model's lines nor where the stores lie depend on those bytes

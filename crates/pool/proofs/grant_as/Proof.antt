@@ -36,8 +36,8 @@ returns-2 d =
     let r = c .before .before .before .before in
     let z = r .before .before in
     let s = z .before .before .before .before in
-    told-out rowBytes (d .refused2 .ensures) (granted-none (lent s) (s .args .code) (s .args .n) (small z) (sym (r .reserve-slot .ensures .0) ∙ c .enum-told .given .1)
-    (r .reserve-slot .ensures .1))
+    told-out rowBytes (d .refused2 .ensures)
+    (granted-none (lent s) (s .args .code) (s .args .n) (small z) (sym (r .reserve-slot .ensures .0) ∙ c .enum-told .given .1) (r .reserve-slot .ensures .1))
 
 -- the block that is granted
 block : (c : tie.After-known-told) → (let r = c .before .before .before .before .before in
