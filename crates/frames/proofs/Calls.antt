@@ -7,7 +7,7 @@ use Rattle.mem.proofs.Tests.{choose-case, choose-true, choose-false, true-T}
 use Rattle.classes.specs.Classes.{tooLarge}
 use Rattle.classes.specs.Alignments.{ordinary, codeOf, enlarged, Askable}
 use Rattle.model.specs.declared.Refusal.{Refusal}
-use Rattle.model.specs.declared.Refusal.the-variants.{TooLarge, NoSuchBlock, AlreadyFree, Stale, NoRoom, BadAlignment}
+use Rattle.model.specs.declared.Refusal.the-variants.{Unsound, TooLarge, NoSuchBlock, AlreadyFree, Stale, NoRoom, BadAlignment}
 use Rattle.model.specs.declared.Damage.{Damage}
 use Rattle.model.specs.declared.Damage.the-variants.{Intact, Damaged}
 use Rattle.model.specs.declared.Reply.{Reply}
@@ -17,7 +17,7 @@ use Rattle.model.specs.Answers.{Answer, replyAnswer, listed, done, refusal}
 use Rattle.model.specs.Plans.{Plan, Call, grants, grantsAligned, releases, resizesInPlace, moves, measures, refused, plan, grantAs, grantAligned}
 use Rattle.model.specs.Plans.{report, totals, reports, grantAt, reserve, enframe, lookup, onBlock, byHandle, onHandle, newSize}
 use Rattle.model.specs.Plans.{release, releaseAt, onHandleFor, resizeAt, moveTo, moveAt, inPlace, inPlaceAt, resizeInPlace, move, measure, measureAt}
-use Rattle.model.specs.Calls.{Outcome, left, Form, FormLaws, callBy, carriedBy, applied, damaged, keeps}
+use Rattle.model.specs.Calls.{Outcome, left, Form, FormLaws, callBy, carriedBy, applied, damaged, keeps, unsound}
 use Rattle.model.proofs.Lookup.{lookup-found}
 use Rattle.model.proofs.Formed.{resizable}
 use Rattle.model.proofs.Calls as calls
@@ -26,7 +26,7 @@ use Rattle.rows.specs.declared.Block.{Block}
 use Rattle.rows.specs.Rows.{blockOf, ownedAt, handleAt}
 use Rattle.frames.specs.declared.Located.{Located}
 use Rattle.frames.specs.declared.Located.the-variants.{At, Refused}
-use Rattle.frames.specs.Blocks.{byDamage, located, locatedFor, CarriedOutBy}
+use Rattle.frames.specs.Blocks.{byDamage, located, locatedFor, foundFor, CarriedOutBy}
 
 -- what is lent passed the check
 pub record Checked (row : ℕ) (F : Form) (a : List ℕ) (t : F .Kept) : Type 0 where
@@ -228,14 +228,6 @@ module _ {row : ℕ} {F : Form} {a : List ℕ} {t : F .Kept} (r : Checked row F 
   unfolding plan measure
   measuring h = call-sound (measures h) tt
 
-  pub resizing : (h n : ℕ) → callBy row F a t (resizesInPlace h n) ≡ carriedBy row F a t (onHandleFor row (F .view t) h n (inPlaceAt row (F .view t) n))
-  unfolding plan resizeInPlace
-  resizing h n = call-sound (resizesInPlace h n) tt
-
-  pub moving : (h n : ℕ) → callBy row F a t (moves h n) ≡ carriedBy row F a t (onHandleFor row (F .view t) h n (moveAt row (F .view t) n))
-  unfolding plan move
-  moving h n = call-sound (moves h n) tt
-
 -- ---- the block that a plan names
 
 pub release-names : (row : ℕ) (p : Place) → releaseAt row p .checks ≡ some p
@@ -245,18 +237,6 @@ release-names row p = choose-case (λ (r : Plan). r .checks ≡ some p) (any isL
 pub release-done : (row : ℕ) (p : Place) → releaseAt row p .answer ≡ done (0 ∷ [])
 unfolding releaseAt
 release-done row p = choose-case (λ (r : Plan). r .answer ≡ done (0 ∷ [])) (any isLive (p .lower ++ p .upper)) _ _ (λ e. refl) (λ e. refl)
-
-pub in-place-names : (row : ℕ) (P : Pool) (n : ℕ) (p : Place) → inPlaceAt row P n p .checks ≡ some p
-unfolding inPlaceAt resizeAt
-in-place-names row P n p = choose-case (λ (r : Plan). r .checks ≡ some p) (inPlace p n) _ _ (λ e. refl) (λ e. refl)
-
-pub move-names : (row : ℕ) (P : Pool) (n : ℕ) (p : Place) → moveAt row P n p .checks ≡ some p
-unfolding moveAt
-move-names row P n p = go (reserve row P (align (p .state)) n)
-  where
-    go : (o : Option Place) → moveTo row P p n o .checks ≡ some p
-    go none = refl
-    go (some q) = refl
 
 -- ---- what a call leaves, as one equation
 
@@ -279,3 +259,59 @@ module _ {row : ℕ} {F : Form} {a : List ℕ} {t : F .Kept} (r : Checked row F 
   pub reporting : {x : Answer} → x ≡ done (listed (totals row (F .view t))) → left x a t ≡ callBy row F a t reports
   unfolding plan report
   reporting e = kept-as e (call-sound r reports tt ∙ carried-whole row F a t (report row (F .view t)) refl)
+
+-- ---- a call for another size, by what is found for it
+
+-- a call that does f with the block of a handle that is to have n bytes
+pub record GivesSize (row : ℕ) (P : Pool) (h n : ℕ) (f : Pool → ℕ → Place → Plan) (c : Call) : Type 0 where
+  pub plans : plan row P c ≡ onHandleFor row P h n (f P n)
+  pub names : (p : Place) → f P n p .checks ≡ some p
+  pub asks : Asks c
+  pub one-value : unsound c ≡ refusal Unsound
+
+module _ (row : ℕ) (P : Pool) (h n : ℕ) where
+  pub in-place-size : GivesSize row P h n (inPlaceAt row) (resizesInPlace h n)
+  unfolding plan resizeInPlace inPlaceAt resizeAt
+  in-place-size = record {
+    plans = refl;
+    names = λ p. choose-case (λ (r : Plan). r .checks ≡ some p) (inPlace p n) _ _ (λ e. refl) (λ e. refl);
+    asks = tt;
+    one-value = refl;
+  }
+
+  pub move-size : GivesSize row P h n (moveAt row) (moves h n)
+  unfolding plan move moveAt
+  move-size = record { plans = refl; names = λ p. go p (reserve row P (align (p .state)) n); asks = tt; one-value = refl }
+    where
+      go : (p : Place) (o : Option Place) → moveTo row P p n o .checks ≡ some p
+      go p none = refl
+      go p (some q) = refl
+
+module _ {row : ℕ} (F : Form) (a : List ℕ) (t : F .Kept) {h n : ℕ} {f : Pool → ℕ → Place → Plan} {c : Call} (s : GivesSize row (F .view t) h n f c) where
+  -- a block is found in sound tables
+  pub found-sound : {b : Block} → At b ≡ foundFor row F a t h n
+      → (F .sound (length a) t ≡ true) × (At b ≡ locatedFor row a h n (lookup row (F .view t) (startOf h)))
+  found-sound {b} e = go (F .sound (length a) t) refl
+    where
+      go : (v : Bool) → F .sound (length a) t ≡ v → (F .sound (length a) t ≡ true) × (At b ≡ locatedFor row a h n (lookup row (F .view t) (startOf h)))
+      go true g = (g, e ∙ choose-true (F .sound (length a) t) _ _ g)
+      go false g = let i = e ∙ choose-false (F .sound (length a) t) _ _ g in let z : _≡_ {A = ℕ} 0 1 = cc in absurd (omega arith)
+
+  -- what the call leaves where its plan for the block is carried out
+  pub size-given : (r : Checked row F a t) (pos : 0 < row) {b : Block} (d : CalledFor r h (f (F .view t) n) (s .names) pos n b) {w : Reply} {x : List ℕ}
+      {u : F .Kept} → CarriedOutBy F a (f (F .view t) n (d .block .place)) w x u → left (replyAnswer w) x u ≡ callBy row F a t c
+  size-given r pos d o = carried-as o (call-sound r c (s .asks) ∙ ap (carriedBy row F a t) (s .plans) ∙ d .result)
+
+  -- and where none is found
+  pub size-refused : FormLaws row F → 0 < row → (x : Refusal) → Refused x ≡ foundFor row F a t h n → keeps (refusal x) a t ≡ callBy row F a t c
+  size-refused L pos x e = go (F .sound (length a) t) refl
+    where
+      go : (v : Bool) → F .sound (length a) t ≡ v → keeps (refusal x) a t ≡ callBy row F a t c
+      go true g =
+          let r : Checked row F a t = record { laws = L; sound = g } in
+          sym (call-sound r c (s .asks) ∙ ap (carriedBy row F a t) (s .plans)
+          ∙ refused-for r h (f (F .view t) n) (s .names) pos n x (e ∙ choose-true (F .sound (length a) t) _ _ g))
+      go false g =
+          let i = e ∙ choose-false (F .sound (length a) t) _ _ g in
+          let j : x ≡ Unsound = cc in
+          ap (λ x. keeps (refusal x) a t) j ∙ ap (λ z. keeps z a t) (sym (s .one-value)) ∙ sym (calls.call-unsound row F a t c (s .asks) g)

@@ -5,18 +5,19 @@ use mathlib.Core.Bool.{Bool, _&&_}
 use mathlib.Core.Option.{Option, none, some}
 use mathlib.Core.List.{List, _∷_, _++_}
 use lib.Dec.{leb, eqb}
+use lib.ListN.{length}
 use Rattle.mem.specs.Lists.{choose}
 use Rattle.mem.specs.Bytes.{part}
 use Rattle.classes.specs.Classes.{slotBytes, rowsOf, tooLarge, ownClass}
 use Rattle.classes.specs.Alignments.{ordinary, enlarged}
-use Rattle.model.specs.declared.Refusal.the-variants.{TooLarge, NoSuchBlock, AlreadyFree, Stale}
+use Rattle.model.specs.declared.Refusal.the-variants.{Unsound, TooLarge, NoSuchBlock, AlreadyFree, Stale}
 use Rattle.model.specs.declared.Damage.{Damage}
 use Rattle.model.specs.declared.Damage.the-variants.{Intact, Damaged}
 use Rattle.model.specs.declared.Reply.{Reply}
-use Rattle.model.specs.State.{Place, group, isLive, count, useBits, poolOf}
+use Rattle.model.specs.State.{Place, group, isLive, count, useBits, startOf, poolOf}
 use Rattle.model.specs.Blocks.{damageIn, damage}
 use Rattle.model.specs.Answers.{replyAnswer}
-use Rattle.model.specs.Plans.{Plan, Site, newSize}
+use Rattle.model.specs.Plans.{Plan, Site, lookup, newSize}
 use Rattle.model.specs.Tables.{Layout, encodeBy, mostRows}
 use Rattle.model.specs.Calls.{Form, written}
 use Rattle.rows.specs.declared.Block.{Block}
@@ -86,6 +87,10 @@ module _ (row : ℕ) where
 
   abbrev pub locatedFor : List ℕ → (handle n : ℕ) → Option Place → Located
   locatedFor a h n q = let r = located a h q in choose (leb tooLarge (newSize q n)) (Refused TooLarge) r
+
+  -- in tables that must be sound
+  abbrev pub foundFor : (F : Form) → List ℕ → F .Kept → (handle n : ℕ) → Located
+  foundFor F a t h n = let l = locatedFor a h n (lookup row (F .view t) (startOf h)) in choose (F .sound (length a) t) l (Refused Unsound)
 
 module _ (L : Layout) (row : ℕ) where
   -- the room with the group in which a slot is taken, and the room after a grant

@@ -9,10 +9,10 @@ use Rattle.classes.proofs.Alignments.{code-most}
 use Rattle.model.specs.declared.Slot.{Slot}
 use Rattle.model.specs.declared.Slot.the-variants.{Fresh, Idle, Live}
 use Rattle.model.specs.declared.Refusal.{Refusal}
-use Rattle.model.specs.declared.Refusal.the-variants.{TooLarge, NoSuchBlock, AlreadyFree, Stale, NotInPlace}
+use Rattle.model.specs.declared.Refusal.the-variants.{TooLarge, NoSuchBlock, AlreadyFree, Stale}
 use Rattle.model.specs.State.{Pool, Place, group, isLive, count, disp, align, slotSound, spanSound, wellFormed, poolOf, become, rows, start}
 use Rattle.model.specs.State.{slotAligned, aligned, beginning, useBits, startOf, handle}
-use Rattle.model.specs.Plans.{Plan, refused, refusedOn, reserve, grantAt, grantAs, grantAligned, lookup, vacant, onBlock, byHandle, onHandle, releaseAt}
+use Rattle.model.specs.Plans.{Plan, refused, reserve, grantAt, grantAs, grantAligned, lookup, vacant, onBlock, byHandle, onHandle, releaseAt}
 use Rattle.model.specs.Plans.{release, discard, inPlace, newSize, onHandleFor, resizeAt, moveTo, moveAt, inPlaceAt, resizeInPlace, move}
 use Rattle.model.specs.Plans.{measure, measureAt, report, freshPool, reserveAll, poolAfter, grantList, plan}
 use Rattle.model.specs.Plans.{Call, setsUp, grants, grantsAligned, releases, resizesInPlace, moves, measures, reports, grantsList}
@@ -247,7 +247,7 @@ module _ (row : ℕ) (pos : 0 < row) where
   resize-in-place-formed P h n w =
       let M : Plan → Type 0 = λ r. Formed row P (r .pool) in
       on-handle-for M P h n (inPlaceAt row P n) w (λ r. unchanged row P w)
-      (λ p _ q l _ s. choose-case M (inPlace p n) (resizeAt row p n) (refusedOn NotInPlace P p)
+      (λ p _ q l _ s. choose-case M (inPlace p n) _ _
       (λ t. subst (λ Q. Formed row Q (resizeAt row p n .pool)) q
       (resize-at-formed row p n (subst (λ Q. T (wellFormed Q)) (sym q) w) l (s .small) (true-T (inPlace p n) t)))
       (λ _. unchanged row P w))

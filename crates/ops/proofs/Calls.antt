@@ -10,14 +10,16 @@ use Rattle.model.specs.declared.Totals.{Totals}
 use Rattle.model.specs.State.{Pool, Place, startOf, poolOf}
 use Rattle.model.specs.Blocks.{frame}
 use Rattle.model.specs.Plans.{Plan, Call, grantAs, reserve, totals}
-use Rattle.model.specs.Tables.{byMasks, view}
-use Rattle.model.specs.Calls.{KeptBytes, keptIn, engine, soundKept, call, unsound, keeps}
+use Rattle.model.specs.Tables.{byMasks, view, sound}
+use Rattle.model.specs.Answers.{replyAnswer}
+use Rattle.model.specs.Calls.{KeptBytes, keptIn, left, engine, soundKept, call, callBy, unsound, keeps}
 use Rattle.model.proofs.Kept.{kept-sound, kept-totals, engine-lawful}
 use Rattle.model.proofs.Calls.{Asks, call-unsound}
 use Rattle.rows.specs.declared.Block.{Block}
 use Rattle.rows.specs.Rows.{Lent, ownedAt, handleAt, Holds}
 use Rattle.rows.proofs.Rooms.{by-masks}
-use Rattle.frames.specs.Blocks.{Standing, CarriedOutBy}
+use Rattle.frames.specs.declared.Located.the-variants.{At}
+use Rattle.frames.specs.Blocks.{Standing, foundFor, CarriedOutBy}
 use Rattle.frames.proofs.Places.{found-holds, held-pool, reserved-stands}
 use Rattle.frames.proofs.Calls as any
 use Rattle.reserving.specs.declared.Reserved.the-variants as reserved
@@ -82,7 +84,27 @@ module _ {row : ℕ} {a : List ℕ} {t : KeptBytes} (r : Checked row a t) where
       → Holds byMasks row (t .tables) b (d .place)
   holds {h} {b = b} d = found-holds (r .room) (startOf h) (d .place) (d .looked-up) (d .live) b (d .block)
 
-  -- what is carried out for it by its own pool is carried out by the pool that the tables say
-  pub placed-in : (f : Pool → Place → Plan) {b : Block} {p : Place} (h : Holds byMasks row (t .tables) b p) {w : Reply} {x : List ℕ} {u : KeptBytes}
-      → CarriedOutBy (engine row) a (f (poolOf p) p) w x u → CarriedOutBy (engine row) a (f (view row (t .tables)) p) w x u
-  placed-in f {p = p} h {w} {x} {u} = subst (λ P. CarriedOutBy (engine row) a (f P p) w x u) (sym (held-pool (r .room) h))
+-- ---- a call for another size, by the block that is found
+
+module _ {row : ℕ} (law : Lawful row) (a : List ℕ) (t : KeptBytes) {h n : ℕ} {f : Pool → ℕ → Place → Plan} {c : Call}
+    (s : any.GivesSize row (view row (t .tables)) h n f c) {b : Block} (e : At b ≡ foundFor row (engine row) a t h n) where
+  passed : Checked row a t
+  passed = by-check a t (any.found-sound (engine row) a t s e .0) law
+
+  block : any.CalledFor (passed .form) h (f (view row (t .tables)) n) (s .names) (passed .room .pos) n b
+  block = any.called-for (passed .form) h (f (view row (t .tables)) n) (s .names) (passed .room .pos) n b (any.found-sound (engine row) a t s e .1)
+
+  held : Holds byMasks row (t .tables) b (block .block .place)
+  held = holds passed (block .block)
+
+  -- what an operation on it requires
+  pub size-asked : ((sound row (length a) (t .tables) ≡ true) × (t .totals ≡ totals row (view row (t .tables))))
+      × (((p : Place) × Holds byMasks row (t .tables) b p) × (Askable (b .alloc .align) n × Lawful row))
+  size-asked = ((passed .room .sound, passed .counts), ((block .block .place, held), (block .askable, law)))
+
+  -- and what the call leaves by what it ensures
+  pub size-given : {w : Reply} {x : List ℕ} {u : KeptBytes}
+      → ((p : Place) → Holds byMasks row (t .tables) b p → CarriedOutBy (engine row) a (f (poolOf p) n p) w x u) → left (replyAnswer w) x u ≡ callBy row (engine row) a t c
+  size-given {w} {x} {u} o =
+      any.size-given (engine row) a t s (passed .form) (passed .room .pos) block
+      (subst (λ P. CarriedOutBy (engine row) a (f P n (block .block .place)) w x u) (sym (held-pool (passed .room) held)) (o (block .block .place) held))

@@ -7,8 +7,8 @@ pub use Rattle.model.specs.Answers.{done}
 pub use Rattle.model.specs.Tables.{view}
 pub use Rattle.model.specs.Calls.{keptIn, engine}
 pub use Rattle.frames.specs.Blocks.{CarriedOutBy}
-pub use Rattle.frames.proofs.Calls.{Called, called-at, called-refused, CalledFor, called-for, refused-for, called, carried-as, whole}
-pub use Rattle.ops.proofs.Calls.{Checked, by-check, checked, refusing, holds, placed-in}
+pub use Rattle.frames.proofs.Calls.{Called, called-at, called-refused, called, carried-as, whole}
+pub use Rattle.ops.proofs.Calls.{Checked, by-check, checked, refusing, holds, size-asked, size-given}
 use Rattle.model.specs.declared.Answered.{Answered}
 use Rattle.model.specs.Answers.{replyAnswer}
 use Rattle.model.specs.Calls.{left}

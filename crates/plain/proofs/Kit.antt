@@ -3,14 +3,18 @@ pub use Rattle.mem.proofs.Prelude.{_∙_, _≡_, sym, ap, refl, subst, true, fa
 pub use Rattle.mem.proofs.Prelude.{_&&_, leb, leb-true, leb-false, not-false}
 pub use Rattle.model.specs.State.{startOf}
 pub use Rattle.model.specs.Answers.{done}
-pub use Rattle.model.specs.Plain.{bySlots, plainForm}
+pub use Rattle.model.specs.Plain.{bySlots, plainForm, plainCall}
 pub use Rattle.model.specs.Tables.{viewBy}
 pub use Rattle.rows.specs.Rows.{Holds}
-pub use Rattle.frames.specs.Blocks.{CarriedOutBy}
-pub use Rattle.frames.proofs.Calls.{Checked, Called, called-at, called-refused, CalledFor, called-for, refused-for, called, carried-as, whole}
+pub use Rattle.frames.specs.Blocks.{foundFor, CarriedOutBy}
+use Rattle.frames.specs.declared.Located.the-variants.{At}
+pub use Rattle.frames.proofs.Calls.{Checked, Called, called-at, called-refused, called, carried-as, whole}
+use Rattle.frames.proofs.Calls.{GivesSize, CalledFor, called-for, found-sound}
+use Rattle.frames.proofs.Calls as any
 pub use Rattle.plain_tables.proofs.Opens.{by-slots}
 pub use Rattle.plain_ops.proofs.Calls.{Sound, by-check, checked, refusing}
 unfoldable pub use Rattle.classes.specs.Classes.{rowBytes, tooLarge}
+use Rattle.classes.specs.Classes.{Lawful}
 pub use Rattle.classes.specs.Alignments.{enlarged, Askable}
 pub use Rattle.classes.proofs.Laws.{card-row, card-some}
 use Rattle.mem.proofs.Prelude.{Bool, List, ℕ}
@@ -18,7 +22,10 @@ use Rattle.mem.specs.Lists.{choose}
 use Rattle.model.specs.declared.Totals.{Totals}
 use Rattle.model.specs.declared.Reply.{Reply}
 use Rattle.model.specs.State.{Pool, Place, poolOf}
-use Rattle.model.specs.Plans.{Plan}
+use Rattle.model.specs.Plans.{Plan, Call}
+use Rattle.model.specs.Answers.{replyAnswer}
+use Rattle.model.specs.Calls.{left}
+use Rattle.model.specs.Tables.{soundBy}
 use Rattle.rows.specs.declared.Block.{Block}
 use Rattle.rows.specs.declared.Counted.{Counted}
 use Rattle.rows.specs.Counts.{countedIf}
@@ -29,11 +36,31 @@ pub holds : {a t : List ℕ} (r : Sound a t) {h : ℕ} {k : Place → Plan} {nam
     → Holds bySlots rowBytes t b (d .place)
 holds r {h} {b = b} d = found-holds (by-slots (r .sound) card-row) (startOf h) (d .place) (d .looked-up) (d .live) b (d .block)
 
--- what is carried out for it by its own pool is carried out by the pool that the tables say
-pub placed-in : {a t : List ℕ} (r : Sound a t) (f : Pool → Place → Plan) {b : Block} {p : Place} (h : Holds bySlots rowBytes t b p) {w : Reply} {x u : List ℕ}
-    → CarriedOutBy (plainForm rowBytes) a (f (poolOf p) p) w x u → CarriedOutBy (plainForm rowBytes) a (f (viewBy bySlots rowBytes t) p) w x u
-placed-in {a} r f {p = p} h {w} {x} {u} =
-    subst (λ P. CarriedOutBy (plainForm rowBytes) a (f P p) w x u) (sym (held-pool (by-slots (r .sound) card-row) h))
+-- ---- a call for another size, by the block that is found
+
+module _ (a t : List ℕ) {h n : ℕ} {f : Pool → ℕ → Place → Plan} {c : Call} (s : GivesSize rowBytes (viewBy bySlots rowBytes t) h n f c) {b : Block}
+    (e : At b ≡ foundFor rowBytes (plainForm rowBytes) a t h n) where
+  passed : Sound a t
+  passed = by-check a t (found-sound (plainForm rowBytes) a t s e .0)
+
+  block : CalledFor passed h (f (viewBy bySlots rowBytes t) n) (s .names) card-some n b
+  block = called-for passed h (f (viewBy bySlots rowBytes t) n) (s .names) card-some n b (found-sound (plainForm rowBytes) a t s e .1)
+
+  held : Holds bySlots rowBytes t b (block .block .place)
+  held = holds passed (block .block)
+
+  -- what an operation on it requires
+  pub size-asked : (soundBy bySlots rowBytes (length a) t ≡ true)
+      × (((p : Place) × Holds bySlots rowBytes t b p) × (Askable (b .alloc .align) n × Lawful rowBytes))
+  size-asked = (passed .sound, ((block .block .place, held), (block .askable, card-row)))
+
+  -- and what the call leaves by what it ensures
+  pub size-given : {w : Reply} {x u : List ℕ} → ((p : Place) → Holds bySlots rowBytes t b p → CarriedOutBy (plainForm rowBytes) a (f (poolOf p) n p) w x u)
+      → left (replyAnswer w) x u ≡ plainCall rowBytes a t c
+  size-given {w} {x} {u} o =
+      any.size-given (plainForm rowBytes) a t s passed card-some block
+      (subst (λ P. CarriedOutBy (plainForm rowBytes) a (f P n (block .block .place)) w x u) (sym (held-pool (by-slots (passed .sound) card-row) held))
+      (o (block .block .place) held))
 
 -- ---- what is counted
 

@@ -10,7 +10,7 @@ ghost use Rattle.model.specs.Plans.{setsUp, grants, grantsAligned, releases, re
 ghost use Rattle.model.specs.Tables.{soundBy, viewBy};
 ghost use Rattle.model.specs.Plain.{bySlots, plainForm, plainCall};
 ghost use Rattle.model.specs.Calls.{left};
-ghost use Rattle.frames.specs.Blocks.{CarriedOutBy};
+ghost use Rattle.frames.specs.Blocks.{foundFor, CarriedOutBy};
 use frames::Located;
 use model::Refusal;
 use model::Reply;
@@ -98,29 +98,33 @@ pub fn release(arena: &mut [u8], room: &mut [u8], handle: usize) -> Reply
     }
 }
 
-// 02 §9: "one call that only changes in place, and refuses with 11". Answers: 2, 3, 4, 5, 10, 6, 7, 11
+// The block of a handle that is to have n bytes, or why both calls that do this are refused. 02 §7: "Order: 2, 3, 4, 5, 10, 6, 7"
+fn find(arena: &[u8], room: &[u8], handle: usize, n: usize) -> Located
+    ensures { λ r. ⌜ r ≡ foundFor rowBytes (plainForm rowBytes) (now (arena .entry)) (now (room .entry)) handle n ⌝ }
+{
+    if !plain_sound::sound(classes::ROW, arena.len(), room) {
+        return Located::Refused(Refusal::Unsound);
+    }
+    plain_ops::locate_for(classes::ROW, arena, room, handle, n)
+}
+
+// 02 §9: "one call that only changes in place, and refuses with 11"
 pub fn resize_in_place(arena: &mut [u8], room: &mut [u8], handle: usize, n: usize) -> Reply
     ensures { λ r. ⌜ left (replyAnswer r) (now (arena .exit)) (now (room .exit))
         ≡ plainCall rowBytes (now (arena .entry)) (now (room .entry)) (resizesInPlace handle n) ⌝ }
 {
-    if !plain_sound::sound(classes::ROW, arena.len(), room) {
-        return Reply::Refused(Refusal::Unsound);
-    }
-    match plain_ops::locate_for(classes::ROW, arena, room, handle, n) {
+    match find(arena, room, handle, n) {
         Located::At(b) => plain_ops::resize_in_place(classes::ROW, arena, room, b, n),
         Located::Refused(r) => Reply::Refused(r),
     }
 }
 
-// 02 §9: "another that always moves and can answer 8". Answers: 2, 3, 4, 5, 10, 6, 7, 8
+// 02 §9: "another that always moves and can answer 8"
 pub fn move_block(arena: &mut [u8], room: &mut [u8], handle: usize, n: usize) -> Reply
     ensures { λ r. ⌜ left (replyAnswer r) (now (arena .exit)) (now (room .exit))
         ≡ plainCall rowBytes (now (arena .entry)) (now (room .entry)) (moves handle n) ⌝ }
 {
-    if !plain_sound::sound(classes::ROW, arena.len(), room) {
-        return Reply::Refused(Refusal::Unsound);
-    }
-    match plain_ops::locate_for(classes::ROW, arena, room, handle, n) {
+    match find(arena, room, handle, n) {
         Located::At(b) => plain_ops::move_block(classes::ROW, arena, room, b, n),
         Located::Refused(r) => Reply::Refused(r),
     }
