@@ -109,7 +109,7 @@ fn mask_bytes(m: Masks) -> [u8; 8]
     ]
 }
 
-// Writes a group's masks and the record of one of its slots: all that a grant, a release or a resize changes of a group that stays.
+// Writes a group's masks and the record of one of its slots: all that a grant, a release or a resize in place changes of a group that stays.
 pub fn store(room: &mut [u8], i: usize, m: Masks, j: usize, x: Slot)
     requires { ⌜ (i < mostRows) × (rowAt i + rowRecordBytes ≤ length (now room)) ⌝ }
     requires { ⌜ j < mostSlots ⌝ }
