@@ -98,16 +98,6 @@ pub fn release(arena: &mut [u8], room: &mut [u8], handle: usize) -> Reply
     }
 }
 
-// The block of a handle that is to have n bytes, or why both calls that do this are refused. 02 §7: "Order: 2, 3, 4, 5, 10, 6, 7"
-fn find(arena: &[u8], room: &[u8], handle: usize, n: usize) -> Located
-    ensures { λ r. ⌜ r ≡ foundFor rowBytes (plainForm rowBytes) (now (arena .entry)) (now (room .entry)) handle n ⌝ }
-{
-    if !plain_sound::sound(classes::ROW, arena.len(), room) {
-        return Located::Refused(Refusal::Unsound);
-    }
-    plain_ops::locate_for(classes::ROW, arena, room, handle, n)
-}
-
 // 02 §9: "one call that only changes in place, and refuses with 11"
 pub fn resize_in_place(arena: &mut [u8], room: &mut [u8], handle: usize, n: usize) -> Reply
     ensures { λ r. ⌜ left (replyAnswer r) (now (arena .exit)) (now (room .exit))
@@ -128,6 +118,16 @@ pub fn move_block(arena: &mut [u8], room: &mut [u8], handle: usize, n: usize) ->
         Located::At(b) => plain_ops::move_block(classes::ROW, arena, room, b, n),
         Located::Refused(r) => Reply::Refused(r),
     }
+}
+
+// The block of a handle that is to have n bytes, or why both calls are refused. 02 §7: "Order: 2, 3, 4, 5, 10, 6, 7, 8", of which 8 is a move's.
+fn find(arena: &[u8], room: &[u8], handle: usize, n: usize) -> Located
+    ensures { λ r. ⌜ r ≡ foundFor rowBytes (plainForm rowBytes) (now (arena .entry)) (now (room .entry)) handle n ⌝ }
+{
+    if !plain_sound::sound(classes::ROW, arena.len(), room) {
+        return Located::Refused(Refusal::Unsound);
+    }
+    plain_ops::locate_for(classes::ROW, arena, room, handle, n)
 }
 
 // "Measure gives n."

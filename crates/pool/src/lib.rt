@@ -1,5 +1,5 @@
 // The calls of the slot pool, over a lent arena, a lent table room and the totals in the record beside it, by value: a call that can change
-// them gives those after it back. Resize is the crate resizing's, the calls for gather lists are gather's.
+// them gives those after it back. Resize in place and move are the crate resizing's, the calls for gather lists are gather's.
 //
 // Each is a paragraph of document 01. One equation says what it answers and what it leaves of arena, room and totals, for any bytes, totals,
 // handle and size: what the model's call does on them (call, crates/model/specs/Calls.antt).
