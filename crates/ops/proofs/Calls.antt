@@ -104,7 +104,8 @@ module _ {row : ℕ} (law : Lawful row) (a : List ℕ) (t : KeptBytes) {h n : �
 
   -- and what the call leaves by what it ensures
   pub size-given : {w : Reply} {x : List ℕ} {u : KeptBytes}
-      → ((p : Place) → Holds byMasks row (t .tables) b p → CarriedOutBy (engine row) a (f (poolOf p) n p) w x u) → left (replyAnswer w) x u ≡ callBy row (engine row) a t c
+      → ((p : Place) → Holds byMasks row (t .tables) b p → CarriedOutBy (engine row) a (f (poolOf p) n p) w x u)
+      → left (replyAnswer w) x u ≡ callBy row (engine row) a t c
   size-given {w} {x} {u} o =
       any.size-given (engine row) a t s (passed .form) (passed .room .pos) block
       (subst (λ P. CarriedOutBy (engine row) a (f P n (block .block .place)) w x u) (sym (held-pool (passed .room) held)) (o (block .block .place) held))

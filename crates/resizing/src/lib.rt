@@ -1,25 +1,14 @@
 // The calls that give a block another size, in place or by a move, over a lent arena, a lent table room and the totals in the record beside it, by
-// value, as the calls of `pool` are.
+// value, as the calls of `pool` are. The check stands in each of them, since in one function before both it is slower (DECISIONS 151).
 ghost use mathlib.Core.Path.{_≡_};
 ghost use Rattle.classes.specs.Classes.{rowBytes};
 ghost use Rattle.model.specs.Answers.{replyAnswer};
 ghost use Rattle.model.specs.Plans.{resizesInPlace, moves};
-ghost use Rattle.model.specs.Calls.{keptIn, left, engine, call};
-ghost use Rattle.frames.specs.Blocks.{foundFor};
+ghost use Rattle.model.specs.Calls.{keptIn, left, call};
 use frames::Located;
 use model::Answered;
 use model::Refusal;
 use model::Totals;
-
-// The block of a handle that is to have n bytes, or why both calls are refused: 2, 3, 4, 5, 10, 6, 7.
-fn find(arena: &[u8], room: &[u8], t: Totals, handle: usize, n: usize) -> Located
-    ensures { λ r. ⌜ r ≡ foundFor rowBytes (engine rowBytes) (now (arena .entry)) (keptIn (now (room .entry)) t) handle n ⌝ }
-{
-    if !soundness::sound(classes::ROW, arena.len(), room, t) {
-        return Located::Refused(Refusal::Unsound);
-    }
-    ops::locate_for(classes::ROW, arena, room, handle, n)
-}
 
 // Resize in place: refused where the block's slot does not serve the new size.
 pub fn resize_in_place(
@@ -32,7 +21,10 @@ pub fn resize_in_place(
     ensures { λ r. ⌜ left (replyAnswer (r .reply)) (now (arena .exit)) (keptIn (now (room .exit)) (r .totals))
         ≡ call rowBytes (now (arena .entry)) (keptIn (now (room .entry)) t) (resizesInPlace handle n) ⌝ }
 {
-    match find(arena, room, t, handle, n) {
+    if !soundness::sound(classes::ROW, arena.len(), room, t) {
+        return totals::refused(Refusal::Unsound, t);
+    }
+    match ops::locate_for(classes::ROW, arena, room, handle, n) {
         Located::At(b) => ops::resize_in_place(classes::ROW, arena, room, t, b, n),
         Located::Refused(r) => totals::refused(r, t),
     }
@@ -43,7 +35,10 @@ pub fn move_block(arena: &mut [u8], room: &mut [u8], t: Totals, handle: usize, n
     ensures { λ r. ⌜ left (replyAnswer (r .reply)) (now (arena .exit)) (keptIn (now (room .exit)) (r .totals))
         ≡ call rowBytes (now (arena .entry)) (keptIn (now (room .entry)) t) (moves handle n) ⌝ }
 {
-    match find(arena, room, t, handle, n) {
+    if !soundness::sound(classes::ROW, arena.len(), room, t) {
+        return totals::refused(Refusal::Unsound, t);
+    }
+    match ops::locate_for(classes::ROW, arena, room, handle, n) {
         Located::At(b) => ops::move_block(classes::ROW, arena, room, t, b, n),
         Located::Refused(r) => totals::refused(r, t),
     }
