@@ -89,8 +89,8 @@ module _ (row : ℕ) where
   abbrev pub ModelStands : Type 0
   ModelStands = (n : ℕ) (cs : List Call) → T (arenaRight row n) → Stands row n (model (fed n) cs .pool)
 
-  -- the bytes that a block gains in an accepted call that answers r, from the start of the handle that it gives: in place those past its old size, by a
-  -- move those past its old size in the new place, and of a list each entry is a grant
+  -- the bytes that a block gains in an accepted call that answers r: by a grant all of them, from the start of the handle that it gives; in place those past
+  -- its old size; by a move those past its old size in the new place; of a list each entry is a grant
   abbrev pub given : Answer → ℕ
   given r = startOf (getD (r .values) 0 0)
 
