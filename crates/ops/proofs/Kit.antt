@@ -1,5 +1,5 @@
 -- What the proofs of the calls share: names, and what a call tells.
-pub use Rattle.mem.proofs.Prelude.{_∙_, _≡_, sym, ap, ap₂, refl, subst, [], _∷_, _<_, _/_, arith, now, needs, lit≤, leb, leb-true, leb-false, length, List, ℕ}
+pub use Rattle.mem.proofs.Prelude.{_∙_, _≡_, sym, ap, ap₂, refl, subst, [], _∷_, _<_, _/_, arith, now, needs, lit≤, leb-true, leb-false, length, List, ℕ}
 unfoldable pub use Rattle.classes.specs.Classes.{rowBytes, tooLarge}
 pub use Rattle.classes.specs.Alignments.{enlarged, Askable}
 pub use Rattle.classes.proofs.Laws.{card-row, card-some}

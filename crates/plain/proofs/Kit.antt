@@ -1,35 +1,33 @@
 -- What the proofs of the plain pool's calls share: names, the tables as the calls over any form take them, and what is counted.
-pub use Rattle.mem.proofs.Prelude.{_∙_, _≡_, sym, ap, refl, subst, true, false, some, [], _∷_, _<_, _≤_, _*_, now, needs, arith, lit≤, leb→le, length}
-pub use Rattle.mem.proofs.Prelude.{_&&_, leb, leb-true, leb-false, not-false}
-pub use Rattle.model.specs.State.{startOf}
-pub use Rattle.model.specs.Answers.{done}
-pub use Rattle.model.specs.Plain.{bySlots, plainForm, plainCall}
-pub use Rattle.model.specs.Tables.{viewBy}
-pub use Rattle.rows.specs.Rows.{Holds}
-pub use Rattle.frames.specs.Blocks.{foundFor, CarriedOutBy}
-use Rattle.frames.specs.declared.Located.the-variants.{At}
-pub use Rattle.frames.proofs.Calls.{Checked, Called, called-at, called-refused, called, carried-as, whole}
-use Rattle.frames.proofs.Calls.{GivesSize, CalledFor, called-for, found-sound}
-use Rattle.frames.proofs.Calls as any
-pub use Rattle.plain_tables.proofs.Opens.{by-slots}
-pub use Rattle.plain_ops.proofs.Calls.{Sound, by-check, checked, refusing}
+pub use Rattle.mem.proofs.Prelude.{_∙_, _≡_, sym, ap, refl, subst, some, [], _∷_, _<_, now, needs, arith, lit≤, leb-true, leb-false, not-false, length}
 unfoldable pub use Rattle.classes.specs.Classes.{rowBytes, tooLarge}
-use Rattle.classes.specs.Classes.{Lawful}
 pub use Rattle.classes.specs.Alignments.{enlarged, Askable}
 pub use Rattle.classes.proofs.Laws.{card-row, card-some}
-use Rattle.mem.proofs.Prelude.{Bool, List, ℕ}
+pub use Rattle.model.specs.Answers.{done}
+pub use Rattle.model.specs.Tables.{viewBy}
+pub use Rattle.model.specs.Plain.{bySlots, plainForm, plainCall}
+pub use Rattle.frames.specs.Blocks.{foundFor, CarriedOutBy}
+pub use Rattle.frames.proofs.Calls.{Called, called-at, called-refused, called, carried-as, whole}
+pub use Rattle.plain_tables.proofs.Opens.{by-slots}
+pub use Rattle.plain_ops.proofs.Calls.{Sound, by-check, checked, refusing}
+use Rattle.mem.proofs.Prelude.{Bool, List, ℕ, true, false}
 use Rattle.mem.specs.Lists.{choose}
+use Rattle.classes.specs.Classes.{Lawful}
 use Rattle.model.specs.declared.Totals.{Totals}
 use Rattle.model.specs.declared.Reply.{Reply}
-use Rattle.model.specs.State.{Pool, Place, poolOf}
+use Rattle.model.specs.State.{Pool, Place, poolOf, startOf}
 use Rattle.model.specs.Plans.{Plan, Call}
 use Rattle.model.specs.Answers.{replyAnswer}
 use Rattle.model.specs.Calls.{left}
 use Rattle.model.specs.Tables.{soundBy}
 use Rattle.rows.specs.declared.Block.{Block}
 use Rattle.rows.specs.declared.Counted.{Counted}
+use Rattle.rows.specs.Rows.{Holds}
 use Rattle.rows.specs.Counts.{countedIf}
+use Rattle.frames.specs.declared.Located.the-variants.{At}
 use Rattle.frames.proofs.Places.{found-holds, held-pool}
+use Rattle.frames.proofs.Calls.{GivesSize, CalledFor, called-for, found-sound}
+use Rattle.frames.proofs.Calls as any
 
 -- the tables hold the block that is located
 pub holds : {a t : List ℕ} (r : Sound a t) {h : ℕ} {k : Place → Plan} {named : (p : Place) → k p .checks ≡ some p} {b : Block} (d : Called r h k named b)
