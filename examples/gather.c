@@ -1,5 +1,5 @@
-/* Grants a packet as one gather list to a transmit queue, and a ring of descriptors on a boundary to a receive queue; lets a mapped buffer
- * grow, shows what the pool refuses, and prints a map of the arena's rows and what the queues have. */
+/* Grants a packet as one gather list and a ring of descriptors on a boundary, lets a mapped buffer grow, shows what the pool refuses, and
+ * prints a map of the arena's rows. */
 #include <stdalign.h>
 #include <stdio.h>
 #include <stdlib.h>
@@ -8,9 +8,6 @@
 #include "slotpool.h"
 
 enum { ARENA = 8192, ROW = 512 };
-
-/* The driver's queues, of the eight that share the pool. */
-enum { TRANSMIT, RECEIVE };
 
 /* Alignments are counted from its first byte, so it is aligned itself, for all of them. */
 static alignas(4096) uint8_t arena[ARENA];
@@ -25,7 +22,7 @@ static const char *name(uint32_t answer)
 {
     static const char *const names[] = {"done", "bad arena", "unsound", "too large", "no such block",
                                         "already free", "header damaged", "overrun", "no room", "list too long", "stale", "not in place",
-                                        "wrong queue", [SLOTPOOL_BAD_ALIGNMENT] = "bad alignment", [SLOTPOOL_BAD_PROPOSAL] = "bad proposal"};
+                                        [SLOTPOOL_BAD_ALIGNMENT] = "bad alignment", [SLOTPOOL_BAD_PROPOSAL] = "bad proposal"};
     return names[answer];
 }
 
@@ -43,20 +40,11 @@ static void map(void)
            t.waiting);
 }
 
-/* What each queue has: together, what the map says of blocks and bytes. */
-static void queues(void)
-{
-    slotpool_queue_totals transmit, receive;
-    slotpool_report_queue(POOL, TRANSMIT, &transmit);
-    slotpool_report_queue(POOL, RECEIVE, &receive);
-    printf("transmit %zu blocks, %zu bytes; receive %zu blocks, %zu bytes\n", transmit.blocks, transmit.bytes, receive.blocks, receive.bytes);
-}
-
 /* Asks for a list of so many bytes in entries of these sizes, at most cap each; gives how many were granted. */
 static size_t grant_list(size_t length, size_t cap, const size_t *sizes, size_t count, size_t handles[SLOTPOOL_ENTRIES])
 {
     size_t entries;
-    uint32_t answer = slotpool_grant_list(POOL, TRANSMIT, length, cap, sizes, count, handles, SLOTPOOL_ENTRIES, &entries);
+    uint32_t answer = slotpool_grant_list(POOL, length, cap, sizes, count, handles, SLOTPOOL_ENTRIES, &entries);
     printf("list of %zu bytes as", length);
     for (size_t i = 0; i < count; i++)
         printf(" %zu", sizes[i]);
@@ -71,11 +59,11 @@ static size_t grant_list(size_t length, size_t cap, const size_t *sizes, size_t 
 static size_t resize_mapped(size_t handle, size_t n)
 {
     size_t value;
-    uint32_t answer = slotpool_resize_in_place(POOL, RECEIVE, handle, n, &value);
+    uint32_t answer = slotpool_resize_in_place(POOL, handle, n, &value);
     printf("resize %zu to %zu in place: %s\n", handle, n, name(answer));
     if (answer == SLOTPOOL_NOT_IN_PLACE) {
         /* the mapping is torn down here, before the block moves, and made anew after, where the block is then */
-        answer = slotpool_move(POOL, RECEIVE, handle, n, &value);
+        answer = slotpool_move(POOL, handle, n, &value);
         printf("move %zu, %zu bytes: %s, %zu\n", handle, n, name(answer), value);
     }
     return answer == SLOTPOOL_DONE ? value : handle;
@@ -109,23 +97,21 @@ int main(void)
     size_t value, past = slotpool_start(list[1]) + sizes[1];
     uint8_t kept = arena[past];
     arena[past] = 1;
-    printf("release %zu with one byte written past its end: %s\n", list[1], name(slotpool_release(POOL, TRANSMIT, list[1])));
+    printf("release %zu with one byte written past its end: %s\n", list[1], name(slotpool_release(POOL, list[1])));
     arena[past] = kept;
 
-    printf("resize %zu to 188 in place: %s\n", list[0], name(slotpool_resize_in_place(POOL, TRANSMIT, list[0], 188, &value)));
-    printf("release %zu for the receive queue: %s\n", list[1], name(slotpool_release(POOL, RECEIVE, list[1])));
-    printf("release %zu: %s\n", list[1], name(slotpool_release(POOL, TRANSMIT, list[1])));
-    printf("release %zu again: %s\n", list[1], name(slotpool_release(POOL, TRANSMIT, list[1])));
-    printf("release %zu: %s\n", list[1] + 16, name(slotpool_release(POOL, TRANSMIT, list[1] + 16)));
-    printf("grant 131052: %s\n", name(slotpool_grant(POOL, TRANSMIT, 131052, &value)));
-    printf("grant 5000: %s\n", name(slotpool_grant(POOL, TRANSMIT, 5000, &value)));
-    printf("grant 160 to queue %d: %s\n", SLOTPOOL_QUEUES, name(slotpool_grant(POOL, SLOTPOOL_QUEUES, 160, &value)));
+    printf("resize %zu to 188 in place: %s\n", list[0], name(slotpool_resize_in_place(POOL, list[0], 188, &value)));
+    printf("release %zu: %s\n", list[1], name(slotpool_release(POOL, list[1])));
+    printf("release %zu again: %s\n", list[1], name(slotpool_release(POOL, list[1])));
+    printf("release %zu: %s\n", list[1] + 16, name(slotpool_release(POOL, list[1] + 16)));
+    printf("grant 131052: %s\n", name(slotpool_grant(POOL, 131052, &value)));
+    printf("grant 5000: %s\n", name(slotpool_grant(POOL, 5000, &value)));
     map();
 
     /* 8 descriptors of 16 bytes, which the engine wants at a multiple of 64: a slot for 48 bytes more, from whose beginning at 400 the next
      * multiple is 448 */
-    printf("grant 128 aligned to 48: %s\n", name(slotpool_grant_aligned(POOL, RECEIVE, 128, 48, &value)));
-    printf("grant 128 aligned to 64: %s", name(slotpool_grant_aligned(POOL, RECEIVE, 128, 64, &value)));
+    printf("grant 128 aligned to 48: %s\n", name(slotpool_grant_aligned(POOL, 128, 48, &value)));
+    printf("grant 128 aligned to 64: %s", name(slotpool_grant_aligned(POOL, 128, 64, &value)));
     printf(", %zu\n", value);
     if ((uintptr_t)(arena + slotpool_start(value)) % 64 != 0)
         return 1;
@@ -133,7 +119,7 @@ int main(void)
 
     /* a mapped buffer of 80 bytes: its slot of 96 holds 92, and for 160 it moves to a slot of 192 */
     size_t buffer;
-    if (slotpool_grant(POOL, RECEIVE, 80, &buffer) != SLOTPOOL_DONE)
+    if (slotpool_grant(POOL, 80, &buffer) != SLOTPOOL_DONE)
         return 1;
     memset(arena + slotpool_start(buffer), 'm', 80);
     buffer = resize_mapped(buffer, 92);
@@ -141,27 +127,25 @@ int main(void)
     const uint8_t *bytes = arena + slotpool_start(buffer);
     printf("its bytes 0 and 79 are %c and %c, and byte 80, which it gained, is %d\n", bytes[0], bytes[79], bytes[80]);
     map();
-    queues();
 
     /* a flipped bit in the tables: block 16 has 156 bytes for 188, which its slot may hold. The tables are sound by themselves, and without the
      * record this grant would be done; but their totals are not those of the record */
     uint8_t *size = room + 16 + 16 + 4; /* docs/TABLES.md: row 0, slot 0, requested size */
     *size ^= 32;
-    printf("grant 80 with a flipped table bit: %s\n", name(slotpool_grant(POOL, TRANSMIT, 80, &value)));
+    printf("grant 80 with a flipped table bit: %s\n", name(slotpool_grant(POOL, 80, &value)));
     *size ^= 32;
-    printf("measure %zu: %s", list[0], name(slotpool_measure(POOL, TRANSMIT, list[0], &value)));
+    printf("measure %zu: %s", list[0], name(slotpool_measure(POOL, list[0], &value)));
     printf(", %zu\n", value);
 
     /* the driver keeps the third entry's handle too long: the entry is released and, its group being full, the next block has its slot and
      * starts at the same place; but its handle is another */
-    while (slotpool_grant(POOL, TRANSMIT, 80, &value) == SLOTPOOL_DONE)
+    while (slotpool_grant(POOL, 80, &value) == SLOTPOOL_DONE)
         ;
-    printf("release %zu: %s\n", list[2], name(slotpool_release(POOL, TRANSMIT, list[2])));
-    printf("grant 80: %s", name(slotpool_grant(POOL, TRANSMIT, 80, &value)));
+    printf("release %zu: %s\n", list[2], name(slotpool_release(POOL, list[2])));
+    printf("grant 80: %s", name(slotpool_grant(POOL, 80, &value)));
     printf(", %zu, at %zu\n", value, slotpool_start(value));
-    printf("release %zu again: %s\n", list[2], name(slotpool_release(POOL, TRANSMIT, list[2])));
+    printf("release %zu again: %s\n", list[2], name(slotpool_release(POOL, list[2])));
     map();
-    queues();
     free(room);
     return 0;
 }

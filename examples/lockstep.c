@@ -11,9 +11,6 @@
 
 enum { ARENA = 16384, ROOM = 16 + 264 * (ARENA / 512) }; /* docs/TABLES.md */
 
-/* The driver's queues, of the eight that share the pool. */
-enum { TRANSMIT, RECEIVE };
-
 /* Alignments are counted from the arena's first byte, so it is aligned itself. The monitor's is a copy that no DMA engine reads. */
 static struct {
     alignas(4096) uint8_t arena[ARENA];
@@ -76,49 +73,49 @@ static void set_up(void)
     other.number = slotpool_plain_##name(MONITOR, __VA_ARGS__, &other.value);  \
     return end(call, one, other)
 
-static size_t grant(const char *call, size_t queue, size_t n)
+static size_t grant(const char *call, size_t n)
 {
-    BOTH(grant, queue, n);
+    BOTH(grant, n);
 }
 
-static size_t grant_aligned(const char *call, size_t queue, size_t n, size_t align)
+static size_t grant_aligned(const char *call, size_t n, size_t align)
 {
-    BOTH(grant_aligned, queue, n, align);
+    BOTH(grant_aligned, n, align);
 }
 
-/* A list for the transmit queue. The handles go to two lists, which are compared as well. */
+/* The handles go to two lists, which are compared as well. */
 static void grant_list(const char *call, size_t length, size_t cap, const size_t *sizes, size_t count, size_t handles[SLOTPOOL_ENTRIES])
 {
     struct answer one, other;
     size_t others[SLOTPOOL_ENTRIES];
     memcpy(others, handles, sizeof others);
     begin();
-    one.number = slotpool_grant_list(FIRST, TRANSMIT, length, cap, sizes, count, handles, SLOTPOOL_ENTRIES, &one.value);
-    other.number = slotpool_plain_grant_list(MONITOR, TRANSMIT, length, cap, sizes, count, others, SLOTPOOL_ENTRIES, &other.value);
+    one.number = slotpool_grant_list(FIRST, length, cap, sizes, count, handles, SLOTPOOL_ENTRIES, &one.value);
+    other.number = slotpool_plain_grant_list(MONITOR, length, cap, sizes, count, others, SLOTPOOL_ENTRIES, &other.value);
     end(call, one, other);
     check(memcmp(handles, others, sizeof others) == 0, "lists");
 }
 
-static void release(const char *call, size_t queue, size_t handle)
+static void release(const char *call, size_t handle)
 {
     begin();
-    struct answer one = {slotpool_release(FIRST, queue, handle), 0}, other = {slotpool_plain_release(MONITOR, queue, handle), 0};
+    struct answer one = {slotpool_release(FIRST, handle), 0}, other = {slotpool_plain_release(MONITOR, handle), 0};
     end(call, one, other);
 }
 
-static size_t resize_in_place(const char *call, size_t queue, size_t handle, size_t n)
+static size_t resize_in_place(const char *call, size_t handle, size_t n)
 {
-    BOTH(resize_in_place, queue, handle, n);
+    BOTH(resize_in_place, handle, n);
 }
 
-static size_t move(const char *call, size_t queue, size_t handle, size_t n)
+static size_t move(const char *call, size_t handle, size_t n)
 {
-    BOTH(move, queue, handle, n);
+    BOTH(move, handle, n);
 }
 
-static size_t measure(const char *call, size_t queue, size_t handle)
+static size_t measure(const char *call, size_t handle)
 {
-    BOTH(measure, queue, handle);
+    BOTH(measure, handle);
 }
 
 /* The first engine gives its record, the monitor counts. */
@@ -133,18 +130,6 @@ static void report(void)
     check(memcmp(&totals, &counted, sizeof totals) == 0, "totals");
 }
 
-/* Both count what a queue has. */
-static void report_queue(const char *call, size_t queue)
-{
-    slotpool_queue_totals totals, counted;
-    begin();
-    struct answer one = {slotpool_report_queue(FIRST, queue, &totals), 0}, other = {slotpool_plain_report_queue(MONITOR, queue, &counted), 0};
-    one.value = totals.bytes;
-    other.value = counted.bytes;
-    end(call, one, other);
-    check(memcmp(&totals, &counted, sizeof totals) == 0, "totals of a queue");
-}
-
 int main(void)
 {
     /* whatever stands in the arenas before */
@@ -152,9 +137,9 @@ int main(void)
     memset(monitor.arena, 0x5A, ARENA);
     set_up();
 
-    size_t packet = grant("grant 160", TRANSMIT, 160);
+    size_t packet = grant("grant 160", 160);
     memset(first.arena + slotpool_start(packet), 'p', 160);
-    size_t ring = grant_aligned("grant 128 aligned to 64", RECEIVE, 128, 64);
+    size_t ring = grant_aligned("grant 128 aligned to 64", 128, 64);
     if ((uintptr_t)(first.arena + slotpool_start(ring)) % 64 != 0)
         return 1;
     memset(first.arena + slotpool_start(ring), 'r', 128);
@@ -167,50 +152,42 @@ int main(void)
     grant_list("list of 401 in the same entries", 401, 160, sizes, planned, list);
     grant_list("list of 18, at most 1 each", 18, 1, sizes, planned, list);
     report();
-    report_queue("of them, the transmit queue's", TRANSMIT);
-    report_queue("the receive queue's", RECEIVE);
 
     /* the packet has room for 188 bytes where it is, and moves for more; the ring keeps its boundary */
-    packet = resize_in_place("resize the packet in place to 188", TRANSMIT, packet, 188);
-    resize_in_place("resize the packet in place to 189", TRANSMIT, packet, 189);
-    packet = move("move the packet, 189 bytes", TRANSMIT, packet, 189);
-    measure("measure the packet", TRANSMIT, packet);
-    measure("measure it for the receive queue", RECEIVE, packet);
-    ring = move("move the ring, 128 bytes again", RECEIVE, ring, 128);
+    packet = resize_in_place("resize the packet in place to 188", packet, 188);
+    resize_in_place("resize the packet in place to 189", packet, 189);
+    packet = move("move the packet, 189 bytes", packet, 189);
+    measure("measure the packet", packet);
+    ring = move("move the ring, 128 bytes again", ring, 128);
     if ((uintptr_t)(first.arena + slotpool_start(ring)) % 64 != 0)
         return 1;
-    move("move the ring, 16000 bytes", RECEIVE, ring, 16000);
+    move("move the ring, 16000 bytes", ring, 16000);
 
     /* a store into the guard of the list's first entry, the last of 28 spare bytes, and one into its header; then both as they were */
     uint8_t *guard = first.arena + slotpool_start(list[0]) + 160 + 27, *header = first.arena + slotpool_start(list[0]) - 1;
     *guard ^= 1;
-    release("release an entry, guard damaged", TRANSMIT, list[0]);
+    release("release an entry, guard damaged", list[0]);
     *header ^= 1;
-    release("release it, header damaged, too", TRANSMIT, list[0]);
-    release("release it for the receive queue", RECEIVE, list[0]);
-    resize_in_place("resize it in place to 100", TRANSMIT, list[0], 100);
-    move("move it, 100 bytes", TRANSMIT, list[0], 100);
+    release("release it, header damaged, too", list[0]);
+    resize_in_place("resize it in place to 100", list[0], 100);
+    move("move it, 100 bytes", list[0], 100);
     *guard ^= 1;
     *header ^= 1;
-    release("release it, mended", TRANSMIT, list[0]);
-    release("release it again", TRANSMIT, list[0]);
+    release("release it, mended", list[0]);
+    release("release it again", list[0]);
 
     /* two blocks fill a group, so the third has the slot of the one that was released */
-    size_t old = grant("grant 2028", RECEIVE, 2028);
-    grant("grant 2028", RECEIVE, 2028);
-    release("release the first of them", RECEIVE, old);
-    grant("grant 2028", TRANSMIT, 2028);
-    measure("measure by the old handle", RECEIVE, old);
+    size_t old = grant("grant 2028", 2028);
+    grant("grant 2028", 2028);
+    release("release the first of them", old);
+    grant("grant 2028", 2028);
+    measure("measure by the old handle", old);
 
-    measure("measure what is no block", RECEIVE, ring + 16);
-    grant("grant 131052", RECEIVE, 131052);
-    grant("grant 5000", RECEIVE, 5000);
-    grant("grant 5000 to queue 8", SLOTPOOL_QUEUES, 5000);
-    grant_aligned("grant 128 aligned to 48", RECEIVE, 128, 48);
+    measure("measure what is no block", ring + 16);
+    grant("grant 131052", 131052);
+    grant("grant 5000", 5000);
+    grant_aligned("grant 128 aligned to 48", 128, 48);
     report();
-    report_queue("of them, the transmit queue's", TRANSMIT);
-    report_queue("the receive queue's", RECEIVE);
-    report_queue("queue 8's", SLOTPOOL_QUEUES);
 
     printf("%u calls: answers, values and arenas were equal after each\n", calls);
     return 0;

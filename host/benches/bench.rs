@@ -1,15 +1,15 @@
 //! Nanoseconds per call, of the library and of the second implementation with its own full check of the tables, over arenas of four
-//! sizes, empty, half full and nearly full; of the soundness check alone, dense and sparse, with ordinary and with aligned blocks, of one queue
-//! and of eight; of aligned grants beside ordinary ones; of grants that do little but find a class; of the grants of a list beside its list
-//! call; of the plain engine beside the first; and records per second, of the replay program and of the second implementation's replay.
+//! sizes, empty, half full and nearly full; of the soundness check alone, dense and sparse, with ordinary and with aligned blocks; of aligned
+//! grants beside ordinary ones; of grants that do little but find a class; of the grants of a list beside its list call; of the plain engine beside
+//! the first; and records per second, of the replay program and of the second implementation's replay.
 //! Each figure is the median of several runs, with the least and the most.
 
 #[path = "../tests/program/mod.rs"]
 mod program;
 
 use slotpool::trace::{self, Op};
-use slotpool::{room_len, Handle, PlainPool, Pool, Queue, Refusal, Totals, ENTRIES};
-use slotpool_reference::{replay, start_of, Reference, State, Tables, ORDINARY};
+use slotpool::{room_len, Handle, PlainPool, Pool, Refusal, Totals, ENTRIES};
+use slotpool_reference::{replay, start_of, Reference, Tables, ORDINARY};
 use std::hash::{BuildHasher, BuildHasherDefault, DefaultHasher};
 use std::hint::black_box;
 use std::path::Path;
@@ -17,9 +17,6 @@ use std::process::Command;
 use std::time::{Duration, Instant};
 
 const RUNS: usize = 15;
-
-/// The queue of all calls.
-const QUEUE: Queue = Queue::Q0;
 
 struct Time {
     median: f64,
@@ -96,9 +93,9 @@ fn fill(pool: &mut Pool, second: &mut Reference, share: f64) -> Vec<Handle> {
         if t.rows_held as f64 >= share * (t.rows_held + t.rows_free) as f64 && t.ready_slots < 3 {
             return blocks;
         }
-        match pool.queue(QUEUE).grant(160) {
+        match pool.grant(160) {
             Ok(block) => {
-                assert_eq!(second.grant(0, 160), Ok(block.raw()));
+                assert_eq!(second.grant(160), Ok(block.raw()));
                 blocks.push(block);
             }
             Err(_) => return blocks,
@@ -116,9 +113,9 @@ fn program(trace: &[u8]) -> Vec<u8> {
 /// A full trace: grants of 160 bytes, then as many rounds as there is room for. A round makes its calls on a pool, which tells the handles.
 fn full(grants: usize, round: fn(&mut Reference) -> Vec<Op>) -> Vec<Op> {
     let mut pool = Reference::set_up(16_384);
-    let mut ops = vec![Op::Grant(0, 160); grants];
+    let mut ops = vec![Op::Grant(160); grants];
     for _ in &ops {
-        pool.grant(0, 160).unwrap();
+        pool.grant(160).unwrap();
     }
     let mut len = trace::write(&ops).len();
     loop {
@@ -133,20 +130,20 @@ fn full(grants: usize, round: fn(&mut Reference) -> Vec<Op>) -> Vec<Op> {
 
 /// A round of a grant and its release.
 fn granted_and_released(pool: &mut Reference) -> Vec<Op> {
-    let block = pool.grant(0, 160).unwrap();
-    pool.release(0, block).unwrap();
-    vec![Op::Grant(0, 160), Op::Release(0, block as u32)]
+    let block = pool.grant(160).unwrap();
+    pool.release(block).unwrap();
+    vec![Op::Grant(160), Op::Release(block as u32)]
 }
 
 /// A round of all calls on a block, and a store.
 fn all_on_a_block(pool: &mut Reference) -> Vec<Op> {
-    let block = pool.grant(0, 160).unwrap();
-    pool.resize_in_place(0, block, 150).unwrap();
-    let moved = pool.move_block(0, block, 160).unwrap();
-    pool.release(0, moved).unwrap();
+    let block = pool.grant(160).unwrap();
+    pool.resize_in_place(block, 150).unwrap();
+    let moved = pool.move_block(block, 160).unwrap();
+    pool.release(moved).unwrap();
     let (start, block, moved) = (start_of(block) as u32, block as u32, moved as u32);
     let stored = Op::Store(start, vec![7; 160]);
-    vec![Op::Grant(0, 160), stored, Op::Measure(0, block), Op::InPlace(0, block, 150), Op::Move(0, block, 160), Op::Release(0, moved)]
+    vec![Op::Grant(160), stored, Op::Measure(block), Op::InPlace(block, 150), Op::Move(block, 160), Op::Release(moved)]
 }
 
 /// Times the replay program, started anew for each trace, beside the second implementation's replay in this process.
@@ -201,39 +198,22 @@ impl Kept {
         let mut blocks = Vec::new();
         loop {
             let before = blocks.len();
-            blocks.extend(asked.iter().filter_map(|&(n, align)| pool.queue(QUEUE).grant_aligned(n, align).ok()));
+            blocks.extend(asked.iter().filter_map(|&(n, align)| pool.grant_aligned(n, align).ok()));
             if blocks.len() == before {
                 break;
             }
         }
         for block in released(&blocks) {
-            pool.queue(QUEUE).release(block).unwrap();
+            pool.release(block).unwrap();
         }
         Kept { state: (arena.clone(), room.clone(), totals), arena, room, totals }
     }
 
-    fn tables(&self) -> Tables {
-        Tables::read(self.arena.len(), &self.room, &self.totals).expect("sound tables")
-    }
-
-    /// The same with another room.
-    fn over(&self, room: Vec<u8>) -> Kept {
-        Kept { state: (self.arena.clone(), room.clone(), self.totals), room, ..self.clone() }
-    }
-
     /// The same with the plain engine's tables.
     fn plain(&self) -> Kept {
-        self.over(self.tables().write_plain())
-    }
-
-    /// The same with blocks of all queues, in turn.
-    fn of_all_queues(&self) -> Kept {
-        let mut tables = self.tables();
-        let live = tables.groups.iter_mut().flat_map(|group| &mut group.slots).filter(|slot| slot.state == State::Live);
-        for (slot, queue) in live.zip((0..8).cycle()) {
-            slot.queue = queue;
-        }
-        self.over(tables.write())
+        let tables = Tables::read(self.arena.len(), &self.room, &self.totals).expect("sound tables");
+        let room = tables.write_plain();
+        Kept { state: (self.arena.clone(), room.clone(), self.totals), room, ..self.clone() }
     }
 
     fn pool(&mut self) -> Pool<'_> {
@@ -289,7 +269,7 @@ const STATES: [(&str, Released); 3] =
 /// A list call under the largest cap, of either engine.
 macro_rules! list_call {
     ($pool:expr, $sizes:expr) => {
-        $pool.queue(QUEUE).grant_list($sizes.iter().sum(), 131_051, black_box(&$sizes), black_box(&mut [Handle::default(); ENTRIES]))
+        $pool.grant_list($sizes.iter().sum(), 131_051, black_box(&$sizes), black_box(&mut [Handle::default(); ENTRIES]))
     };
 }
 
@@ -313,7 +293,7 @@ fn lists() {
             }
             let turns = 4000 / kib + 40;
             let (grants, list, ratio) = runs_beside(
-                || one.run(turns, |kept| sizes.map(|n| kept.pool().queue(QUEUE).grant(black_box(n)).unwrap())),
+                || one.run(turns, |kept| sizes.map(|n| kept.pool().grant(black_box(n)).unwrap())),
                 || other.run(turns, |kept| list_call!(kept.pool(), sizes).unwrap()),
             );
             let refused = sorted((0..RUNS).map(|_| other.run(turns, |kept| list_call!(kept.pool(), short).unwrap_err())).collect());
@@ -331,10 +311,10 @@ fn classes() {
         let (mut arena, mut room, mut totals) = buffers(512);
         let mut pool = Pool::set_up(&mut arena, &mut room, &mut totals).unwrap();
         let due = if sizes.start < 131_052 { Refusal::NoRoom } else { Refusal::TooLarge };
-        assert!(sizes.clone().all(|n| pool.queue(QUEUE).grant(n) == Err(due)), "{name}: another answer");
+        assert!(sizes.clone().all(|n| pool.grant(n) == Err(due)), "{name}: another answer");
         let all = time(131_052 / sizes.len(), || {
             for n in sizes.clone() {
-                black_box(pool.queue(QUEUE).grant(black_box(n)).is_err());
+                black_box(pool.grant(black_box(n)).is_err());
             }
         });
         let count = sizes.len() as f64;
@@ -369,33 +349,26 @@ const CHECKED: [(&str, &[(usize, usize)], Released); 13] = [
 fn checks() {
     println!("\nthe soundness check alone (a measure of handle 1, answer 4) beside a plain read of the room. Half full: half of the blocks were");
     println!("released, drawn at random. Mixed: 12 bytes aligned to 32, 100 to 64 and 2,000 to 4,096, in turn. Ordinary blocks of 28 bytes have the");
-    println!("class of 12 aligned to 32; 44 aligned to 32 and 12 to 64 have one class, and share its groups. Blocks of eight queues are theirs in");
-    println!("turn, all others of one");
+    println!("class of 12 aligned to 32; 44 aligned to 32 and 12 to 64 have one class, and share its groups");
     println!("{:<52} {:>26} {:>26} {:>20}", "arena", "check", "plain read", "ratio of a run");
     for kib in [4, 16, 64, 256] {
         for (name, asked, released) in CHECKED {
-            check(kib, name, Kept::full_of(1024 * kib, asked, released));
-        }
-        for size in [160, 12] {
-            check(kib, &format!("full of {size}-byte blocks of eight queues"), Kept::with_room(1024 * kib, size, none).of_all_queues());
+            let mut kept = Kept::full_of(1024 * kib, asked, released);
+            let bytes = kept.room.clone();
+            let pool = kept.pool();
+            let turns = 60_000 / kib + 100;
+            let (check, read, ratio) = time_beside(
+                turns,
+                || {
+                    black_box(pool.measure(black_box(Handle::from_raw(1))).is_err());
+                },
+                || {
+                    black_box(plain_read(black_box(&bytes)));
+                },
+            );
+            println!("{:<52} {:>26} {:>26} {:>20}", format!("{kib} KiB, {name}"), show(&check), show(&read), show_ratio(&ratio));
         }
     }
-}
-
-/// Times the check of a pool.
-fn check(kib: usize, name: &str, mut kept: Kept) {
-    let bytes = kept.room.clone();
-    let mut pool = kept.pool();
-    let (check, read, ratio) = time_beside(
-        60_000 / kib + 100,
-        || {
-            black_box(pool.queue(QUEUE).measure(black_box(Handle::from_raw(1))).is_err());
-        },
-        || {
-            black_box(plain_read(black_box(&bytes)));
-        },
-    );
-    println!("{:<52} {:>26} {:>26} {:>20}", format!("{kib} KiB, {name}"), show(&check), show(&read), show_ratio(&ratio));
 }
 
 /// Times an aligned grant with its release beside those of an ordinary block of the enlarged size.
@@ -412,7 +385,6 @@ fn aligned() {
                 let mut one = Kept::full_of(1024 * kib, &[(n, align)], released);
                 let mut other = one.clone();
                 let (mut one, mut other) = (one.pool(), other.pool());
-                let (mut one, mut other) = (one.queue(QUEUE), other.queue(QUEUE));
                 if one.grant_aligned(n, align).map(|block| one.release(block).unwrap()).is_err() {
                     println!("{name:<48} no room");
                     continue;
@@ -437,16 +409,15 @@ fn aligned() {
 /// A grant of 160 bytes with its release, of either engine.
 macro_rules! grant_and_release {
     ($pool:expr) => {{
-        let block = $pool.queue(QUEUE).grant(black_box(160)).unwrap();
-        $pool.queue(QUEUE).release(black_box(block)).unwrap();
+        let block = $pool.grant(black_box(160)).unwrap();
+        $pool.release(black_box(block)).unwrap();
     }};
 }
 
 /// Times the plain engine beside the first, over the same pools in each one's tables.
 fn plain() {
     println!("\nthe plain engine beside the first: grant and release of 160 bytes, the soundness check alone (a measure of handle 1, answer 4), a");
-    println!("report, which the plain engine counts, a report of a queue, which both count, and a list call of 17 blocks of 160 bytes. The pools are");
-    println!("those of the lists, of that size");
+    println!("report, which the plain engine counts, and a list call of 17 blocks of 160 bytes. The pools are those of the lists, of that size");
     println!("{:<44} {:>26} {:>26} {:>20}", "arena, call", "plain", "first", "ratio of a run");
     for kib in [4, 16, 64, 256] {
         for (state, released) in STATES {
@@ -461,11 +432,8 @@ fn plain() {
             let turns = 40_000 / kib + 200;
             line("grant and release", time_beside(turns, || grant_and_release!(one), || grant_and_release!(other)));
             let none = black_box(Handle::from_raw(1));
-            let (of_one, of_other) = (one.queue(QUEUE), other.queue(QUEUE));
-            line("check", time_beside(turns, || assert!(of_one.measure(none).is_err()), || assert!(of_other.measure(none).is_err())));
+            line("check", time_beside(turns, || assert!(one.measure(none).is_err()), || assert!(other.measure(none).is_err())));
             line("report", time_beside(turns, || assert!(one.report().is_ok()), || assert!(other.report().is_ok())));
-            let queue = black_box(QUEUE);
-            line("report of a queue", time_beside(turns, || assert!(one.report_queue(queue).is_ok()), || assert!(other.report_queue(queue).is_ok())));
             let (sizes, turns) = ([160; ENTRIES], 4000 / kib + 40);
             if list_call!(one, sizes).is_err() {
                 println!("{:<44} no room", name("list of 17"));
@@ -492,43 +460,43 @@ fn main() {
             let mut blocks = if share > 0.0 { fill(&mut pool, &mut second, share) } else { Vec::new() };
             // one block more than is measured, and room for the one that is granted and released
             let turns = 40_000 / kib + 200;
-            while share > 0.9 && pool.queue(QUEUE).grant(160).is_err() {
+            while share > 0.9 && pool.grant(160).is_err() {
                 let h = blocks.pop().unwrap();
-                pool.queue(QUEUE).release(h).unwrap();
-                second.release(0, h.raw()).unwrap();
+                pool.release(h).unwrap();
+                second.release(h.raw()).unwrap();
             }
             if share > 0.9 {
-                let h = second.grant(0, 160).unwrap();
-                pool.queue(QUEUE).release(Handle::from_raw(h)).unwrap();
-                second.release(0, h).unwrap();
+                let h = second.grant(160).unwrap();
+                pool.release(Handle::from_raw(h)).unwrap();
+                second.release(h).unwrap();
             }
             let first = time(turns, || grant_and_release!(pool));
             // the second implementation checks the tables as they are before each call
             let before = lent(&second);
-            let h = second.grant(0, 160).unwrap();
+            let h = second.grant(160).unwrap();
             let between = lent(&second);
-            second.release(0, h).unwrap();
+            second.release(h).unwrap();
             let other = time(turns / 10 + 1, || {
                 assert!(is_sound(len, &before));
-                let h = second.grant(0, black_box(160)).unwrap();
+                let h = second.grant(black_box(160)).unwrap();
                 assert!(is_sound(len, &between));
-                second.release(0, black_box(h)).unwrap();
+                second.release(black_box(h)).unwrap();
             });
             let block = match blocks.last() {
                 Some(&h) => h,
                 None => {
-                    let h = pool.queue(QUEUE).grant(160).unwrap();
-                    assert_eq!(second.grant(0, 160), Ok(h.raw()));
+                    let h = pool.grant(160).unwrap();
+                    assert_eq!(second.grant(160), Ok(h.raw()));
                     h
                 }
             };
             let now = lent(&second);
             let measured = time(turns, || {
-                black_box(pool.queue(QUEUE).measure(black_box(block)).unwrap());
+                black_box(pool.measure(black_box(block)).unwrap());
             });
             let measured_other = time(turns / 10 + 1, || {
                 assert!(is_sound(len, &now));
-                black_box(second.measure(0, black_box(block.raw())).unwrap());
+                black_box(second.measure(black_box(block.raw())).unwrap());
             });
             println!(
                 "{:<22} {:>26} {:>26} {:>26} {:>26}",

@@ -11,56 +11,44 @@
 //! let mut totals = slotpool::Totals::default();
 //! let mut pool = slotpool::Pool::set_up(&mut arena.0, &mut room, &mut totals).unwrap();
 //!
-//! // two of the eight queues that share the pool: a block is that of the queue that it was granted to
-//! const TRANSMIT: slotpool::Queue = slotpool::Queue::Q0;
-//! const RECEIVE: slotpool::Queue = slotpool::Queue::Q1;
-//!
-//! let block = pool.queue(TRANSMIT).grant(160).unwrap();
+//! let block = pool.grant(160).unwrap();
 //! let start = block.start();
 //! pool.arena_mut()[start..start + 160].fill(7);
-//! assert_eq!(pool.queue(RECEIVE).release(block), Err(slotpool::Refusal::WrongQueue));
-//!
-//! // a driver that has one queue names it once
-//! let mut transmit = pool.queue(TRANSMIT);
-//! assert_eq!(transmit.measure(block), Ok(160));
-//! transmit.release(block).unwrap();
-//! assert_eq!(transmit.release(block), Err(slotpool::Refusal::NoSuchBlock));
+//! assert_eq!(pool.measure(block), Ok(160));
+//! pool.release(block).unwrap();
+//! assert_eq!(pool.release(block), Err(slotpool::Refusal::NoSuchBlock));
 //!
 //! // a packet of 400 bytes as one list, in entries of at most 160
 //! let (mut sizes, mut list) = ([0; slotpool::ENTRIES], [slotpool::Handle::default(); slotpool::ENTRIES]);
 //! let planned = slotpool::plan_list(400, 160, &mut sizes).unwrap();
-//! let entries = transmit.grant_list(400, 160, &sizes[..planned], &mut list).unwrap();
+//! let entries = pool.grant_list(400, 160, &sizes[..planned], &mut list).unwrap();
 //! assert_eq!(sizes[..entries], [160, 160, 80]);
 //! assert!(list[..entries].iter().map(|entry| entry.start()).eq([16, 208, 4112]));
+//! assert_eq!(pool.report().unwrap().requested_bytes, 400);
 //!
 //! // a ring of 8 descriptors of 16 bytes, which the DMA engine wants at a multiple of 64
-//! let ring = pool.queue(RECEIVE).grant_aligned(128, 64).unwrap().start();
+//! let ring = pool.grant_aligned(128, 64).unwrap().start();
 //! assert_eq!((ring, pool.arena()[ring..].as_ptr().addr() % 64), (448, 0));
 //!
-//! // what all queues have, and what one has
-//! assert_eq!(pool.report().unwrap().requested_bytes, 528);
-//! assert_eq!(pool.report_queue(TRANSMIT).unwrap().requested_bytes, 400);
-//!
 //! // a buffer that a driver has mapped: it grows where it is as far as its slot goes, and beyond that the driver itself has it moved
-//! let mut receive = pool.queue(RECEIVE);
-//! let buffer = receive.grant(160).unwrap();
-//! assert_eq!(receive.resize_in_place(buffer, 188), Ok(buffer));
-//! let grown = match receive.resize_in_place(buffer, 300) {
+//! let buffer = pool.grant(160).unwrap();
+//! assert_eq!(pool.resize_in_place(buffer, 188), Ok(buffer));
+//! let grown = match pool.resize_in_place(buffer, 300) {
 //!     Err(slotpool::Refusal::NotInPlace) => {
 //!         // the mapping is torn down before the block moves, and made anew where it is then
-//!         receive.move_block(buffer, 300)
+//!         pool.move_block(buffer, 300)
 //!     }
 //!     in_place => in_place,
 //! };
 //! assert_eq!((buffer.start(), grown.unwrap().start()), (592, 7184));
 //!
 //! // two blocks fill a group, so the next one has the slot of one that was released: the old handle is refused
-//! let old = receive.grant(2028).unwrap();
-//! receive.grant(2028).unwrap();
-//! receive.release(old).unwrap();
-//! let new = receive.grant(2028).unwrap();
+//! let old = pool.grant(2028).unwrap();
+//! pool.grant(2028).unwrap();
+//! pool.release(old).unwrap();
+//! let new = pool.grant(2028).unwrap();
 //! assert_eq!(new.start(), old.start());
-//! assert_eq!(receive.release(old), Err(slotpool::Refusal::Stale));
+//! assert_eq!(pool.release(old), Err(slotpool::Refusal::Stale));
 //! ```
 
 pub mod trace;
@@ -81,13 +69,12 @@ pub enum Refusal {
     TooLong = 9,
     Stale = 10,
     NotInPlace = 11,
-    WrongQueue = 12,
     BadAlignment = 13,
     BadProposal = 17,
 }
 
 /// Each refusal with its name.
-const REFUSALS: [(Refusal, &str); 14] = [
+const REFUSALS: [(Refusal, &str); 13] = [
     (Refusal::BadArena, "bad arena"),
     (Refusal::Unsound, "unsound"),
     (Refusal::TooLarge, "too large"),
@@ -99,7 +86,6 @@ const REFUSALS: [(Refusal, &str); 14] = [
     (Refusal::TooLong, "list too long"),
     (Refusal::Stale, "stale"),
     (Refusal::NotInPlace, "not in place"),
-    (Refusal::WrongQueue, "wrong queue"),
     (Refusal::BadAlignment, "bad alignment"),
     (Refusal::BadProposal, "bad proposal"),
 ];
@@ -129,41 +115,6 @@ pub struct Totals {
     pub waiting_slots: usize,
 }
 
-/// One of the eight queues that share a pool; its number is `queue as usize`. A block is that of the queue that it was granted to.
-#[derive(Clone, Copy, Debug, PartialEq, Eq, PartialOrd, Ord, Hash)]
-pub enum Queue {
-    Q0,
-    Q1,
-    Q2,
-    Q3,
-    Q4,
-    Q5,
-    Q6,
-    Q7,
-}
-
-impl Queue {
-    /// The queues, by their numbers.
-    pub const ALL: [Queue; 8] = [Queue::Q0, Queue::Q1, Queue::Q2, Queue::Q3, Queue::Q4, Queue::Q5, Queue::Q6, Queue::Q7];
-}
-
-impl TryFrom<usize> for Queue {
-    type Error = Refusal;
-
-    /// The queue of a number from 0 to 7; of any other the calls in C are refused with [`Refusal::WrongQueue`], and so it is here.
-    fn try_from(number: usize) -> Result<Queue, Refusal> {
-        Queue::ALL.get(number).copied().ok_or(Refusal::WrongQueue)
-    }
-}
-
-/// The totals of a queue.
-#[repr(C)]
-#[derive(Clone, Copy, Debug, Default, PartialEq, Eq)]
-pub struct QueueTotals {
-    pub live_blocks: usize,
-    pub requested_bytes: usize,
-}
-
 /// What names a block: grants give it, and the calls on the block take it. It is the block's start plus, in the low four bits, how often the
 /// block's slot was granted before, modulo 16; so a handle that was kept too long is refused, even if another block has its start by now,
 /// except that a slot's blocks a multiple of 16 grants apart are not told apart if they start at the same place, nor are blocks before and
@@ -189,9 +140,7 @@ impl Handle {
     }
 }
 
-/// The C functions of both engines, by their names there without `slotpool_` or `slotpool_plain_`, for what the safe calls cannot ask: a queue
-/// is any number here. `include/slotpool.h` says what they do and what the caller owes.
-pub mod sys {
+mod sys {
     /// Declares a call on a pool, by its name in C or under another. It begins with what the pool is lent, to be changed or only read: arena,
     /// room and, if there is one, the record.
     macro_rules! on_pool {
@@ -217,19 +166,17 @@ pub mod sys {
     macro_rules! engine {
         ($engine:ident, $prefix:literal, $record:tt) => {
             pub mod $engine {
-                use crate::{Handle, QueueTotals, Totals};
+                use crate::{Handle, Totals};
 
                 on_pool!($prefix $record mut set_up());
-                on_pool!($prefix $record mut grant(queue: usize, n: usize, value: *mut Handle));
-                on_pool!($prefix $record mut grant_aligned(queue: usize, n: usize, align: usize, value: *mut Handle));
-                on_pool!($prefix $record mut release(queue: usize, handle: Handle));
-                on_pool!($prefix $record mut resize_in_place(queue: usize, handle: Handle, n: usize, value: *mut Handle));
-                on_pool!($prefix $record mut move as move_block(queue: usize, handle: Handle, n: usize, value: *mut Handle));
-                on_pool!($prefix $record const measure(queue: usize, handle: Handle, value: *mut usize));
+                on_pool!($prefix $record mut grant(n: usize, value: *mut Handle));
+                on_pool!($prefix $record mut grant_aligned(n: usize, align: usize, value: *mut Handle));
+                on_pool!($prefix $record mut release(handle: Handle));
+                on_pool!($prefix $record mut resize_in_place(handle: Handle, n: usize, value: *mut Handle));
+                on_pool!($prefix $record mut move as move_block(handle: Handle, n: usize, value: *mut Handle));
+                on_pool!($prefix $record const measure(handle: Handle, value: *mut usize));
                 on_pool!($prefix $record const report(out: *mut Totals));
-                on_pool!($prefix $record const report_queue(queue: usize, out: *mut QueueTotals));
                 on_pool!($prefix $record mut grant_list(
-                    queue: usize,
                     length: usize,
                     cap: usize,
                     sizes: *const usize,
@@ -258,7 +205,7 @@ pub mod sys {
 
 /// Makes a call on a pool with what it is lent, to be changed or only read, and with further arguments: the answer's number.
 macro_rules! call {
-    ($access:tt $pool:expr, [$($record:ident)?], $engine:ident::$name:ident($($argument:expr),*)) => {
+    ($access:tt $pool:ident[$($record:ident)?] $engine:ident::$name:ident($($argument:expr),*)) => {
         unsafe {
             sys::$engine::$name(
                 (&raw $access *$pool.arena).cast(),
@@ -302,21 +249,14 @@ pub fn plan_list(length: usize, cap: usize, sizes: &mut [usize; ENTRIES]) -> Res
     answer(number, value)
 }
 
-/// A queue of a pool, [`Pool`] or [`PlainPool`]: the calls on blocks, which grant them to the queue and take its own. On a live block of another
-/// they are refused with [`Refusal::WrongQueue`], unless the handle is not the block's present one ([`Refusal::Stale`]).
-pub struct QueueOf<'p, P> {
-    pool: &'p mut P,
-    queue: usize,
-}
-
 /// Writes the calls that the pools of both engines have; in brackets the field of the record, for the one that is lent it.
 macro_rules! calls {
     ($pool:ident, $engine:ident, $record:tt, $report:literal) => {
-        impl QueueOf<'_, $pool<'_>> {
+        impl $pool<'_> {
             /// Grants a block of `n` zero bytes.
             pub fn grant(&mut self, n: usize) -> Result<Handle, Refusal> {
                 let mut value = Handle::default();
-                let number = call!(mut self.pool, $record, $engine::grant(self.queue, n, &mut value));
+                let number = call!(mut self $record $engine::grant(n, &mut value));
                 answer(number, value)
             }
 
@@ -326,7 +266,7 @@ macro_rules! calls {
             /// [`Refusal::BadAlignment`] for any other `align`.
             pub fn grant_aligned(&mut self, n: usize, align: usize) -> Result<Handle, Refusal> {
                 let mut value = Handle::default();
-                let number = call!(mut self.pool, $record, $engine::grant_aligned(self.queue, n, align, &mut value));
+                let number = call!(mut self $record $engine::grant_aligned(n, align, &mut value));
                 answer(number, value)
             }
 
@@ -336,8 +276,7 @@ macro_rules! calls {
             /// [`Refusal::NoRoom`] if one of the grants would be.
             pub fn grant_list(&mut self, length: usize, cap: usize, sizes: &[usize], handles: &mut [Handle]) -> Result<usize, Refusal> {
                 let mut value = 0;
-                let number = call!(mut self.pool, $record, $engine::grant_list(
-                    self.queue,
+                let number = call!(mut self $record $engine::grant_list(
                     length,
                     cap,
                     sizes.as_ptr(),
@@ -351,7 +290,7 @@ macro_rules! calls {
 
             /// Takes a block back.
             pub fn release(&mut self, handle: Handle) -> Result<(), Refusal> {
-                answer(call!(mut self.pool, $record, $engine::release(self.queue, handle)), ())
+                answer(call!(mut self $record $engine::release(handle)), ())
             }
 
             /// Gives a block the size `n` where it is; its handle, which is given back, stays the same. Refused with [`Refusal::NotInPlace`]
@@ -359,7 +298,7 @@ macro_rules! calls {
             /// the block's alignment nor the next one up; see [`Self::move_block`].
             pub fn resize_in_place(&mut self, handle: Handle, n: usize) -> Result<Handle, Refusal> {
                 let mut value = Handle::default();
-                let number = call!(mut self.pool, $record, $engine::resize_in_place(self.queue, handle, n, &mut value));
+                let number = call!(mut self $record $engine::resize_in_place(handle, n, &mut value));
                 answer(number, value)
             }
 
@@ -368,40 +307,21 @@ macro_rules! calls {
             /// [`Refusal::NoRoom`] if that grant is, while the old block is live.
             pub fn move_block(&mut self, handle: Handle, n: usize) -> Result<Handle, Refusal> {
                 let mut value = Handle::default();
-                let number = call!(mut self.pool, $record, $engine::move_block(self.queue, handle, n, &mut value));
+                let number = call!(mut self $record $engine::move_block(handle, n, &mut value));
                 answer(number, value)
             }
 
             /// The size of a block.
             pub fn measure(&self, handle: Handle) -> Result<usize, Refusal> {
                 let mut value = 0;
-                let number = call!(const self.pool, $record, $engine::measure(self.queue, handle, &mut value));
+                let number = call!(const self $record $engine::measure(handle, &mut value));
                 answer(number, value)
-            }
-
-            /// The arena of the pool, for writing packets into granted blocks.
-            pub fn arena_mut(&mut self) -> &mut [u8] {
-                self.pool.arena
-            }
-        }
-
-        impl<'a> $pool<'a> {
-            /// The calls on blocks, for a queue: `pool.queue(queue).grant(160)`.
-            pub fn queue(&mut self, queue: Queue) -> QueueOf<'_, $pool<'a>> {
-                QueueOf { pool: self, queue: queue as usize }
             }
 
             #[doc = $report]
             pub fn report(&self) -> Result<Totals, Refusal> {
                 let mut out = Totals::default();
-                let number = call!(const self, $record, $engine::report(&mut out));
-                answer(number, out)
-            }
-
-            /// The totals of a queue, counted, if the pool's are sound. Over the eight they add up to those of the pool.
-            pub fn report_queue(&self, queue: Queue) -> Result<QueueTotals, Refusal> {
-                let mut out = QueueTotals::default();
-                let number = call!(const self, $record, $engine::report_queue(queue as usize, &mut out));
+                let number = call!(const self $record $engine::report(&mut out));
                 answer(number, out)
             }
 
@@ -434,7 +354,7 @@ impl<'a> Pool<'a> {
     /// Makes a pool with no blocks. The room must have [`room_len`] bytes; the record is written, whatever stands in it.
     pub fn set_up(arena: &'a mut [u8], room: &'a mut [u8], totals: &'a mut Totals) -> Result<Pool<'a>, Refusal> {
         let pool = Pool { arena, room, totals };
-        answer(call!(mut pool, [totals], masks::set_up()), pool)
+        answer(call!(mut pool[totals] masks::set_up()), pool)
     }
 
     /// A pool over buffers and a record that hold one already, or hold anything: every call checks them.
@@ -457,7 +377,7 @@ calls!(Pool, masks, [totals], "The totals of the pool: the record, if it and the
 /// of the arena that it leaves. Only the bytes of the tables differ, so a room belongs to the engine that set it up.
 ///
 /// ```
-/// use slotpool::{PlainPool, Pool, Queue, Refusal, Totals};
+/// use slotpool::{PlainPool, Pool, Refusal, Totals};
 ///
 /// let (mut arena, mut room, mut totals) = (vec![0; 4096], vec![0; slotpool::room_len(4096)], Totals::default());
 /// let mut pool = Pool::set_up(&mut arena, &mut room, &mut totals).unwrap();
@@ -466,13 +386,13 @@ calls!(Pool, masks, [totals], "The totals of the pool: the record, if it and the
 /// let (mut copy, mut tables) = (vec![0; 4096], vec![0; PlainPool::room_len(4096)]);
 /// let mut monitor = PlainPool::set_up(&mut copy, &mut tables).unwrap();
 ///
-/// let block = pool.queue(Queue::Q3).grant(160).unwrap();
-/// assert_eq!(monitor.queue(Queue::Q3).grant(160), Ok(block));
+/// let block = pool.grant(160).unwrap();
+/// assert_eq!(monitor.grant(160), Ok(block));
 /// for arena in [pool.arena_mut(), monitor.arena_mut()] {
 ///     arena[block.start() + 160] = 1; // one byte too many
 /// }
-/// assert_eq!(pool.queue(Queue::Q3).release(block), Err(Refusal::Overrun));
-/// assert_eq!(monitor.queue(Queue::Q3).release(block), Err(Refusal::Overrun));
+/// assert_eq!(pool.release(block), Err(Refusal::Overrun));
+/// assert_eq!(monitor.release(block), Err(Refusal::Overrun));
 /// assert_eq!(monitor.report(), pool.report());
 /// assert!(monitor.arena() == pool.arena());
 /// ```
@@ -490,7 +410,7 @@ impl<'a> PlainPool<'a> {
     /// Makes a pool with no blocks. The room must have [`PlainPool::room_len`] bytes.
     pub fn set_up(arena: &'a mut [u8], room: &'a mut [u8]) -> Result<PlainPool<'a>, Refusal> {
         let pool = PlainPool { arena, room };
-        answer(call!(mut pool, [], plain::set_up()), pool)
+        answer(call!(mut pool[] plain::set_up()), pool)
     }
 
     /// A pool over buffers that hold one already, or hold anything: every call checks them.

@@ -1,27 +1,25 @@
 //! Field traces: calls on a pool and stores into its arena, as the bytes that the replay program reads and as lines for people.
 //!
-//! Bytes: a version, 3, then records. A record has its length first, two bytes that count what follows: the operation's number; in all but
-//! stores and reports a byte for the queue; the operation's four-byte numbers; and, in a store, the bytes to be stored. All numbers are
-//! big-endian.
+//! Bytes: a version, 2, then records. A record has its length first, two bytes that count what follows: the operation's number, its
+//! four-byte numbers and, in a store, the bytes to be stored. All numbers are big-endian.
 //!
-//! Lines: the operation's word, its numbers in decimal and, in a store, the bytes as pairs of hex digits; then `queue` and its number, or
-//! nothing for queue 0. The word of a resize in place is `resize`. Blank lines are skipped, and so is what follows a `#`.
+//! Lines: the operation's word, its numbers in decimal and, in a store, the bytes as pairs of hex digits. The word of a resize in place is
+//! `resize`. Blank lines are skipped, and so is what follows a `#`.
 //!
 //! ```
 //! use slotpool::trace::{parse, read, text, write, Op};
 //!
-//! let ops = parse("grant 160 queue 3  # a packet\nstore 16 00ff07\n").unwrap();
-//! assert_eq!(ops, [Op::Grant(3, 160), Op::Store(16, vec![0, 255, 7])]);
+//! let ops = parse("grant 160  # a packet\nstore 16 00ff07\n").unwrap();
+//! assert_eq!(ops, [Op::Grant(160), Op::Store(16, vec![0, 255, 7])]);
 //! let trace = write(&ops);
-//! assert_eq!(trace, [3, 0, 6, 1, 3, 0, 0, 0, 160, 0, 8, 5, 0, 0, 0, 16, 0, 255, 7]);
+//! assert_eq!(trace, [2, 0, 5, 1, 0, 0, 0, 160, 0, 8, 5, 0, 0, 0, 16, 0, 255, 7]);
 //! assert_eq!(read(&trace), (ops.clone(), None));
-//! assert_eq!(text(&ops), "grant 160 queue 3\nstore 16 00ff07\n");
+//! assert_eq!(text(&ops), "grant 160\nstore 16 00ff07\n");
 //! ```
 
-use std::iter::Peekable;
 use std::{error, fmt};
 
-const VERSION: u8 = 3;
+const VERSION: u8 = 2;
 
 /// The most bytes of a trace. A record's two bytes of length count as far.
 pub const MOST: usize = 65_535;
@@ -29,30 +27,27 @@ pub const MOST: usize = 65_535;
 /// The bytes of the arena that a trace is replayed over.
 pub const ARENA: usize = 16_384;
 
-/// What a record asks for: a call on the pool, or a store into its arena. A call on a block has the number of its queue first, which is any byte:
-/// of one over 7 the answer is 12.
+/// What a record asks for: a call on the pool, or a store into its arena.
 #[derive(Clone, Debug, PartialEq, Eq)]
 pub enum Op {
-    /// A queue and a size.
-    Grant(u8, u32),
-    /// A queue and a handle.
-    Release(u8, u32),
-    /// A queue, a handle and the new size, which the block is to have where it is.
-    InPlace(u8, u32, u32),
-    /// A queue and a handle.
-    Measure(u8, u32),
+    /// A size.
+    Grant(u32),
+    /// A handle.
+    Release(u32),
+    /// A handle and the new size, which the block is to have where it is.
+    InPlace(u32, u32),
+    /// A handle.
+    Measure(u32),
     /// A place in the arena and the bytes that go there.
     Store(u32, Vec<u8>),
     Report,
-    /// A queue, a handle and the new size, which the block is to have elsewhere.
-    Move(u8, u32, u32),
+    /// A handle and the new size, which the block is to have elsewhere.
+    Move(u32, u32),
 }
 
 /// How an operation is written.
 struct Kind {
     word: &'static str,
-    /// Whether it names a queue.
-    queue: bool,
     /// What its numbers are.
     numbers: &'static [&'static str],
     /// Whether bytes follow them.
@@ -61,13 +56,13 @@ struct Kind {
 
 /// The operations in the order of their numbers, from 1.
 const KINDS: [Kind; 7] = [
-    Kind { word: "grant", queue: true, numbers: &["SIZE"], bytes: false },
-    Kind { word: "release", queue: true, numbers: &["HANDLE"], bytes: false },
-    Kind { word: "resize", queue: true, numbers: &["HANDLE", "SIZE"], bytes: false },
-    Kind { word: "measure", queue: true, numbers: &["HANDLE"], bytes: false },
-    Kind { word: "store", queue: false, numbers: &["OFFSET"], bytes: true },
-    Kind { word: "report", queue: false, numbers: &[], bytes: false },
-    Kind { word: "move", queue: true, numbers: &["HANDLE", "SIZE"], bytes: false },
+    Kind { word: "grant", numbers: &["SIZE"], bytes: false },
+    Kind { word: "release", numbers: &["HANDLE"], bytes: false },
+    Kind { word: "resize", numbers: &["HANDLE", "SIZE"], bytes: false },
+    Kind { word: "measure", numbers: &["HANDLE"], bytes: false },
+    Kind { word: "store", numbers: &["OFFSET"], bytes: true },
+    Kind { word: "report", numbers: &[], bytes: false },
+    Kind { word: "move", numbers: &["HANDLE", "SIZE"], bytes: false },
 ];
 
 impl Kind {
@@ -78,14 +73,13 @@ impl Kind {
 
     /// The bytes of its record up to those stored, the length not counted.
     fn least(&self) -> usize {
-        1 + usize::from(self.queue) + 4 * self.numbers.len()
+        1 + 4 * self.numbers.len()
     }
 
     /// Its line, in general.
     fn form(&self) -> String {
         let bytes: &[&str] = if self.bytes { &["HEX"] } else { &[] };
-        let queue: &[&str] = if self.queue { &["[queue QUEUE]"] } else { &[] };
-        [&[self.word], self.numbers, bytes, queue].concat().join(" ")
+        [&[self.word], self.numbers, bytes].concat().join(" ")
     }
 }
 
@@ -95,38 +89,37 @@ pub fn forms() -> String {
 }
 
 impl Op {
-    /// Its operation's number, its queue if it names one, its own numbers and its bytes.
-    fn parts(&self) -> (u8, Option<u8>, Vec<u32>, &[u8]) {
+    /// Its operation's number, its own numbers and its bytes.
+    fn parts(&self) -> (u8, Vec<u32>, &[u8]) {
         match *self {
-            Op::Grant(queue, n) => (1, Some(queue), vec![n], &[]),
-            Op::Release(queue, handle) => (2, Some(queue), vec![handle], &[]),
-            Op::InPlace(queue, handle, n) => (3, Some(queue), vec![handle, n], &[]),
-            Op::Measure(queue, handle) => (4, Some(queue), vec![handle], &[]),
-            Op::Store(offset, ref bytes) => (5, None, vec![offset], bytes),
-            Op::Report => (6, None, vec![], &[]),
-            Op::Move(queue, handle, n) => (7, Some(queue), vec![handle, n], &[]),
+            Op::Grant(n) => (1, vec![n], &[]),
+            Op::Release(handle) => (2, vec![handle], &[]),
+            Op::InPlace(handle, n) => (3, vec![handle, n], &[]),
+            Op::Measure(handle) => (4, vec![handle], &[]),
+            Op::Store(offset, ref bytes) => (5, vec![offset], bytes),
+            Op::Report => (6, vec![], &[]),
+            Op::Move(handle, n) => (7, vec![handle, n], &[]),
         }
     }
 
     /// The operation of these parts, if they are as many as it has.
-    fn of(operation: u8, queue: Option<u8>, numbers: &[u32], bytes: &[u8]) -> Option<Op> {
-        match (operation, queue, numbers, bytes) {
-            (1, Some(queue), &[n], []) => Some(Op::Grant(queue, n)),
-            (2, Some(queue), &[handle], []) => Some(Op::Release(queue, handle)),
-            (3, Some(queue), &[handle, n], []) => Some(Op::InPlace(queue, handle, n)),
-            (4, Some(queue), &[handle], []) => Some(Op::Measure(queue, handle)),
-            (5, None, &[offset], bytes) => Some(Op::Store(offset, bytes.to_vec())),
-            (6, None, [], []) => Some(Op::Report),
-            (7, Some(queue), &[handle, n], []) => Some(Op::Move(queue, handle, n)),
+    fn of(operation: u8, numbers: &[u32], bytes: &[u8]) -> Option<Op> {
+        match (operation, numbers, bytes) {
+            (1, &[n], []) => Some(Op::Grant(n)),
+            (2, &[handle], []) => Some(Op::Release(handle)),
+            (3, &[handle, n], []) => Some(Op::InPlace(handle, n)),
+            (4, &[handle], []) => Some(Op::Measure(handle)),
+            (5, &[offset], bytes) => Some(Op::Store(offset, bytes.to_vec())),
+            (6, [], []) => Some(Op::Report),
+            (7, &[handle, n], []) => Some(Op::Move(handle, n)),
             _ => None,
         }
     }
 
     /// Its record, without the length.
     fn record(&self) -> Vec<u8> {
-        let (operation, queue, numbers, bytes) = self.parts();
+        let (operation, numbers, bytes) = self.parts();
         let mut record = vec![operation];
-        record.extend(queue);
         record.extend(numbers.iter().flat_map(|n| n.to_be_bytes()));
         record.extend(bytes);
         record
@@ -136,12 +129,11 @@ impl Op {
 impl fmt::Display for Op {
     /// Its line.
     fn fmt(&self, f: &mut fmt::Formatter<'_>) -> fmt::Result {
-        let (operation, queue, numbers, bytes) = self.parts();
+        let (operation, numbers, bytes) = self.parts();
         f.write_str(KINDS[operation as usize - 1].word)?;
         numbers.iter().try_for_each(|n| write!(f, " {n}"))?;
         f.write_str(if bytes.is_empty() { "" } else { " " })?;
-        bytes.iter().try_for_each(|b| write!(f, "{b:02x}"))?;
-        queue.filter(|&queue| queue != 0).map_or(Ok(()), |queue| write!(f, " queue {queue}"))
+        bytes.iter().try_for_each(|b| write!(f, "{b:02x}"))
     }
 }
 
@@ -212,10 +204,9 @@ fn read_record(bytes: &[u8]) -> Result<(Op, &[u8]), String> {
 fn read_op(record: &[u8]) -> Result<Op, String> {
     let (&operation, rest) = record.split_first().ok_or("no bytes, so no operation")?;
     let kind = Kind::of(operation).ok_or_else(|| format!("no operation {operation}"))?;
-    let (queue, rest) = rest.split_at(rest.len().min(kind.queue.into()));
-    let (numbers, bytes) = rest.split_at(rest.len().min(4 * kind.numbers.len()));
+    let (numbers, bytes) = rest.split_at(rest.len().min(kind.least() - 1));
     let numbers: Vec<u32> = numbers.as_chunks().0.iter().map(|&n| u32::from_be_bytes(n)).collect();
-    Op::of(operation, queue.first().copied(), &numbers, bytes).ok_or_else(|| {
+    Op::of(operation, &numbers, bytes).ok_or_else(|| {
         let more = if kind.bytes { " or more" } else { "" };
         format!("operation {operation} has {} bytes, not {}{more}", record.len(), kind.least())
     })
@@ -294,22 +285,10 @@ fn parse_op<'a>(word: &str, mut rest: impl Iterator<Item = &'a str>) -> Result<O
         numbers.push(parse_number(number)?);
     }
     let bytes = if kind.bytes { parse_bytes(rest.next().unwrap_or(""))? } else { Vec::new() };
-    let mut rest = rest.peekable();
-    let queue = if kind.queue { Some(parse_queue(&mut rest, kind)?) } else { None };
     match rest.next() {
         Some(surplus) => Err(format!("{surplus:?} is too much, expected {}", kind.form())),
-        None => Ok(Op::of(operation, queue, &numbers, &bytes).expect("as many parts as its kind has")),
+        None => Ok(Op::of(operation, &numbers, &bytes).expect("as many parts as its kind has")),
     }
-}
-
-/// The queue that some words begin with, or 0 if they say none.
-fn parse_queue<'a>(words: &mut Peekable<impl Iterator<Item = &'a str>>, kind: &Kind) -> Result<u8, String> {
-    if words.next_if_eq(&"queue").is_none() {
-        return Ok(0);
-    }
-    let number = words.next().ok_or_else(|| format!("QUEUE is missing, expected {}", kind.form()))?;
-    let queue = parse_number(number)?;
-    u8::try_from(queue).map_err(|_| format!("queue {queue} does not fit a byte: expected 0 to 7, or up to 255, of which the answer is 12"))
 }
 
 fn parse_number(word: &str) -> Result<u32, String> {

@@ -12,13 +12,13 @@ mod sample;
 use any::{calls_on, over_any, refused, set_up_over, Judged};
 use common::Answer::{Done, Refused, Value};
 use common::Call::{self, Grant, GrantAligned, InPlace, Measure, Move, Release, Store};
-use common::{resizes, Asked, Both, Buffers};
+use common::{resizes, Both, Buffers};
 use due::due;
 use forged::over_each;
 use places::{marked, places, with_slot, Place};
 use random::{all_seen, kind, next_call, Numbers, Seen, UNDAMAGED};
 use sample::{no_store, sample, OLD};
-use slotpool::Refusal::{self, AlreadyFree, BadAlignment, HeaderDamaged, NoRoom, NoSuchBlock, NotInPlace, Overrun, Stale, TooLarge, Unsound, WrongQueue};
+use slotpool::Refusal::{self, AlreadyFree, BadAlignment, HeaderDamaged, NoRoom, NoSuchBlock, NotInPlace, Overrun, Stale, TooLarge, Unsound};
 use slotpool_reference::{class_of, rows_of, slot_bytes, slots_of, start_of, Group, Reference, Slot, State, Tables, ALIGNMENTS, ORDINARY, TOO_LARGE};
 
 /// Alignments that every start has.
@@ -273,9 +273,9 @@ fn may_begin(_: &Both, place: &Place, byte: u8) -> bool {
 
 /// Whether a slot may be in the condition that a byte says of it in the plain form.
 fn may_be(both: &Both, place: &Place, byte: u8) -> bool {
-    let Slot { last, count, size, queue, .. } = place.slot;
+    let Slot { last, count, size, .. } = place.slot;
     let live = both.second.groups[place.group].slots.iter().filter(|slot| slot.state == State::Live).count();
-    let may_end = size == 0 && queue == 0 && live > usize::from(place.is_live());
+    let may_end = size == 0 && live > usize::from(place.is_live());
     match byte {
         0 => may_end && count == 0 && last.unwrap_or(0) == 0,
         1..=2 => may_end,
@@ -351,7 +351,7 @@ fn no_live_size_is_131052_once_enlarged() {
             let most = 131_052 - 16 * d;
             let both = Both::new(135_168, OLD);
             for n in [limit - 2, limit - 1, limit, limit + 1, most - 1, most, most + 1] {
-                let slot = Slot { state: State::Live, last: Some(d), count: 1, size: n, align, queue: 0 };
+                let slot = Slot { state: State::Live, last: Some(d), count: 1, size: n, align };
                 let tables = Tables { rows: 264, groups: vec![Group { class: 47, first_row, slots: vec![slot] }] };
                 let told = format_args!("{n} bytes at a multiple of {align} from row {first_row}");
                 let sound = over_each(&Both::over(&both.first.arena, &tables), &calls_about((begin + 16 * d, n)), told);
@@ -376,7 +376,7 @@ fn every_class_with_every_alignment() {
             let sizes = ends.map(|end| end.wrapping_sub(align - 16)).chain([most, most + 1].map(|n| n.wrapping_sub(16 * d)));
             for n in sizes.filter(|&n| n <= most) {
                 let mut slots = vec![Slot::NEVER_GRANTED; number];
-                slots.push(Slot { state: State::Live, last: Some(d), count: 1, size: n, align, queue: 7 });
+                slots.push(Slot { state: State::Live, last: Some(d), count: 1, size: n, align });
                 let tables = Tables { rows: rows_of(class) + 8, groups: vec![Group { class, first_row, slots }] };
                 let told = format_args!("class {class}, {n} bytes at a multiple of {align}");
                 let is_sound = over_each(&forge(&both, &tables), &calls_about((begin + 16 * d, n)), told);
@@ -413,14 +413,14 @@ fn aligned(pool: &Reference) -> Vec<Place> {
 }
 
 /// A live aligned block resized in place or moved, to a size near one where it begins or ceases to fit.
-fn at_an_edge(numbers: &mut Numbers, both: &Both) -> Option<Asked> {
+fn at_an_edge(numbers: &mut Numbers, both: &Both) -> Option<Call> {
     let blocks = aligned(&both.second);
     let place = blocks.get(numbers.below(blocks.len().max(1)))?;
     let of_class = |class| slot_bytes(class) - 4 - (place.slot.align - 16).min(slot_bytes(class) - 4);
     let edges =
         [place.end() - place.start(), of_class(place.class), of_class(place.class.saturating_sub(1)), of_class(place.class.saturating_sub(2))];
     let n = (numbers.of(&edges) + numbers.below(4)).saturating_sub(1);
-    Some(both.own(numbers.of(&resizes(place.handle(), n))))
+    Some(numbers.of(&resizes(place.handle(), n)))
 }
 
 #[test]
@@ -433,14 +433,12 @@ fn random_calls_on_blocks_at_any_multiple() {
         let mut both = shuffle(&mut numbers, &sample(seed, [4096, 8192, 16_384, 32_768, 65_536][seed as usize % 5]));
         later += aligned(&both.second).iter().filter(|place| place.start() >= place.begin + place.slot.align).count();
         for _ in 0..150 {
-            let edge = if numbers.one_in(4) { at_an_edge(&mut numbers, &both) } else { None };
-            let asked = edge.unwrap_or_else(|| next_call(&mut numbers, &both, no_store));
-            let call = asked.call;
+            let call = if numbers.one_in(4) { at_an_edge(&mut numbers, &both) } else { None };
+            let call = call.unwrap_or_else(|| next_call(&mut numbers, &both, no_store));
             let before = if let InPlace(handle, _) = call { live_at(&both.second, handle) } else { None };
-            let answer = both.call(asked).unwrap_or_else(|why| panic!("seed {seed}: {why}"));
-            *seen.entry(kind(asked, &answer, &both)).or_default() += 1;
-            let is_earlier = [TooLarge, WrongQueue].map(Refused).contains(&answer);
-            if let (InPlace(handle, n), Some(place), false) = (call, before, is_earlier) {
+            let answer = both.call(call).unwrap_or_else(|why| panic!("seed {seed}: {why}"));
+            *seen.entry(kind(call, &answer, &both)).or_default() += 1;
+            if let (InPlace(handle, n), Some(place), false) = (call, before, answer == Refused(TooLarge)) {
                 let (fits, serves) = (place.start() + n <= place.end(), serves(place.class, n, place.slot.align));
                 assert_eq!(answer, if fits && serves { Value(handle) } else { Refused(NotInPlace) }, "seed {seed}: {call:?}");
                 upwards += usize::from(fits && !serves && place.class < class_of(n + place.slot.align - 16));

@@ -60,7 +60,7 @@ fn random(seed: u64, arena_len: usize, steps: usize, engine: Engine, seen: &mut 
             Err(_) => fail(seed, arena_len, calls),
         }
     }
-    calls.iter().filter(|asked| !matches!(asked.call, Call::Store(..))).count()
+    calls.iter().filter(|c| !matches!(c, Call::Store(..))).count()
 }
 
 #[test]

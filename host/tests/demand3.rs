@@ -4,7 +4,7 @@
 mod common;
 mod random;
 
-use common::{Answer, Asked, Both, Call};
+use common::{Answer, Both, Call};
 use random::{all_seen, block, kind, next_call, Numbers, Seen, UNDAMAGED};
 use slotpool::Refusal;
 use slotpool_reference::start_of;
@@ -37,18 +37,18 @@ impl Run {
     }
 
     /// Some stores, then the call: its answer, or what is wrong with it.
-    fn step(&mut self, asked: Asked) -> Result<Answer, String> {
+    fn step(&mut self, call: Call) -> Result<Answer, String> {
         for _ in 0..self.engine.below(3) {
             self.store();
         }
         let live = self.both.second.live();
-        let answer = self.both.call(asked)?;
+        let answer = self.both.call(call)?;
         if let Answer::Refused(Refusal::Unsound | Refusal::HeaderDamaged | Refusal::Overrun) = answer {
-            return Err(format!("{asked:?}: {answer:?}, which is never due here"));
+            return Err(format!("{call:?}: {answer:?}, which is never due here"));
         }
-        for (from, to) in self.gained(&live, asked.call, answer) {
+        for (from, to) in self.gained(&live, call, answer) {
             if self.both.first.arena[from..to].iter().any(|&b| b != 0) {
-                return Err(format!("{asked:?}: {answer:?}: not all gained bytes {from} to {to} are zero"));
+                return Err(format!("{call:?}: {answer:?}: not all gained bytes {from} to {to} are zero"));
             }
         }
         Ok(answer)
@@ -81,7 +81,7 @@ impl Run {
 }
 
 /// The call in both runs: its answer, or where they differ.
-fn step([one, other]: &mut [Run; 2], call: Asked) -> Result<Answer, String> {
+fn step([one, other]: &mut [Run; 2], call: Call) -> Result<Answer, String> {
     let (answer, second) = (one.step(call)?, other.step(call)?);
     if answer != second {
         return Err(format!("{call:?}: {answer:?} in one run, {second:?} in the other"));

@@ -15,7 +15,7 @@ use any::{calls_on, over_any, set_up_over};
 use changed::{any_room, every_byte};
 use common::Answer::{Done, Value};
 use common::Call::{Grant, GrantAligned, Release, Store};
-use common::{Asked, Both, Buffers, Call};
+use common::{Both, Buffers, Call};
 use damaged::DAMAGED;
 use due::due;
 use fewer::fail;
@@ -95,7 +95,7 @@ fn any_stores_between_calls() {
                 both.make(store);
             }
             stored += stores.len();
-            calls.extend(stores.into_iter().map(Asked::from));
+            calls.extend(stores);
             let call = next_call(&mut numbers, &both, no_store);
             calls.push(call);
             made += 1;
@@ -181,11 +181,11 @@ fn what_a_plain_room_may_say() {
         ("granted, and never", &[(slot(0, 1), &[0])], false),
         ("waiting, one unit in", &[(slot(0, 1), &[2, 1, 1])], false),
         ("waiting, with a size", &[(slot(0, 1), &[2, 1, 0, 0, 1])], false),
-        ("waiting, with a queue", &[(slot(0, 1), &[2, 1, 0, 0, 0, 0, 0, 1])], false),
+        ("waiting, and a last byte", &[(slot(0, 1), &[2, 1, 0, 0, 0, 0, 0, 1])], false),
         ("never granted, with a count", &[(slot(0, 3), &[0, 1])], false),
         ("never granted, one unit in", &[(slot(0, 3), &[0, 0, 1])], false),
         ("never granted, with a size", &[(slot(0, 3), &[0, 0, 0, 0, 1])], false),
-        ("never granted, with a queue", &[(slot(0, 3), &[0, 0, 0, 0, 0, 0, 0, 1])], false),
+        ("never granted, and a last byte", &[(slot(0, 3), &[0, 0, 0, 0, 0, 0, 0, 1])], false),
         ("ready after 256 grants", &[(slot(0, 3), &[1])], true),
         ("waiting after 256 grants", &[(slot(0, 3), &[2])], true),
         // slots 0 and 2 are live
@@ -195,9 +195,7 @@ fn what_a_plain_room_may_say() {
         ("65,536 bytes", &[(slot(0, 0), &[3, 1, 0, 0, 0, 0, 1])], false),
         ("one unit in", &[(slot(0, 0), &[3, 1, 1, 0, 0])], false),
         ("256 units in", &[(slot(0, 0), &[3, 1, 0, 1, 0])], false),
-        ("another queue", &[(slot(0, 0), &[3, 1, 0, 0, 12, 0, 0, 7])], true),
-        ("no queue", &[(slot(0, 0), &[3, 1, 0, 0, 12, 0, 0, 8])], false),
-        ("the largest byte for a queue", &[(slot(0, 0), &[3, 1, 0, 0, 12, 0, 0, 255])], false),
+        ("live, and a last byte", &[(slot(0, 0), &[3, 1, 0, 0, 12, 0, 0, 1])], false),
         ("aligned to 32, at 16", &[(slot(0, 0), &[4])], false),
         ("aligned to 32 in a class too low", &[(slot(0, 1), &[4])], false),
         ("the least condition that is none", &[(slot(0, 0), &[12])], false),
@@ -211,8 +209,6 @@ fn what_a_plain_room_may_say() {
         ("a unit that its slot does not have", &[(slot(1, 0), &[4, 1, 2])], false),
         ("a byte more than fits there", &[(slot(1, 0), &[4, 1, 1, 0, 13])], false),
         ("no bytes there", &[(slot(1, 0), &[4, 1, 1, 0, 0])], true),
-        ("another queue there", &[(slot(1, 0), &[4, 1, 1, 0, 12, 0, 0, 3])], true),
-        ("no queue there", &[(slot(1, 0), &[4, 1, 1, 0, 12, 0, 0, 8])], false),
         // rows
         ("a byte after the class", &[(row(0) + 2, &[1])], false),
         ("where the other engine has its masks", &[(row(0) + 8, &[8])], false),

@@ -3,7 +3,7 @@
 mod common;
 mod random;
 
-use common::{lent, Answer, Asked, Both, Call, List};
+use common::{lent, Answer, Both, Call, List};
 use random::lists::list;
 use random::{all_seen, block, kind, next_call, Numbers, Seen, UNDAMAGED};
 use slotpool::{check_list, plan_list, Refusal, ENTRIES};
@@ -13,9 +13,9 @@ const CAPS: [usize; 14] = [1, 2, 3, 12, 13, 160, 4095, 65_536, 131_050, 131_051,
 
 #[test]
 fn refusals_have_names() {
-    use Refusal::{BadAlignment, BadArena, BadProposal, NoRoom, NotInPlace, Stale, TooLong, WrongQueue};
-    let names = [BadArena, NoRoom, TooLong, Stale, NotInPlace, WrongQueue, BadAlignment, BadProposal].map(|refusal| refusal.to_string());
-    assert_eq!(names, ["bad arena", "no room", "list too long", "stale", "not in place", "wrong queue", "bad alignment", "bad proposal"]);
+    use Refusal::{BadAlignment, BadArena, BadProposal, NoRoom, NotInPlace, Stale, TooLong};
+    let names = [BadArena, NoRoom, TooLong, Stale, NotInPlace, BadAlignment, BadProposal].map(|refusal| refusal.to_string());
+    assert_eq!(names, ["bad arena", "no room", "list too long", "stale", "not in place", "bad alignment", "bad proposal"]);
 }
 
 /// Checks a proposal in both implementations: whether it is accepted.
@@ -116,12 +116,11 @@ fn last_requested(numbers: &mut Numbers, both: &Both) -> Option<Call> {
     Some(Call::Store(start + n - 1, numbers.next() as u8))
 }
 
-/// Makes a list call on a pool, and the grants of its sizes to the same queue, one after another, on a copy. Gives the answer, and how many grants
-/// were done.
-fn beside_its_grants(both: &mut Both, queue: usize, list: List) -> Result<(Answer, usize), String> {
+/// Makes a list call on a pool, and the grants of its sizes one after another on a copy. Gives the answer, and how many grants were done.
+fn beside_its_grants(both: &mut Both, list: List) -> Result<(Answer, usize), String> {
     let (mut copy, mut handles, mut refusal) = (both.clone(), Vec::new(), None);
     for &n in list.sizes() {
-        match copy.call(Call::Grant(n).of(queue))? {
+        match copy.call(Call::Grant(n))? {
             Answer::Refused(why) => {
                 refusal = Some(why);
                 break;
@@ -130,12 +129,11 @@ fn beside_its_grants(both: &mut Both, queue: usize, list: List) -> Result<(Answe
             other => return Err(format!("grant {n}: {other:?}")),
         }
     }
-    let answer = both.call(Call::GrantList(list).of(queue))?;
+    let answer = both.call(Call::GrantList(list))?;
     let same = copy.first == both.first && copy.plain == both.plain;
     let right = match answer {
         Answer::Value(entries) => refusal.is_none() && entries == handles.len() && handles == both.lent[0][..entries] && same,
         Answer::Refused(Refusal::NoRoom) => refusal == Some(Refusal::NoRoom),
-        Answer::Refused(Refusal::WrongQueue) => handles.is_empty() && refusal.is_none_or(|why| why == Refusal::WrongQueue),
         _ => matches!(answer, Answer::Refused(Refusal::TooLong | Refusal::BadProposal)),
     };
     right.then_some((answer, handles.len())).ok_or(format!("{list:?}: {answer:?}, but its grants gave {handles:?} and {refusal:?}"))
@@ -151,18 +149,18 @@ fn a_list_is_its_grants() {
         let mut numbers = Numbers::new(seed);
         let mut both = Both::new(lengths[seed as usize % lengths.len()], 0xA5);
         for _ in 0..400 {
-            let asked = next_call(&mut numbers, &both, last_requested);
-            let answer = match asked {
-                Asked { queue, call: Call::GrantList(list) } => beside_its_grants(&mut both, queue, list),
-                _ => both.call(asked).map(|answer| (answer, 0)),
+            let call = next_call(&mut numbers, &both, last_requested);
+            let answer = match call {
+                Call::GrantList(list) => beside_its_grants(&mut both, list),
+                _ => both.call(call).map(|answer| (answer, 0)),
             };
             let (answer, grants) = answer.unwrap_or_else(|why| panic!("seed {seed}: {why}"));
-            match (asked.call, answer) {
+            match (call, answer) {
                 (Call::GrantList(_), Answer::Value(_)) => granted[grants] += 1,
                 (Call::GrantList(_), Answer::Refused(Refusal::NoRoom)) => refused[grants] += 1,
                 _ => {}
             }
-            *seen.entry(kind(asked, &answer, &both)).or_default() += 1;
+            *seen.entry(kind(call, &answer, &both)).or_default() += 1;
         }
     }
     println!("{seen:?}\nlists of 0 to 17 entries that were granted: {granted:?}\nlists whose entry 1 to 17 met no room: {refused:?}");

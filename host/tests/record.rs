@@ -9,7 +9,7 @@ use any::{calls_on, over_any, refused, set_up_over};
 use common::{Answer, Both, Buffers, Call, List};
 use random::{all_seen, block as requested, kind, next_call, Numbers, Seen, UNDAMAGED};
 use sample::{sample, OLD};
-use slotpool::{Pool, Queue, Refusal, Totals};
+use slotpool::{Pool, Refusal, Totals};
 use slotpool_reference::{slot_bytes, Group, Slot, State, Tables};
 use std::collections::{BTreeMap, BTreeSet};
 
@@ -101,7 +101,7 @@ impl Place {
             0..8 => return None,
             8..12 => ("ready mask", 8 * (at - 8) + bit),
             12..16 => ("waiting mask", 8 * (at - 12) + bit),
-            _ => (["alignment", "use count", "displacement", "displacement", "size", "size", "size", "queue"][at % 8], (at - 16) / 8),
+            _ => (["alignment", "use count", "displacement", "displacement", "size", "size", "size", "zero"][at % 8], (at - 16) / 8),
         };
         Some(Place { row, field, slot })
     }
@@ -190,7 +190,6 @@ fn every_flipped_bit_of_a_room() {
             "alignment, never granted",
             "displacement, freed",
             "displacement, live",
-            "queue, live",
             "use count, freed",
             "use count, live",
         ],
@@ -330,7 +329,7 @@ fn wrong_records_among_random_calls() {
             let mut changed = numbers_of(both.first.totals);
             changed[draw.below(6)] ^= 1 << draw.below(usize::BITS as usize);
             let buffers = Buffers { totals: record_of(changed), ..both.first.clone() };
-            if !matches!(call.call, Call::SetUp | Call::Store(..)) {
+            if !matches!(call, Call::SetUp | Call::Store(..)) {
                 refused(&buffers, call, Refusal::Unsound, format_args!("seed {seed}, record {changed:?}"));
                 wrong += 1;
             }
@@ -360,13 +359,13 @@ fn a_refused_set_up_keeps_the_record() {
 fn a_pool_shows_its_record() {
     let Buffers { mut arena, mut room, mut totals } = Buffers::old(4096, OLD);
     let mut pool = Pool::set_up(&mut arena, &mut room, &mut totals).unwrap();
-    let block = pool.queue(Queue::Q0).grant(160).unwrap();
+    let block = pool.grant(160).unwrap();
     let due = record_of([1, 160, 8, 0, 20, 0]);
     assert_eq!((*pool.totals(), pool.report()), (due, Ok(due)));
-    pool.queue(Queue::Q0).grant(13).unwrap_err();
+    pool.grant(13).unwrap_err();
     assert_eq!(*pool.totals(), due);
     // what is lent is the record itself, and another pool over it sees what this one left
-    pool.queue(Queue::Q0).release(block).unwrap();
+    pool.release(block).unwrap();
     assert_eq!(Pool::over(&mut arena, &mut room, &mut totals).report(), Ok(record_of([0, 0, 0, 8, 0, 0])));
     totals.rows_free = 7;
     let pool = Pool::over(&mut arena, &mut room, &mut totals);

@@ -1,5 +1,5 @@
-/* Every refusal of every call, through the C functions, alone and with each later one due behind it: its number, the value 0 (from reports,
- * zeros), and no byte changed, nor a number of the record, nor a place of a lent list. With PLAIN, the calls of the second engine. */
+/* Every refusal of every call, through the C functions, alone and with each later one due behind it: its number, the value 0 (from report,
+ * six zeros), and no byte changed, nor a number of the record, nor a place of a lent list. With PLAIN, the calls of the second engine. */
 #include <stdio.h>
 #include <stdlib.h>
 #include <string.h>
@@ -14,43 +14,23 @@
 #define RECORD , &pool.record.totals
 #endif
 
-enum call { SET_UP, GRANT, RELEASE, RESIZE_IN_PLACE, MOVE, MEASURE, REPORT, REPORT_QUEUE, GRANT_ALIGNED, GRANT_LIST, PLAN_LIST };
+enum call { SET_UP, GRANT, RELEASE, RESIZE_IN_PLACE, MOVE, MEASURE, REPORT, GRANT_ALIGNED, GRANT_LIST, PLAN_LIST };
 
-static const char *const names[] = {"set up", "grant", "release", "resize in place", "move", "measure", "report", "report queue",
-                                    "grant aligned", "grant list", "plan list"};
+static const char *const names[] = {"set up", "grant", "release", "resize in place", "move", "measure", "report", "grant aligned",
+                                    "grant list", "plan list"};
 
-/* Why a call can be refused: the number of the answer, or, of the two reasons for 12 that a call on a block has, its number and one of these. */
-enum { OVER_7 = SLOTPOOL_WRONG_QUEUE, ANOTHERS = 0x80 | SLOTPOOL_WRONG_QUEUE };
-
-/* The number of a reason. */
-static uint32_t number(uint32_t reason)
-{
-    return reason & 0x7F;
-}
-
-/* The reasons for which each call can be refused, in the order in which they are tested; 0 ends them. */
-static const uint8_t refusals[][11] = {
-    [SET_UP] = {1},
-    [GRANT] = {2, OVER_7, 3, 8},
-    [RELEASE] = {2, OVER_7, 4, 5, 10, ANOTHERS, 6, 7},
-    [RESIZE_IN_PLACE] = {2, OVER_7, 3, 4, 5, 10, ANOTHERS, 6, 7, 11},
-    [MOVE] = {2, OVER_7, 3, 4, 5, 10, ANOTHERS, 6, 7, 8},
-    [MEASURE] = {2, OVER_7, 4, 5, 10, ANOTHERS, 6, 7},
-    [REPORT] = {2},
-    [REPORT_QUEUE] = {2, OVER_7},
-};
+/* The numbers that each call on blocks can refuse with, in the order in which they are tested; 0 ends them. */
+static const uint8_t refusals[][9] = {
+    {1}, {2, 3, 8}, {2, 4, 5, 10, 6, 7}, {2, 3, 4, 5, 10, 6, 7, 11}, {2, 3, 4, 5, 10, 6, 7, 8}, {2, 4, 5, 10, 6, 7}, {2}};
 
 /* The pool: one group holds all rows, with a freed block and a live one. Each is the second of its slot: it starts 16 bytes after the slot's
  * beginning, and the low bits of its handle are 1. The live one's guard is the 5 bytes before END. */
 enum { ARENA = 4096, SIZE = 160, SLOTS = 21, SLOT = 192, FREED = 16 + 16 + 1, LIVE = FREED + SLOT, END = 16 + SLOT + 188 };
 
-/* The queue of the live block, of which the freed one was, too. */
-enum { QUEUE = 5 };
-
 /* The largest size of the group's class. A block of one byte more has no room. */
 enum { MOST = 188 };
 
-/* Aligned blocks, each with the first answer due in the order 2, 12, 13, 3, 8. */
+/* Aligned blocks, each with the first answer due in the order 2, 13, 3, 8. */
 static const struct aligned {
     uint32_t due;
     size_t n, align;
@@ -60,11 +40,6 @@ static const struct aligned {
     {2, SIZE_MAX, 0},
     {2, 131052, 32},
     {2, MOST, 64},
-    /* a queue over 7, with the same */
-    {12, SIZE, 32},
-    {12, SIZE_MAX, 0},
-    {12, 131052, 32},
-    {12, MOST, 64},
     /* no power of two, or one over 4,096: with a block that would be granted as an ordinary one */
     {13, SIZE, 0},
     {13, SIZE, 3},
@@ -93,7 +68,7 @@ static const struct aligned {
     {8, 126971, 4096},
 };
 
-/* Lists, each with the first answer due in the order 2, 12, 9, 17, 8. */
+/* Lists, each with the first answer due in the order 2, 9, 17, 8. */
 static const struct list {
     uint32_t due;
     size_t length, cap, places, count, sizes[18];
@@ -101,12 +76,6 @@ static const struct list {
     /* unsound tables, with a list that would be granted, and with one that is wrong in every way */
     {2, SIZE, MOST, 17, 1, {SIZE}},
     {2, SIZE_MAX, 0, 0, 1, {0}},
-    /* a queue over 7, with a list that would be granted, and with 9, 17 and 8 due behind it */
-    {12, SIZE, MOST, 17, 1, {SIZE}},
-    {12, 0, MOST, 17, 0, {0}},
-    {12, SIZE, MOST, 16, 1, {SIZE}},
-    {12, SIZE, SIZE - 1, 17, 1, {SIZE}},
-    {12, MOST + 1, MOST + 1, 17, 1, {MOST + 1}},
     /* a length over 17 times the cap */
     {9, 17 * MOST + 1, MOST, 17, 1, {MOST}},
     {9, SIZE_MAX, MOST, 17, 1, {SIZE_MAX}},
@@ -135,10 +104,9 @@ static const struct list {
     {8, SIZE + MOST + MOST + 1, MOST + 1, 40, 3, {SIZE, MOST, MOST + 1}},
 };
 
-/* A record or the totals of a queue, and the numbers. */
+/* A record, and its numbers. */
 union record {
     slotpool_totals totals;
-    slotpool_queue_totals queue;
     size_t numbers[6];
 };
 
@@ -148,7 +116,7 @@ static struct {
     size_t handles[40], sizes[17];
 } pool, before;
 
-static size_t arena_len, room_len, queue, handle, n;
+static size_t arena_len, room_len, handle, n;
 static const struct aligned *block;
 static const struct list *list;
 #define LENT pool.arena, arena_len, pool.room, room_len RECORD
@@ -160,21 +128,17 @@ enum { PATTERN = 0x5A5A };
 
 static enum call call;
 
-/* The reason that is due, and one that would be due without it, or the same. */
+/* The answer that is due, and one that would be due without it, or the same. */
 static uint32_t due, behind;
 
-/* Why 2 is due: by the tables, or, where there is a record, by a number of it that is one too large, or one too small. By which queue 12 is. With
- * which low bits 4, 5 or 10 is. By which size 11 is. */
+/* Why 2 is due: by the tables, or, where there is a record, by a number of it that is one too large, or one too small. With which low bits 4, 5
+ * or 10 is. By which size 11 is. */
 static unsigned cause;
 #ifdef PLAIN
 enum { BY_TABLES, CAUSES, BITS = 16 };
 #else
 enum { BY_TABLES, CAUSES = 1 + 6 + 6, BITS = 16 };
 #endif
-
-/* Numbers over 7, of which some have a queue's low byte, and other queues than the live block's. */
-static const size_t over_7[] = {8, 9, 13, 255, 256, 256 + QUEUE, ((size_t)1 << 32) + QUEUE, SIZE_MAX}, others[] = {0, 1, 2, 3, 4, 6, 7};
-enum { OVERS = sizeof over_7 / sizeof *over_7, OTHERS = sizeof others / sizeof *others };
 
 /* Sizes that the live block does not get in place: a byte more than its slot has from its start on, a byte more than the slot has, and the most of
  * the second class below. */
@@ -185,7 +149,7 @@ static void check(int holds, int line, const char *what)
 {
     if (holds)
         return;
-    printf("%s:%d: %s, answer %u due before %u", __FILE__, line, names[call], (unsigned)number(due), (unsigned)number(behind));
+    printf("%s:%d: %s, answer %u due before %u", __FILE__, line, names[call], (unsigned)due, (unsigned)behind);
     if (call == GRANT_ALIGNED)
         printf(", block %d", (int)(block - blocks));
     if (call >= GRANT_LIST)
@@ -198,13 +162,13 @@ static void check(int holds, int line, const char *what)
 /* A grant that is done, with the handle due. */
 static void grant(size_t due_handle)
 {
-    CHECK(ON_POOL(grant)(LENT, QUEUE, SIZE, VALUE) == SLOTPOOL_DONE);
+    CHECK(ON_POOL(grant)(LENT, SIZE, VALUE) == SLOTPOOL_DONE);
     CHECK(*VALUE == due_handle);
 }
 
 static void release(size_t granted)
 {
-    CHECK(ON_POOL(release)(LENT, QUEUE, granted) == SLOTPOOL_DONE);
+    CHECK(ON_POOL(release)(LENT, granted) == SLOTPOOL_DONE);
 }
 
 /* Sets the pool up: a first block in every slot of the group, all released but the last, which keeps the group for the second ones. */
@@ -222,16 +186,15 @@ static void set_up(void)
     grant(LIVE);
     release(16 + (SLOTS - 1) * SLOT);
     release(FREED);
-    queue = QUEUE;
     handle = LIVE;
     n = SIZE;
 }
 
 /* Makes a refusal due. */
-static void spoil(uint32_t reason)
+static void spoil(uint32_t refusal)
 {
     size_t start = slotpool_start(LIVE);
-    switch (reason) {
+    switch (refusal) {
     case SLOTPOOL_BAD_ARENA:
         arena_len--;
         break;
@@ -240,12 +203,6 @@ static void spoil(uint32_t reason)
             pool.room[room_len - 1] = 1;
         else
             pool.record.numbers[(cause - 1) % 6] += cause <= 6 ? 1 : SIZE_MAX;
-        break;
-    case OVER_7:
-        queue = over_7[cause % OVERS];
-        break;
-    case ANOTHERS:
-        queue = others[cause % OTHERS];
         break;
     case SLOTPOOL_TOO_LARGE:
         n = 131052;
@@ -282,32 +239,29 @@ static size_t make(uint32_t *answer)
         *answer = ON_POOL(set_up)(LENT);
         return 0;
     case GRANT:
-        *answer = ON_POOL(grant)(LENT, queue, n, VALUE);
+        *answer = ON_POOL(grant)(LENT, n, VALUE);
         return 1;
     case RELEASE:
-        *answer = ON_POOL(release)(LENT, queue, handle);
+        *answer = ON_POOL(release)(LENT, handle);
         return 0;
     case RESIZE_IN_PLACE:
-        *answer = ON_POOL(resize_in_place)(LENT, queue, handle, n, VALUE);
+        *answer = ON_POOL(resize_in_place)(LENT, handle, n, VALUE);
         return 1;
     case MOVE:
-        *answer = ON_POOL(move)(LENT, queue, handle, n, VALUE);
+        *answer = ON_POOL(move)(LENT, handle, n, VALUE);
         return 1;
     case MEASURE:
-        *answer = ON_POOL(measure)(LENT, queue, handle, VALUE);
+        *answer = ON_POOL(measure)(LENT, handle, VALUE);
         return 1;
     case GRANT_ALIGNED:
-        *answer = ON_POOL(grant_aligned)(LENT, queue, block->n, block->align, VALUE);
+        *answer = ON_POOL(grant_aligned)(LENT, block->n, block->align, VALUE);
         return 1;
     case GRANT_LIST:
-        *answer = ON_POOL(grant_list)(LENT, queue, list->length, list->cap, list->sizes, list->count, pool.handles, list->places, VALUE);
+        *answer = ON_POOL(grant_list)(LENT, list->length, list->cap, list->sizes, list->count, pool.handles, list->places, VALUE);
         return 1;
     case PLAN_LIST:
         *answer = slotpool_plan_list(list->length, list->cap, pool.sizes, VALUE);
         return 1;
-    case REPORT_QUEUE:
-        *answer = ON_POOL(report_queue)(LENT, queue, &given.queue);
-        return 2;
     default:
         *answer = ON_POOL(report)(LENT, &given.totals);
         return 6;
@@ -325,7 +279,7 @@ static void refuse_once(void)
         given.numbers[i] = PATTERN;
     uint32_t answer;
     size_t values = make(&answer);
-    CHECK(answer == number(due));
+    CHECK(answer == due);
     for (size_t i = 0; i < 6; i++)
         CHECK(given.numbers[i] == (i < values ? 0 : PATTERN));
     CHECK(memcmp(&pool, &before, sizeof pool) == 0);
@@ -336,10 +290,6 @@ static unsigned causes(void)
     switch (due) {
     case SLOTPOOL_UNSOUND:
         return CAUSES;
-    case OVER_7:
-        return OVERS;
-    case ANOTHERS:
-        return OTHERS;
     case SLOTPOOL_NO_SUCH_BLOCK:
     case SLOTPOOL_ALREADY_FREE:
         return BITS;
@@ -361,10 +311,9 @@ static unsigned refuse_before(uint32_t other)
     return causes();
 }
 
-/* A refusal alone, and that of unsound tables before that of a queue over 7, too. */
 static unsigned refuse(void)
 {
-    return refuse_before(due) + (due == SLOTPOOL_UNSOUND ? refuse_before(OVER_7) : 0);
+    return refuse_before(due);
 }
 
 /* A call's refusals, each alone and before each later one. */
@@ -407,7 +356,7 @@ int main(void)
 {
     unsigned seen = 0;
     check_starts();
-    for (call = SET_UP; call <= REPORT_QUEUE; call++)
+    for (call = SET_UP; call <= REPORT; call++)
         seen += refuse_in_order(refusals[call]);
     call = GRANT_ALIGNED;
     for (block = blocks; block < blocks + sizeof blocks / sizeof *blocks; block++) {

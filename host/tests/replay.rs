@@ -5,7 +5,7 @@ mod damaged;
 mod program;
 mod random;
 
-use common::{Answer, Asked, Both, Call};
+use common::{Answer, Both, Call};
 use damaged::DAMAGED;
 use program::run;
 use random::{all_seen, block, kind, next_call, Numbers, Seen, UNDAMAGED};
@@ -82,18 +82,17 @@ type Engine = fn(&mut Numbers, &Both) -> Range<usize>;
 const ENGINES: [Option<Engine>; 3] = [None, Some(in_requested), Some(anywhere)];
 
 /// The records of an answered call, as far as traces have it: a list that was granted is its grants. The largest sizes and handles
-/// become the largest of four bytes, and the largest queues the largest byte.
-fn records(asked: Asked, answer: Answer) -> Vec<Op> {
-    let queue = asked.queue.min(255) as u8;
-    match (asked.call, answer) {
-        (Call::Grant(n), _) => vec![Op::Grant(queue, n as u32)],
-        (Call::GrantList(list), Answer::Value(_)) => list.sizes().iter().map(|&n| Op::Grant(queue, n as u32)).collect(),
-        (Call::Release(handle), _) => vec![Op::Release(queue, handle as u32)],
-        (Call::InPlace(handle, n), _) => vec![Op::InPlace(queue, handle as u32, n as u32)],
-        (Call::Move(handle, n), _) => vec![Op::Move(queue, handle as u32, n as u32)],
-        (Call::Measure(handle), _) => vec![Op::Measure(queue, handle as u32)],
+/// become the largest of four bytes.
+fn records(call: Call, answer: Answer) -> Vec<Op> {
+    match (call, answer) {
+        (Call::Grant(n), _) => vec![Op::Grant(n as u32)],
+        (Call::GrantList(list), Answer::Value(_)) => list.sizes().iter().map(|&n| Op::Grant(n as u32)).collect(),
+        (Call::Release(handle), _) => vec![Op::Release(handle as u32)],
+        (Call::InPlace(handle, n), _) => vec![Op::InPlace(handle as u32, n as u32)],
+        (Call::Move(handle, n), _) => vec![Op::Move(handle as u32, n as u32)],
+        (Call::Measure(handle), _) => vec![Op::Measure(handle as u32)],
         (Call::Report, _) => vec![Op::Report],
-        (Call::SetUp | Call::GrantAligned(..) | Call::GrantList(_) | Call::ReportQueue | Call::Store(..), _) => Vec::new(),
+        (Call::SetUp | Call::GrantAligned(..) | Call::GrantList(_) | Call::Store(..), _) => Vec::new(),
     }
 }
 
@@ -116,16 +115,15 @@ fn draw(seed: usize, seen: &mut Seen) -> Vec<Op> {
                 ops.push(Op::Store(place.start as u32, bytes));
             }
             _ => {
-                // traces have no aligned grants and no reports of a queue
-                let mut asked = next_call(&mut numbers, &both, |_, _| None);
-                match asked.call {
-                    Call::SetUp | Call::ReportQueue => continue,
-                    Call::GrantAligned(n, _) => asked.call = Call::Grant(n),
-                    _ => {}
-                }
-                let answer = both.make(asked)[0];
-                count(kind(asked, &answer, &both));
-                ops.extend(records(asked, answer));
+                // traces have no aligned grants
+                let call = match next_call(&mut numbers, &both, |_, _| None) {
+                    Call::SetUp => continue,
+                    Call::GrantAligned(n, _) => Call::Grant(n),
+                    call => call,
+                };
+                let answer = both.make(call)[0];
+                count(kind(call, &answer, &both));
+                ops.extend(records(call, answer));
             }
         }
     }
@@ -145,8 +143,7 @@ fn two_thousand_random_traces() {
         assert_eq!(read(&trace), (ops, None), "seed {seed}");
     }
     println!("{records} records: {seen:?}");
-    let due = UNDAMAGED.into_iter().chain(DAMAGED).filter(|kind| !kind.contains("aligned") && !kind.contains("queue report"));
-    all_seen(&seen, due.chain(["store"]));
+    all_seen(&seen, UNDAMAGED.into_iter().chain(DAMAGED).filter(|kind| !kind.contains("aligned")).chain(["store"]));
 }
 
 #[test]
@@ -166,7 +163,7 @@ fn random_traces_with_bytes_changed() {
 }
 
 /// Records with every operation and every answer, and what is printed of each.
-const EVERY: [(&str, &str); 43] = [
+const EVERY: [(&str, &str); 29] = [
     ("grant 160", "0 16"),
     ("grant 160", "0 208"),
     ("store 16 00ff07", "0 0"),
@@ -174,12 +171,8 @@ const EVERY: [(&str, &str); 43] = [
     ("resize 16 188", "0 16"),
     ("report", "0 2 348 8 24 19 0"),
     ("measure 17", "10 0"),
-    ("measure 16 queue 1", "12 0"),
-    ("measure 17 queue 1", "10 0"),
-    ("measure 17 queue 8", "12 0"),
     ("store 12 01", "0 0"),
     ("release 16", "6 0"),
-    ("release 16 queue 7", "12 0"),
     ("release 31", "10 0"),
     ("store 12 00", "0 0"),
     ("store 368 01", "0 0"),
@@ -193,9 +186,6 @@ const EVERY: [(&str, &str); 43] = [
     ("move 17 0", "5 0"),
     ("resize 15 0", "4 0"),
     ("move 15 131052", "3 0"),
-    ("resize 15 131052 queue 255", "12 0"),
-    ("move 208 131052 queue 1", "3 0"),
-    ("resize 208 189 queue 1", "12 0"),
     ("grant 131052", "3 0"),
     ("grant 20000", "8 0"),
     ("move 208 20000", "8 0"),
@@ -203,13 +193,6 @@ const EVERY: [(&str, &str); 43] = [
     ("measure 208", "0 160"),
     ("move 208 189", "0 4112"),
     ("report", "0 1 189 8 24 16 0"),
-    ("grant 189 queue 7", "0 4352"),
-    ("grant 189 queue 8", "12 0"),
-    ("release 4352", "12 0"),
-    ("move 4352 100 queue 7", "0 16"),
-    ("report", "0 2 289 15 17 45 1"),
-    ("release 16 queue 7", "0 0"),
-    ("grant 100", "0 16"),
 ];
 
 /// The trace of `EVERY`, and where its version byte and each of its records end.
@@ -247,61 +230,44 @@ fn pieces_make_a_trace() {
 fn every_version() {
     assert_eq!(prints(&[]), "bad 0\n");
     for version in 0..=255 {
-        let is_right = version == 3;
+        let is_right = version == 2;
         assert_eq!(prints(&[version]), if is_right { "" } else { "bad 0\n" }, "version {version}");
-        assert_eq!(prints(&[version, 0, 6, 1, 0, 0, 0, 0, 0]), if is_right { "0 16\n" } else { "bad 0\n" }, "version {version}");
+        assert_eq!(prints(&[version, 0, 5, 1, 0, 0, 0, 0]), if is_right { "0 16\n" } else { "bad 0\n" }, "version {version}");
     }
 }
 
 #[test]
 fn every_operation_in_bytes() {
-    let grant = [0, 6, 1, 3, 0, 0, 0, 160];
+    let grant = [0, 5, 1, 0, 0, 0, 160];
     let report = [0, 1, 6];
     let store = [0, 7, 5, 0, 0, 0, 16, 7, 9];
-    let in_place = [0, 10, 3, 3, 0, 0, 0, 16, 0, 0, 0, 188];
-    let not_in_place = [0, 10, 3, 3, 0, 0, 0, 16, 0, 0, 0, 189];
-    let moves = [0, 10, 7, 3, 0, 0, 0, 16, 0, 0, 0, 189];
-    let measure = [0, 6, 4, 3, 0, 0, 0, 16];
-    let release = [0, 6, 2, 3, 0, 0, 0, 16];
-    let (no_room, too_large) = ([0, 6, 1, 0, 0, 1, 255, 235], [0, 6, 1, 0, 0, 1, 255, 236]);
-    let trace = [&[3][..], &grant, &report, &store, &in_place, &not_in_place, &measure, &release, &no_room, &too_large].concat();
+    let in_place = [0, 9, 3, 0, 0, 0, 16, 0, 0, 0, 188];
+    let not_in_place = [0, 9, 3, 0, 0, 0, 16, 0, 0, 0, 189];
+    let moves = [0, 9, 7, 0, 0, 0, 16, 0, 0, 0, 189];
+    let measure = [0, 5, 4, 0, 0, 0, 16];
+    let release = [0, 5, 2, 0, 0, 0, 16];
+    let (no_room, too_large) = ([0, 5, 1, 0, 1, 255, 235], [0, 5, 1, 0, 1, 255, 236]);
+    let trace = [&[2][..], &grant, &report, &store, &in_place, &not_in_place, &measure, &release, &no_room, &too_large].concat();
     assert_eq!(prints(&trace), "0 16\n0 1 160 8 24 20 0\n0 0\n0 16\n11 0\n0 188\n0 0\n8 0\n3 0\n");
-    let trace = [&[3][..], &grant, &moves, &measure].concat();
+    let trace = [&[2][..], &grant, &moves, &measure].concat();
     assert_eq!(prints(&trace), "0 16\n0 4112\n4 0\n");
     // a store over a header, and then back as it was
     let (spoils, mends) = ([0, 7, 5, 0, 0, 0, 12, 0, 1], [0, 7, 5, 0, 0, 0, 12, 0, 160]);
-    let trace = [&[3][..], &grant, &spoils, &measure, &mends, &measure].concat();
+    let trace = [&[2][..], &grant, &spoils, &measure, &mends, &measure].concat();
     assert_eq!(prints(&trace), "0 16\n0 0\n6 0\n0 0\n0 160\n");
-}
-
-#[test]
-fn every_queue_byte() {
-    for queue in 0..=255 {
-        // a grant by each, and the calls on a block of queue 5: a byte over 7 is answered, whatever the rest of the record, and is not bad
-        let ops = [Op::Grant(5, 160), Op::Grant(queue, 160), Op::Grant(queue, 131_052), Op::Measure(queue, 17), Op::Measure(queue, 16)];
-        let more = [Op::InPlace(queue, 16, 188), Op::Move(queue, 16, 131_052), Op::Move(queue, 400, 20), Op::Release(queue, 16), Op::Report];
-        let due = match queue {
-            5 => "0 16\n0 208\n3 0\n10 0\n0 160\n0 16\n3 0\n4 0\n0 0\n0 1 160 8 24 19 1\n",
-            0..8 => "0 16\n0 208\n3 0\n10 0\n12 0\n12 0\n3 0\n4 0\n12 0\n0 2 320 8 24 19 0\n",
-            _ => "0 16\n12 0\n12 0\n12 0\n12 0\n12 0\n12 0\n12 0\n12 0\n0 1 160 8 24 20 0\n",
-        };
-        assert_eq!(prints(&write(&[&ops[..], &more].concat())), due, "queue {queue}");
-    }
 }
 
 #[test]
 fn every_operation_with_every_length() {
     // some long ones have a right length as their first byte or their last
-    let long = [13, 255, 256, 257, 261, 262, 266, 1280, 1536, 2560, 65_000];
+    let long = [13, 255, 256, 257, 261, 265, 1280, 2304, 65_000];
     let tried = (0..=255).flat_map(|operation| (0..=12).map(move |length| (operation, length)));
     for (operation, length) in tried.chain((0..=8).flat_map(|operation| long.map(|length| (operation, length)))) {
-        let queue = if matches!(operation, 5 | 6) { None } else { Some(0) };
-        let bytes = [operation].into_iter().chain(queue).chain([0, 0, 0, 16, 0, 0, 0, 20]);
-        let record: Vec<u8> = bytes.chain([7; MOST]).take(length).collect();
-        let trace = [&write(&[Op::Grant(0, 160)])[..], &(length as u16).to_be_bytes(), &record, &[0, 1, 6]].concat();
+        let record: Vec<u8> = [operation, 0, 0, 0, 16, 0, 0, 0, 20].into_iter().chain([7; MOST]).take(length).collect();
+        let trace = [&write(&[Op::Grant(160)])[..], &(length as u16).to_be_bytes(), &record, &[0, 1, 6]].concat();
         let right = match operation {
-            1 | 2 | 4 => length == 6,
-            3 | 7 => length == 10,
+            1 | 2 | 4 => length == 5,
+            3 | 7 => length == 9,
             5 => length >= 5 && 16 + length - 5 <= ARENA,
             6 => length == 1,
             _ => false,
@@ -316,10 +282,10 @@ fn every_operation_with_every_length() {
 fn stores_at_the_edges_of_the_arena() {
     let mut right = 0;
     // the last three: the most that the trace has room for, one byte more, and the most of a record
-    let counts = [0, 1, 2, 16_383, 16_384, 16_385, MOST - 16, MOST - 15, MOST - 5];
+    let counts = [0, 1, 2, 16_383, 16_384, 16_385, MOST - 15, MOST - 14, MOST - 5];
     for offset in [0, 1, 16_383, 16_384, 16_385, 65_535, 65_536, 1 << 31, u32::MAX - 16_383, u32::MAX] {
         for count in counts {
-            let trace = write(&[Op::Store(offset, vec![1; count]), Op::Grant(0, 0)]);
+            let trace = write(&[Op::Store(offset, vec![1; count]), Op::Grant(0)]);
             let due = match (trace.len() <= MOST, offset as usize + count <= ARENA) {
                 (false, _) => "bad 0\n",
                 (true, false) => "bad 1\n",
@@ -335,9 +301,9 @@ fn stores_at_the_edges_of_the_arena() {
 #[test]
 fn a_store_reaches_the_last_block() {
     // blocks of 11 bytes in every slot of every row; the last one's spare byte is compared, and no block has the four bytes after it
-    let mut ops = vec![Op::Grant(0, 11); 31 * 32];
+    let mut ops = vec![Op::Grant(11); 31 * 32];
     for (offset, byte) in [(16_380, 1), (16_379, 1), (16_379, 0)] {
-        ops.extend([Op::Store(offset, vec![byte; ARENA - offset as usize]), Op::Measure(0, 16_368)]);
+        ops.extend([Op::Store(offset, vec![byte; ARENA - offset as usize]), Op::Measure(16_368)]);
     }
     let printed = prints(&write(&ops));
     let last: Vec<&str> = printed.lines().skip(31 * 32 - 1).collect();
@@ -346,9 +312,9 @@ fn a_store_reaches_the_last_block() {
 
 /// A trace of some length: at most two grants, then reports.
 fn of_length(len: usize) -> Vec<u8> {
-    let grants = 2 * (len - 1) % 3;
-    let reports = (len - 1 - 8 * grants) / 3;
-    let trace = write(&[vec![Op::Grant(0, 160); grants], vec![Op::Report; reports]].concat());
+    let grants = (len - 1) % 3;
+    let reports = (len - 1 - 7 * grants) / 3;
+    let trace = write(&[vec![Op::Grant(160); grants], vec![Op::Report; reports]].concat());
     assert_eq!(trace.len(), len);
     trace
 }
@@ -357,13 +323,11 @@ fn of_length(len: usize) -> Vec<u8> {
 fn every_record_of_a_long_trace_is_replayed() {
     let lines = |trace: Vec<u8>| prints(&trace).lines().map(str::to_string).collect::<Vec<_>>();
     assert_eq!(lines(of_length(65_533)), vec!["0 0 0 0 32 0 0"; 21_844]);
-    assert_eq!(lines(of_length(MOST)).len(), 1 + 21_842);
-    // 8,191 records of 8 bytes, and two of 3
-    let pairs = (0..4095).flat_map(|_| [Op::Grant(1, 160), Op::Release(1, 16)]);
-    let ops: Vec<Op> = pairs.chain([Op::Grant(1, 160), Op::Report, Op::Report]).collect();
-    assert_eq!(write(&ops).len(), MOST);
-    let report = "0 1 160 8 24 20 0";
-    assert_eq!(lines(write(&ops)), [["0 16", "0 0"].repeat(4095), vec!["0 16", report, report]].concat());
+    assert_eq!(lines(of_length(MOST)).len(), 2 + 21_840);
+    // 9,362 records of 7 bytes
+    let pairs: Vec<Op> = (0..4681).flat_map(|_| [Op::Grant(160), Op::Release(16)]).collect();
+    assert_eq!(write(&pairs).len(), MOST);
+    assert_eq!(lines(write(&pairs)), ["0 16", "0 0"].repeat(4681));
     // the whole arena three times, and a part of it
     let stores: Vec<Op> = [ARENA, ARENA, ARENA, MOST - 1 - 7 - 3 * (7 + ARENA)].map(|n| Op::Store(0, vec![0xa5; n])).into();
     assert_eq!(write(&stores).len(), MOST);

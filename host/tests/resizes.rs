@@ -8,7 +8,7 @@ mod sample;
 
 use common::Answer::{self, Done, Refused, Value};
 use common::Call::{Grant, GrantAligned, InPlace, Move, Release, Store};
-use common::{Asked, Both};
+use common::Both;
 use due::due;
 use random::{all_seen, kind, next_call, Numbers, Seen, UNDAMAGED};
 use sample::{no_store, sample, OLD};
@@ -21,28 +21,28 @@ fn bytes(both: &Both, handle: usize, n: usize) -> &[u8] {
 }
 
 /// What a move is said to be: a grant with the block's alignment and, if it is done, a copy of the bytes that both have and a release.
-fn grant_copy_release(both: &mut Both, queue: usize, handle: usize, n: usize) -> Answer {
-    let answer = both.call(GrantAligned(n, both.second.alignment(handle)).of(queue)).unwrap();
+fn grant_copy_release(both: &mut Both, handle: usize, n: usize) -> Answer {
+    let answer = both.call(GrantAligned(n, both.second.alignment(handle))).unwrap();
     if let Value(new) = answer {
-        let kept = both.second.measure(queue, handle).unwrap().min(n);
+        let kept = both.second.measure(handle).unwrap().min(n);
         let copied = bytes(both, handle, kept).to_vec();
         due(both, (start_of(new)..).zip(copied).map(|(at, byte)| (Store(at, byte), Done)));
-        due(both, [(Release(handle).of(queue), Done)]);
+        due(both, [(Release(handle), Done)]);
     }
     answer
 }
 
 /// Makes both calls, each over a copy of a pool, and gives their answers: the same, unless each is done or refused with what the other never is.
-fn both_ways(pool: &Both, queue: usize, handle: usize, n: usize) -> [Answer; 2] {
+fn both_ways(pool: &Both, handle: usize, n: usize) -> [Answer; 2] {
     let [mut stayed, mut moved] = [pool.clone(), pool.clone()];
-    let answers = [stayed.call(InPlace(handle, n).of(queue)).unwrap(), moved.call(Move(handle, n).of(queue)).unwrap()];
-    let told = format!("{handle} to {n} bytes, for queue {queue}: {answers:?}");
+    let answers = [stayed.call(InPlace(handle, n)).unwrap(), moved.call(Move(handle, n)).unwrap()];
+    let told = format!("{handle} to {n} bytes: {answers:?}");
     let [Value(_) | Refused(NotInPlace), Value(_) | Refused(NoRoom)] = answers else {
         assert_eq!(answers[0], answers[1], "{told}");
         return answers;
     };
     let mut other = pool.clone();
-    assert_eq!(answers[1], grant_copy_release(&mut other, queue, handle, n), "{told}");
+    assert_eq!(answers[1], grant_copy_release(&mut other, handle, n), "{told}");
     assert!(moved.first == other.first && moved.plain == other.plain, "{told}: not what a grant, a copy and a release leave");
     if let [Value(same), Value(new)] = answers {
         assert_eq!((same, start_of(same) == start_of(new)), (handle, false), "{told}");
@@ -75,12 +75,12 @@ fn both_ways_among_random_calls() {
         let mut both = sample(seed, [512, 1024, 4096, 8192, 16_384][seed as usize % 5]);
         for _ in 0..500 {
             let call = next_call(&mut numbers, &both, no_store);
-            if let Asked { queue, call: InPlace(handle, n) | Move(handle, n) } = call {
+            if let InPlace(handle, n) | Move(handle, n) = call {
                 let mut copy = both.clone();
                 if numbers.one_in(3) {
                     damage(&mut numbers, &mut copy, handle);
                 }
-                let [in_place, moved] = both_ways(&copy, queue, handle, n).map(number);
+                let [in_place, moved] = both_ways(&copy, handle, n).map(number);
                 *pairs.entry(format!("in place {in_place}, move {moved}")).or_default() += 1;
             }
             let answer = both.call(call).unwrap_or_else(|why| panic!("seed {seed}: {why}"));
@@ -88,7 +88,7 @@ fn both_ways_among_random_calls() {
         }
     }
     println!("{pairs:?}\n{seen:?}");
-    let alike = [12, 3, 4, 5, 10, 6, 7].map(|k| (k, k));
+    let alike = [3, 4, 5, 10, 6, 7].map(|k| (k, k));
     let due = [(0, 0), (0, 8), (11, 0), (11, 8)].into_iter().chain(alike).map(|(one, other)| format!("in place {one}, move {other}"));
     all_seen(&pairs, due.collect::<Vec<_>>().iter().map(String::as_str));
     all_seen(&seen, UNDAMAGED.into_iter().chain(["set up 0"]));
@@ -110,7 +110,7 @@ fn every_class() {
             let moves = class_of(n) == class && slots_of(class) > 1;
             let in_place = if stays { Value(16) } else { Refused(NotInPlace) };
             let moved = if moves { Value(16 + slot_bytes(class)) } else { Refused(NoRoom) };
-            assert_eq!(both_ways(&both, 0, 16, n), [in_place, moved], "class {class}, {n} bytes");
+            assert_eq!(both_ways(&both, 16, n), [in_place, moved], "class {class}, {n} bytes");
             met[2 * usize::from(stays) + usize::from(moves)] += 1;
         }
     }

@@ -14,8 +14,8 @@ use due::due;
 use random::{all_seen, kind, next_call, Numbers, Seen, UNDAMAGED};
 use sample::{no_store, sample, OLD};
 use slotpool::Handle;
-use slotpool::Refusal::{self, AlreadyFree, HeaderDamaged, NoRoom, NoSuchBlock, NotInPlace, Overrun, Stale, TooLarge, WrongQueue};
-use slotpool_reference::{class_of, rows_of, slot_bytes, slots_of, start_of, ENTRIES, QUEUES, TOO_LARGE};
+use slotpool::Refusal::{self, AlreadyFree, HeaderDamaged, NoRoom, NoSuchBlock, NotInPlace, Overrun, Stale, TooLarge};
+use slotpool_reference::{class_of, rows_of, slot_bytes, slots_of, start_of, ENTRIES, TOO_LARGE};
 use std::collections::BTreeSet;
 
 /// Every call on a block, with some size where it takes one.
@@ -142,11 +142,8 @@ fn the_bits_of_every_count() {
     }
 }
 
-/// What calls on a handle are refused with, by the blocks that are live and those that were freed; nothing if it is a live block's of the queue.
-fn refused_with(both: &Both, queue: usize, handle: usize) -> Option<Refusal> {
-    if queue >= QUEUES {
-        return Some(WrongQueue);
-    }
+/// What calls on a handle are refused with, by the blocks that are live and those that were freed; nothing if it is a live block's.
+fn refused_with(both: &Both, handle: usize) -> Option<Refusal> {
     let live = both.second.live();
     let is_live = live.iter().any(|block| block.0 / 16 == handle / 16);
     let why = match (is_live, both.second.freed().contains(&(16 * (handle / 16)))) {
@@ -154,10 +151,7 @@ fn refused_with(both: &Both, queue: usize, handle: usize) -> Option<Refusal> {
         (_, true) => AlreadyFree,
         _ => NoSuchBlock,
     };
-    if live.iter().any(|block| block.0 == handle) {
-        return (both.second.queue(handle) != Some(queue)).then_some(WrongQueue);
-    }
-    Some(why)
+    live.iter().all(|block| block.0 != handle).then_some(why)
 }
 
 #[test]
@@ -165,14 +159,13 @@ fn every_number_as_a_handle() {
     let (mut refused, mut done) = ([0; 3], 0);
     for mut both in (1..=16).map(|seed| sample(seed, [512, 1024, 4096, 8192][seed as usize % 4])) {
         for number in (0..both.first.arena.len() + 600).chain(usize::MAX - 600..=usize::MAX) {
-            if let Some(why) = refused_with(&both, both.own(Measure(number)).queue, number) {
+            if let Some(why) = refused_with(&both, number) {
                 due(&mut both, all_refused(calls_on(number, 0), why));
                 refused[[NoSuchBlock, AlreadyFree, Stale].iter().position(|&r| r == why).unwrap()] += 1;
             }
         }
         for (handle, n) in both.second.live() {
-            let (measure, release) = (both.own(Measure(handle)), both.own(Release(handle)));
-            due(&mut both, [(measure, Value(n)), (release, Done)]);
+            due(&mut both, [(Measure(handle), Value(n)), (Release(handle), Done)]);
             done += 1;
         }
     }
@@ -200,16 +193,16 @@ fn random_calls_with_old_handles() {
         let mut numbers = Numbers::new(seed);
         let mut both = Both::new([512, 1024, 2048, 4096, 8192][seed as usize % 5], OLD);
         for _ in 0..2000 {
-            let asked = next_call(&mut numbers, &both, no_store);
-            let old = if numbers.one_in(3) { with_old(&mut numbers, &both, asked.call) } else { None };
-            let asked = old.map_or(asked, |call| both.own(call));
-            let due = if let Release(handle) | Measure(handle) = asked.call { Some(refused_with(&both, asked.queue, handle)) } else { None };
-            let answer = both.call(asked).unwrap_or_else(|why| panic!("seed {seed}: {why}"));
+            let call = next_call(&mut numbers, &both, no_store);
+            let old = if numbers.one_in(3) { with_old(&mut numbers, &both, call) } else { None };
+            let call = old.unwrap_or(call);
+            let due = if let Release(handle) | Measure(handle) = call { Some(refused_with(&both, handle)) } else { None };
+            let answer = both.call(call).unwrap_or_else(|why| panic!("seed {seed}: {why}"));
             if let Some(due) = due {
-                assert_eq!(if let Refused(why) = answer { Some(why) } else { None }, due, "seed {seed}: {asked:?}");
+                assert_eq!(if let Refused(why) = answer { Some(why) } else { None }, due, "seed {seed}: {call:?}");
                 again += usize::from(old.is_some() && due.is_none());
             }
-            *seen.entry(kind(asked, &answer, &both)).or_default() += 1;
+            *seen.entry(kind(call, &answer, &both)).or_default() += 1;
             made += 1;
         }
     }

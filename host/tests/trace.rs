@@ -11,22 +11,18 @@ use std::os::unix::ffi::OsStrExt;
 use std::process::{Command, Stdio};
 
 /// Each operation with its line and its record.
-fn samples() -> [(Op, &'static str, &'static [u8]); 14] {
+fn samples() -> [(Op, &'static str, &'static [u8]); 10] {
     [
-        (Op::Grant(0, 160), "grant 160", &[0, 6, 1, 0, 0, 0, 0, 160]),
-        (Op::Grant(3, 160), "grant 160 queue 3", &[0, 6, 1, 3, 0, 0, 0, 160]),
-        (Op::Grant(255, u32::MAX), "grant 4294967295 queue 255", &[0, 6, 1, 255, 255, 255, 255, 255]),
-        (Op::Release(0, 0x01020304), "release 16909060", &[0, 6, 2, 0, 1, 2, 3, 4]),
-        (Op::Release(8, 16), "release 16 queue 8", &[0, 6, 2, 8, 0, 0, 0, 16]),
-        (Op::InPlace(0, 16, 188), "resize 16 188", &[0, 10, 3, 0, 0, 0, 0, 16, 0, 0, 0, 188]),
-        (Op::InPlace(1, 16, 188), "resize 16 188 queue 1", &[0, 10, 3, 1, 0, 0, 0, 16, 0, 0, 0, 188]),
-        (Op::Measure(0, 256), "measure 256", &[0, 6, 4, 0, 0, 0, 1, 0]),
-        (Op::Measure(7, 256), "measure 256 queue 7", &[0, 6, 4, 7, 0, 0, 1, 0]),
+        (Op::Grant(160), "grant 160", &[0, 5, 1, 0, 0, 0, 160]),
+        (Op::Grant(u32::MAX), "grant 4294967295", &[0, 5, 1, 255, 255, 255, 255]),
+        (Op::Release(0x01020304), "release 16909060", &[0, 5, 2, 1, 2, 3, 4]),
+        (Op::InPlace(16, 188), "resize 16 188", &[0, 9, 3, 0, 0, 0, 16, 0, 0, 0, 188]),
+        (Op::Measure(256), "measure 256", &[0, 5, 4, 0, 0, 1, 0]),
         (Op::Store(16, vec![0, 255, 7]), "store 16 00ff07", &[0, 8, 5, 0, 0, 0, 16, 0, 255, 7]),
         (Op::Store(16_384, vec![]), "store 16384", &[0, 5, 5, 0, 0, 64, 0]),
         (Op::Store(0, vec![10, 13, 35]), "store 0 0a0d23", &[0, 8, 5, 0, 0, 0, 0, 10, 13, 35]),
         (Op::Report, "report", &[0, 1, 6]),
-        (Op::Move(2, 16, 189), "move 16 189 queue 2", &[0, 10, 7, 2, 0, 0, 0, 16, 0, 0, 0, 189]),
+        (Op::Move(16, 189), "move 16 189", &[0, 9, 7, 0, 0, 0, 16, 0, 0, 0, 189]),
     ]
 }
 
@@ -34,7 +30,7 @@ fn samples() -> [(Op, &'static str, &'static [u8]); 14] {
 fn each_operation_has_its_line_and_its_record() {
     for (op, line, record) in samples() {
         let ops = vec![op];
-        let trace = [&[3], record].concat();
+        let trace = [&[2], record].concat();
         assert_eq!(write(&ops), trace, "{line}");
         assert_eq!(read(&trace), (ops.clone(), None), "{line}");
         assert_eq!(text(&ops), format!("{line}\n"));
@@ -51,8 +47,8 @@ fn stored_bytes_of_any_kind_come_back() {
 
 #[test]
 fn what_is_not_an_operation_is_skipped() {
-    let skipped = "# a comment\n\n  \t\n\tgrant   160  # 16 is due\r\nreport# 1\n#report\ngrant 1 queue 0\nmeasure 2\tqueue  07#8\nstore 1 AbCd";
-    assert_eq!(parse(skipped), Ok(vec![Op::Grant(0, 160), Op::Report, Op::Grant(0, 1), Op::Measure(7, 2), Op::Store(1, vec![0xab, 0xcd])]));
+    let skipped = "# a comment\n\n  \t\n\tgrant   160  # 16 is due\r\nreport# 1\n#report\nstore 1 AbCd";
+    assert_eq!(parse(skipped), Ok(vec![Op::Grant(160), Op::Report, Op::Store(1, vec![0xab, 0xcd])]));
     assert_eq!(parse(""), Ok(vec![]));
 }
 
@@ -60,35 +56,21 @@ fn what_is_not_an_operation_is_skipped() {
 fn a_wrong_text_is_told_with_its_line() {
     let unknown = |word| format!("{word:?} is no operation, expected one of: {}", forms());
     let no_number = |word| format!("{word:?} is no number from 0 to 4,294,967,295");
-    let no_queue = |n| format!("queue {n} does not fit a byte: expected 0 to 7, or up to 255, of which the answer is 12");
     let odd = |n| format!("an odd number of hex digits, {n}, expected two for each byte");
     for (line, wrong) in [
         ("grnat 160", unknown("grnat")),
         ("Grant 160", unknown("Grant")),
         ("160", unknown("160")),
         ("gr\u{fffd}nt 160", unknown("gr\u{fffd}nt")),
-        ("grant", "SIZE is missing, expected grant SIZE [queue QUEUE]".to_string()),
-        ("release # 16", "HANDLE is missing, expected release HANDLE [queue QUEUE]".to_string()),
-        ("resize 16", "SIZE is missing, expected resize HANDLE SIZE [queue QUEUE]".to_string()),
-        ("move", "HANDLE is missing, expected move HANDLE SIZE [queue QUEUE]".to_string()),
+        ("grant", "SIZE is missing, expected grant SIZE".to_string()),
+        ("release # 16", "HANDLE is missing, expected release HANDLE".to_string()),
+        ("resize 16", "SIZE is missing, expected resize HANDLE SIZE".to_string()),
+        ("move", "HANDLE is missing, expected move HANDLE SIZE".to_string()),
         ("store", "OFFSET is missing, expected store OFFSET HEX".to_string()),
-        ("grant 160 16", "\"16\" is too much, expected grant SIZE [queue QUEUE]".to_string()),
-        ("resize 16 188 1", "\"1\" is too much, expected resize HANDLE SIZE [queue QUEUE]".to_string()),
-        ("measure 16 report", "\"report\" is too much, expected measure HANDLE [queue QUEUE]".to_string()),
+        ("grant 160 16", "\"16\" is too much, expected grant SIZE".to_string()),
+        ("resize 16 188 1", "\"1\" is too much, expected resize HANDLE SIZE".to_string()),
+        ("measure 16 report", "\"report\" is too much, expected measure HANDLE".to_string()),
         ("report 0", "\"0\" is too much, expected report".to_string()),
-        ("report queue 0", "\"queue\" is too much, expected report".to_string()),
-        ("grant queue 3", no_number("queue")),
-        ("grant 160 queue", "QUEUE is missing, expected grant SIZE [queue QUEUE]".to_string()),
-        ("grant 160 Queue 3", "\"Queue\" is too much, expected grant SIZE [queue QUEUE]".to_string()),
-        ("release 16 queue 3 4", "\"4\" is too much, expected release HANDLE [queue QUEUE]".to_string()),
-        ("measure 16 queue 3 queue 3", "\"queue\" is too much, expected measure HANDLE [queue QUEUE]".to_string()),
-        ("move 16 189 queue 256", no_queue(256)),
-        ("resize 16 188 queue 4294967295", no_queue(u32::MAX)),
-        ("release 16 queue +3", no_number("+3")),
-        ("release 16 queue -1", no_number("-1")),
-        ("release 16 queue 4294967296", no_number("4294967296")),
-        ("store 16 00 queue 0", "\"queue\" is too much, expected store OFFSET HEX".to_string()),
-        ("store 16 queue 0", "'q' is no hex digit, expected 0 to 9 or a to f".to_string()),
         ("store 16 00 ff", "\"ff\" is too much, expected store OFFSET HEX".to_string()),
         ("grant 4294967296", no_number("4294967296")),
         ("release 99999999999999999999999", no_number("99999999999999999999999")),
@@ -130,32 +112,31 @@ fn a_text_is_as_long_as_a_trace_can_be() {
 fn a_bad_trace_is_told_with_its_record() {
     for (trace, records, told) in [
         (&[][..], 0, "the trace is empty"),
-        (&[7], 0, "version 7, not 3"),
-        (&[0, 0, 1, 6], 0, "version 0, not 3"),
-        (&[2, 0, 1, 6], 0, "version 2, not 3"),
-        (&[3, 0], 0, "record 1: cut short"),
-        (&[3, 0, 1], 0, "record 1: cut short"),
-        (&[3, 0, 1, 6, 0, 6, 1, 0, 0, 0, 0], 1, "record 2: cut short"),
-        (&[3, 0, 1, 6, 6, 0, 1, 0, 0, 0, 0, 0], 1, "record 2: cut short"),
-        (&[3, 0, 0], 0, "record 1: no bytes, so no operation"),
-        (&[3, 0, 1, 6, 0, 1, 6, 0, 1, 0], 2, "record 3: no operation 0"),
-        (&[3, 0, 1, 6, 0, 1, 6, 0, 1, 6, 0, 1, 9], 3, "record 4: no operation 9"),
-        (&[3, 0, 1, 8], 0, "record 1: no operation 8"),
-        (&[3, 0, 5, 1, 0, 0, 0, 160], 0, "record 1: operation 1 has 5 bytes, not 6"),
-        (&[3, 0, 7, 2, 0, 0, 0, 0, 0, 0], 0, "record 1: operation 2 has 7 bytes, not 6"),
-        (&[3, 0, 9, 3, 0, 0, 0, 16, 0, 0, 0, 188], 0, "record 1: operation 3 has 9 bytes, not 10"),
-        (&[3, 0, 1, 4], 0, "record 1: operation 4 has 1 bytes, not 6"),
-        (&[3, 0, 2, 4, 9], 0, "record 1: operation 4 has 2 bytes, not 6"),
-        (&[3, 0, 4, 5, 0, 0, 0], 0, "record 1: operation 5 has 4 bytes, not 5 or more"),
-        (&[3, 0, 2, 6, 0], 0, "record 1: operation 6 has 2 bytes, not 1"),
-        (&[3, 0, 6, 7, 0, 0, 0, 0, 16], 0, "record 1: operation 7 has 6 bytes, not 10"),
-        (&[3; MOST + 1], 0, "longer than 65,535 bytes"),
+        (&[7], 0, "version 7, not 2"),
+        (&[0, 0, 1, 6], 0, "version 0, not 2"),
+        (&[1, 0, 1, 6], 0, "version 1, not 2"),
+        (&[2, 0], 0, "record 1: cut short"),
+        (&[2, 0, 1], 0, "record 1: cut short"),
+        (&[2, 0, 1, 6, 0, 5, 1, 0, 0, 0], 1, "record 2: cut short"),
+        (&[2, 0, 1, 6, 5, 0, 1, 0, 0, 0, 0], 1, "record 2: cut short"),
+        (&[2, 0, 0], 0, "record 1: no bytes, so no operation"),
+        (&[2, 0, 1, 6, 0, 1, 6, 0, 1, 0], 2, "record 3: no operation 0"),
+        (&[2, 0, 1, 6, 0, 1, 6, 0, 1, 6, 0, 1, 9], 3, "record 4: no operation 9"),
+        (&[2, 0, 1, 8], 0, "record 1: no operation 8"),
+        (&[2, 0, 4, 1, 0, 0, 0], 0, "record 1: operation 1 has 4 bytes, not 5"),
+        (&[2, 0, 6, 2, 0, 0, 0, 0, 0], 0, "record 1: operation 2 has 6 bytes, not 5"),
+        (&[2, 0, 5, 3, 0, 0, 0, 16], 0, "record 1: operation 3 has 5 bytes, not 9"),
+        (&[2, 0, 1, 4], 0, "record 1: operation 4 has 1 bytes, not 5"),
+        (&[2, 0, 4, 5, 0, 0, 0], 0, "record 1: operation 5 has 4 bytes, not 5 or more"),
+        (&[2, 0, 2, 6, 0], 0, "record 1: operation 6 has 2 bytes, not 1"),
+        (&[2, 0, 5, 7, 0, 0, 0, 16], 0, "record 1: operation 7 has 5 bytes, not 9"),
+        (&[2; MOST + 1], 0, "longer than 65,535 bytes"),
     ] {
         let (ops, bad) = read(trace);
         assert_eq!(ops.len(), records, "{told}");
         assert_eq!(bad.expect(told).to_string(), told);
     }
-    assert_eq!(read(&[3]), (vec![], None));
+    assert_eq!(read(&[2]), (vec![], None));
 }
 
 #[test]
@@ -175,7 +156,7 @@ fn a_store_past_the_arena_ends_a_trace() {
         assert_eq!(replayable(&write(&ops)), (ops, None), "{count} bytes at {offset}");
     }
     // what cannot be read is told as it is, if no such store comes before it
-    let cut = [3, 0, 1, 6, 0];
+    let cut = [2, 0, 1, 6, 0];
     assert_eq!(replayable(&cut), read(&cut));
 }
 
@@ -191,23 +172,23 @@ fn the_program_writes_and_shows() {
     let (text, bytes) = (lines.join("\n") + "\n", write(&ops));
     let nothing = String::new();
     assert_eq!(trace("write", text.as_bytes()), (bytes.clone(), nothing.clone(), Some(0)));
-    assert_eq!(trace("write", b"grant 0 # \xff\xfe"), (write(&[Op::Grant(0, 0)]), nothing.clone(), Some(0)));
-    assert_eq!(trace("write", b""), (vec![3], nothing.clone(), Some(0)));
+    assert_eq!(trace("write", b"grant 0 # \xff\xfe"), (write(&[Op::Grant(0)]), nothing.clone(), Some(0)));
+    assert_eq!(trace("write", b""), (vec![2], nothing.clone(), Some(0)));
     assert_eq!(trace("show", &bytes), (text.into_bytes(), nothing.clone(), Some(0)));
-    assert_eq!(trace("show", &[3]), (vec![], nothing, Some(0)));
+    assert_eq!(trace("show", &[2]), (vec![], nothing, Some(0)));
 }
 
 #[test]
 fn the_program_says_what_is_wrong() {
     let unknown = format!("line 2: \"rep\u{fffd}rt\" is no operation, expected one of: {}", forms());
     for (argument, input, printed, why) in [
-        ("write", &b"report\ngrant"[..], "", "line 2: SIZE is missing, expected grant SIZE [queue QUEUE]"),
+        ("write", &b"report\ngrant"[..], "", "line 2: SIZE is missing, expected grant SIZE"),
         ("write", b"report\nrep\xffrt\n", "", &unknown),
-        ("show", &[3, 0, 1, 6, 0, 6, 1, 9, 0, 0, 0, 0, 0, 1, 9], "report\ngrant 0 queue 9\n", "record 3: no operation 9"),
+        ("show", &[2, 0, 1, 6, 0, 5, 1, 0, 0, 0, 0, 0, 1, 9], "report\ngrant 0\n", "record 3: no operation 9"),
         ("show", b"", "", "the trace is empty"),
         (
             "show",
-            &[3, 0, 1, 6, 0, 7, 5, 0, 0, 63, 255, 1, 2, 0, 1, 6],
+            &[2, 0, 1, 6, 0, 7, 5, 0, 0, 63, 255, 1, 2, 0, 1, 6],
             "report\n",
             "record 2: the store at 16383 ends at 16385, past the arena of 16,384 bytes",
         ),

@@ -1,8 +1,8 @@
 // The number of a refusal, and number and values of each answer.
 ghost use Rattle.std.specs.Prelude.{◌≡◌, get_or};
-ghost use Rattle.model.specs.Answers.{number_of, listed, reply_answer, report_answer, queue_listed, queue_answer};
+ghost use Rattle.model.specs.Answers.{number_of, listed, reply_answer, report_answer};
 
-use model::{QueueReport, QueueTotals, Refusal, Reply, Report, Totals};
+use model::{Refusal, Reply, Report, Totals};
 
 fn refusal_number(r: Refusal) -> u32
     ensures { result ≡ number_of r }
@@ -21,7 +21,6 @@ fn refusal_number(r: Refusal) -> u32
         Refusal::TooLong => 9,
         Refusal::BadProposal => 17,
         Refusal::BadAlignment => 13,
-        Refusal::WrongQueue => 12,
     }
 }
 
@@ -73,27 +72,6 @@ pub fn report_totals(r: Report) -> Totals
             free: 0,
             ready: 0,
             waiting: 0,
-        },
-    }
-}
-
-pub fn queue_number(r: QueueReport) -> u32
-    ensures { result ≡ (queue_answer r).number }
-{
-    match r {
-        QueueReport::Counted(_) => 0,
-        QueueReport::Refused(x) => refusal_number(x),
-    }
-}
-
-pub fn queue_totals(r: QueueReport) -> QueueTotals
-    ensures { queue_listed result ≡ (queue_answer r).values }
-{
-    match r {
-        QueueReport::Counted(t) => t,
-        QueueReport::Refused(_) => QueueTotals {
-            blocks: 0,
-            bytes: 0,
         },
     }
 }

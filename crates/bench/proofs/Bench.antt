@@ -12,7 +12,7 @@ use Rattle.model.specs.Plans.{plan, opens, refill, displaced, grant_slot, fits_i
 use Rattle.model.specs.Tables.{slot_record, row_record, later_records, room_bytes, view_slot, view_slots, view_group, view_holder, span_records_by, encode_by}
 use Rattle.model.specs.Tables.{view_rows_by, view_by, arena_right, sound_by, room_for}
 use Rattle.model.specs.Calls.{same_totals, call_by, carried_by, checked_by, set_up_by, set_up_right_by, unless}
-use Rattle.model.specs.Bench.{Entry, sheet01, sheet_aligned, sheet_handles, sheet_queues, sheet_sound, sheet, passes, right}
+use Rattle.model.specs.Bench.{Entry, sheet01, sheet_aligned, sheet_handles, sheet_sound, sheet, passes, right}
 
 -- the lines of a list, with all that they are computed from
 unfoldable due : List Entry → Bool
@@ -37,10 +37,6 @@ handle_lines : T (due sheet_handles)
 unfolding due sheet_handles
 handle_lines = tt
 
-queue_lines : T (due sheet_queues)
-unfolding due sheet_queues
-queue_lines = tt
-
 sound_lines : T (due sheet_sound)
 unfolding due sheet_sound
 sound_lines = tt
@@ -48,6 +44,5 @@ sound_lines = tt
 pub bench : T (every right sheet)
 unfolding sheet due
 bench =
-    every_append right sheet01 (sheet_aligned ++ (sheet_handles ++ (sheet_queues ++ sheet_sound))) first_lines
-    (every_append right sheet_aligned (sheet_handles ++ (sheet_queues ++ sheet_sound)) aligned_lines
-    (every_append right sheet_handles (sheet_queues ++ sheet_sound) handle_lines (every_append right sheet_queues sheet_sound queue_lines sound_lines)))
+    every_append right sheet01 (sheet_aligned ++ (sheet_handles ++ sheet_sound)) first_lines
+    (every_append right sheet_aligned (sheet_handles ++ sheet_sound) aligned_lines (every_append right sheet_handles sheet_sound handle_lines sound_lines))

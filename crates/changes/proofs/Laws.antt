@@ -15,7 +15,7 @@ use Rattle.masks.specs.Sets.{refilled, to_refill, lowest, taken, give_back}
 use Rattle.model.specs.declared.Alloc.{Alloc}
 use Rattle.model.specs.declared.Slot.{Slot}
 use Rattle.model.specs.declared.Slot.TheVariants.{Fresh, Idle, Live}
-use Rattle.model.specs.State.{Place, group, is_ready, is_waiting, is_live, count, disp, resized, pool_of, become, slot_number, rows, beginning}
+use Rattle.model.specs.State.{Place, group, is_ready, is_waiting, is_live, count, disp, pool_of, become, slot_number, rows, beginning}
 use Rattle.model.specs.Tables.{row_at, masks_layout, slot_record, later_records, span_records, encode, row_record_bytes}
 use Rattle.model.specs.Plans.{Site, turn_ready, refill, grant_slot, grant_in, vacant, release_at}
 use Rattle.model.proofs.Tables.{masks_laws}
@@ -25,7 +25,7 @@ use Rattle.model.proofs.Counts.{mask-ones, ones-live, none-live}
 use Rattle.model.proofs.Formed.{any_middle}
 use Rattle.model.proofs.Reserve as reserve
 use Rattle.rows.specs.declared.Block.{Block}
-use Rattle.rows.specs.Rows.{block_of, Holds, Offers}
+use Rattle.rows.specs.Rows.{block_of, resized, Holds, Offers}
 use Rattle.rows.proofs.Rooms.{group-first}
 use Rattle.rows.proofs.Spans.{dropped-encode}
 use Rattle.rows.proofs.Held.{held_fits, held_first, held_class, held_slot, taken_begins, block_taken}
@@ -144,13 +144,13 @@ same_records (x ∷ xs) (y ∷ ys) e h (suc j) =
 
 -- ---- a slot is taken
 
-module _ (row i c who v n : ℕ) (g : Site) (t : List ℕ) (o : Offers masks_layout row t i c g) where
+module _ (row i c v n : ℕ) (g : Site) (t : List ℕ) (o : Offers masks_layout row t i c g) where
   -- the place that is taken, and how
   abbrev q : Place
-  q = grant_in row c who v n g
+  q = grant_in row c v n g
 
-  k : reserve.Taken row c who v n g q
-  k = reserve.grant-taken row c who v n g o.spare
+  k : reserve.Taken row c v n g q
+  k = reserve.grant-taken row c v n g o.spare
 
   -- the records from the group on
   here : List ℕ
@@ -190,7 +190,7 @@ module _ (row i c who v n : ℕ) (g : Site) (t : List ℕ) (o : Offers masks_lay
   masks-after =
       ap (λ ss. taken (masks_of ss)) k.slots
       ∙ masks-taken q.lower k.old q.state q.upper k.ready
-      (subst (λ x. T (is_live x)) (sym k.state) (reserve.grant-live c who v n (beginning row q) k.old))
+      (subst (λ x. T (is_live x)) (sym k.state) (reserve.grant-live c v n (beginning row q) k.old))
       (ap (λ ss. lowest (masks_of ss)) (sym k.slots) ∙ lowest-site)
 
   stored-site : stored (row_at i) (masks_of (q.lower ++ (q.state ∷ q.upper))) (slot_number q) q.state t ≡ encode row (pool_of q)
@@ -209,40 +209,40 @@ module _ (row i c who v n : ℕ) (g : Site) (t : List ℕ) (o : Offers masks_lay
       (same_records ss rs (sym l) h j).0 (same_records ss rs (sym l) h (suc j)).1
 
 -- over what the calls give: the masks, the slot that is taken, and the room after it
-module _ (i c who v n : ℕ) (t : List ℕ) (m₀ m : Masks) (e₀ : m₀ ≡ masks_in (drop (row_at i) t)) (e : m ≡ refilled m₀) where
+module _ (i c v n : ℕ) (t : List ℕ) (m₀ m : Masks) (e₀ : m₀ ≡ masks_in (drop (row_at i) t)) (e : m ≡ refilled m₀) where
   -- what the code needs: a slot is ready, and its number is one of a group
   pub ready_number : (row : ℕ) (g : Site) → Offers masks_layout row t i c g → (0 < m.ready) × (lowest m < 31)
   unfolding here
   ready_number row g o =
-      let f : m ≡ masks_of (refill g.slots) = e ∙ ap refilled e₀ ∙ masks-site row i c who v n g t o in
+      let f : m ≡ masks_of (refill g.slots) = e ∙ ap refilled e₀ ∙ masks-site row i c v n g t o in
       let r : T (any is_ready (refill g.slots)) = reserve.refill_ready g.slots o.spare in (
         rw f (mask_pos (map is_ready (refill g.slots)) (rw (any-map (λ b. b) is_ready (refill g.slots)) r)),
-        rw f (omega (arith, lowest-site row i c who v n g t o, inside row i c who v n g t o, few row i c who v n g t o, reserve.refill-length g.slots)),
+        rw f (omega (arith, lowest-site row i c v n g t o, inside row i c v n g t o, few row i c v n g t o, reserve.refill-length g.slots)),
       )
 
   -- as many as become ready first
   pub refilled-site : (row : ℕ) (g : Site) → Offers masks_layout row t i c g → to_refill m₀ ≡ refills g.slots
   unfolding here
-  refilled-site row g o = ap to_refill e₀ ∙ refill-site row i c who v n g t o
+  refilled-site row g o = ap to_refill e₀ ∙ refill-site row i c v n g t o
 
   -- the taken slot
   pub taken_slot : (row : ℕ) (g : Site) → Offers masks_layout row t i c g → (j : ℕ) (x₀ : Slot) (a : Alloc) (m' : Masks) (u : List ℕ) → j ≡ lowest m
-      → x₀ ≡ slot_in m j (drop (row_at i) t) → Live a ≡ grant_slot c who v n (row * i + 16 + j * slot_bytes c) x₀ → m' ≡ taken m → u ≡ stored (row_at i) m' j (Live a) t
-      → (◌≡◌ {A = Block} (record { first = i; class = c; slot = j; alloc = a }) (block_of row (grant_in row c who v n g)))
-      × (u ≡ encode row (pool_of (grant_in row c who v n g)))
+      → x₀ ≡ slot_in m j (drop (row_at i) t) → Live a ≡ grant_slot c v n (row * i + 16 + j * slot_bytes c) x₀ → m' ≡ taken m → u ≡ stored (row_at i) m' j (Live a) t
+      → (◌≡◌ {A = Block} (record { first = i; class = c; slot = j; alloc = a }) (block_of row (grant_in row c v n g)))
+      × (u ≡ encode row (pool_of (grant_in row c v n g)))
   unfolding here
   taken_slot row g o j x₀ a m' u ej ex ea em eu =
-      let z : Place = grant_in row c who v n g in
-      let f : m ≡ masks_of (refill g.slots) = e ∙ ap refilled e₀ ∙ masks-site row i c who v n g t o in
-      let fj : j ≡ slot_number z = ej ∙ ap lowest f ∙ lowest-site row i c who v n g t o in
-      let fx : x₀ ≡ (k row i c who v n g t o).old = ex ∙ ap₂ (λ m j. slot_in m j (drop (row_at i) t)) f fj ∙ slot_site row i c who v n g t o in
+      let z : Place = grant_in row c v n g in
+      let f : m ≡ masks_of (refill g.slots) = e ∙ ap refilled e₀ ∙ masks-site row i c v n g t o in
+      let fj : j ≡ slot_number z = ej ∙ ap lowest f ∙ lowest-site row i c v n g t o in
+      let fx : x₀ ≡ (k row i c v n g t o).old = ex ∙ ap₂ (λ m j. slot_in m j (drop (row_at i) t)) f fj ∙ slot_site row i c v n g t o in
       let fb : row * i + 16 + j * slot_bytes c ≡ beginning row z =
-      ap₂ (λ r s. row * r + 16 + s * slot_bytes c) o.first fj ∙ taken_begins row i c who v n g in
-      let fa : Live a ≡ z.state = ea ∙ ap₂ (grant_slot c who v n) fb fx ∙ sym (k row i c who v n g t o).state in
-      let fm : m' ≡ masks_of (z.lower ++ (z.state ∷ z.upper)) = em ∙ ap taken f ∙ masks-after row i c who v n g t o in (
-        block_taken row i c who v n g j a o.first fj fa,
+      ap₂ (λ r s. row * r + 16 + s * slot_bytes c) o.first fj ∙ taken_begins row i c v n g in
+      let fa : Live a ≡ z.state = ea ∙ ap₂ (grant_slot c v n) fb fx ∙ sym (k row i c v n g t o).state in
+      let fm : m' ≡ masks_of (z.lower ++ (z.state ∷ z.upper)) = em ∙ ap taken f ∙ masks-after row i c v n g t o in (
+        block_taken row i c v n g j a o.first fj fa,
         eu ∙ ap₂ (λ m j. stored (row_at i) m j (Live a) t) fm fj
-            ∙ ap (λ x. stored (row_at i) (masks_of (z.lower ++ (z.state ∷ z.upper))) (slot_number z) x t) fa ∙ stored-site row i c who v n g t o,
+            ∙ ap (λ x. stored (row_at i) (masks_of (z.lower ++ (z.state ∷ z.upper))) (slot_number z) x t) fa ∙ stored-site row i c v n g t o,
       )
 
 -- ---- a slot is given back
@@ -333,9 +333,9 @@ module _ (row : ℕ) (t : List ℕ) (b : Block) (p : Place) (h : Holds masks_lay
 
     -- ---- a live slot gets another size
 
-    pub resized_slot : (n : ℕ) (a : Alloc) (u : List ℕ) → Live a ≡ resized p.state n → u ≡ stored (row_at b.first) m₀ b.slot (Live a) t
-        → u ≡ encode row (pool_of (become p (resized p.state n)))
+    pub resized_slot : (n : ℕ) (a : Alloc) (u : List ℕ) → Live a ≡ resized p n → u ≡ stored (row_at b.first) m₀ b.slot (Live a) t
+        → u ≡ encode row (pool_of (become p (resized p n)))
     resized_slot n a u ea eu =
-        eu ∙ rw (e₀ ∙ masks-group ∙ masks-resized p.lower p.state (resized p.state n) p.upper h.live tt, first_row_lem, slot, ea, h.bytes)
-        (stored-encode row h.pos p.before p.cls p.lower p.upper p.lower p.upper (resized p.state n) p.state p.after f.before refl
+        eu ∙ rw (e₀ ∙ masks-group ∙ masks-resized p.lower p.state (resized p n) p.upper h.live tt, first_row_lem, slot, ea, h.bytes)
+        (stored-encode row h.pos p.before p.cls p.lower p.upper p.lower p.upper (resized p n) p.state p.after f.before refl
         refl refl refl)

@@ -2,10 +2,10 @@
 ghost use Rattle.std.specs.Prelude.{◌≡◌, ℕ, ◌+◌, ◌≤◌};
 ghost use Rattle.mem.specs.Lists.{any};
 ghost use Rattle.classes.specs.Classes.{Lawful, slot_bytes};
-ghost use Rattle.model.specs.State.{Place, resized, pool_of, become};
+ghost use Rattle.model.specs.State.{Place, pool_of, become};
 ghost use Rattle.model.specs.Plans.{Site, grant_in, release_at};
 ghost use Rattle.model.specs.Tables.{masks_layout, encode};
-ghost use Rattle.rows.specs.Rows.{block_of, Holds, Offers};
+ghost use Rattle.rows.specs.Rows.{block_of, resized, Holds, Offers};
 ghost use Rattle.totals.specs.Changes.{refills};
 ghost use Rattle.changes.specs.Changes.{left_as};
 
@@ -26,28 +26,20 @@ pub enum Left {
     Dropped { ready: usize, waiting: usize },
 }
 
-// Takes the lowest ready slot of the group of class c at row i, for a queue's n bytes. If none is ready, all waiting slots become ready first.
-pub fn take_slot(
-    row: usize,
-    room: &mut [u8],
-    i: usize,
-    c: usize,
-    queue: u8,
-    code: u8,
-    n: usize,
-) -> Taken
+// Takes the lowest ready slot of the group of class c at row i, for n bytes. If none is ready, all waiting slots become ready first.
+pub fn take_slot(row: usize, room: &mut [u8], i: usize, c: usize, code: u8, n: usize) -> Taken
     requires offers { (g : Site) × Offers masks_layout row room.old i c g }
     requires code_bound { (code ≤ 9) × (n + 4 ≤ slot_bytes c) }
     requires lawful { Lawful row }
     ensures { (g : Site) → Offers masks_layout row room.old i c g
-        → (result.block ≡ block_of row (grant_in row c queue code n g)) × (room.new ≡ encode row (pool_of (grant_in row c queue code n g)))
+        → (result.block ≡ block_of row (grant_in row c code n g)) × (room.new ≡ encode row (pool_of (grant_in row c code n g)))
         × (result.refilled ≡ refills g.slots) }
 {
     let old = records::masks_at(room, i);
     let m = old.refill();
     let j = m.lowest();
     let begin = row * i + 16 + j as usize * (16 * classes::units(c));
-    let a = placing::grant_slot(c, queue, code, n, begin, records::slot_at(room, i, m, j));
+    let a = placing::grant_slot(c, code, n, begin, records::slot_at(room, i, m, j));
     records::store(room, i, m.take(), j as usize, Slot::Live(a));
     Taken {
         block: Block {
@@ -96,7 +88,7 @@ pub fn give_slot(row: usize, room: &mut [u8], b: Block) -> Left
 pub fn resize_slot(room: &mut [u8], b: Block, n: usize)
     requires { (row : ℕ) × (p : Place) × Holds masks_layout row room.old b p }
     ensures { (row : ℕ) (p : Place) → Holds masks_layout row room.old b p
-        → room.new ≡ encode row (pool_of (become p (resized p.state n))) }
+        → room.new ≡ encode row (pool_of (become p (resized p n))) }
 {
     let m = records::masks_at(room, b.first);
     let mut a = b.alloc;

@@ -7,18 +7,18 @@ use Rattle.mem.proofs.Tests.{T_true, true-T, and_both, every-not, choose_case}
 use Rattle.mem.proofs.Laws.{put_all, put-length, put-before, put-past, zeros-length, zeros-put}
 use Rattle.model.specs.State.{Pool, Place, is_live, well_formed, start_of, pool_of, rows}
 use Rattle.model.specs.Answers.{done}
-use Rattle.model.specs.Plans.{fresh_pool, Plan, releases, reports, queued, plan_for, plan, on_handle, release_at, release, report, reports_queue, report_queue}
+use Rattle.model.specs.Plans.{fresh_pool, Plan, releases, reports, plan, on_handle, release_at, release, report}
 use Rattle.model.specs.Tables.{arena_right}
 use Rattle.model.specs.Calls.{Form, FormLaws, Outcome, set_up_right_by, applied, written, call_by}
 use Rattle.model.proofs.Formed.{release_formed}
 use Rattle.model.proofs.Fresh.{fresh_formed, set_up-done}
-use Rattle.model.proofs.Calls.{call-sound, call-queued, carried_whole, measure-keeps, report-keeps, queue-report-keeps}
+use Rattle.model.proofs.Calls.{call-sound, carried_whole, measure-keeps, report-keeps}
 use Rattle.claims.specs.Demand2 as demand2
-use Rattle.claims.specs.AsSaid.{MadeFresh, SetsUpAsSaid, SetsUpAsPlanned, ReportsAsSaid, QueueReportsAsSaid, ZeroedOnly, NeverAtZero, ReadsOnly, Waits, Goes, ReleasesAsSaid}
+use Rattle.claims.specs.AsSaid.{MadeFresh, SetsUpAsSaid, SetsUpAsPlanned, ReportsAsSaid, ZeroedOnly, NeverAtZero, ReadsOnly, Waits, Goes, ReleasesAsSaid}
 use Rattle.model.proofs.Handles.{on_present}
 use Rattle.claims.proofs.Cases.{release_parts}
 use Rattle.claims.proofs.Demand1.{starts_found}
-use Rattle.claims.proofs.Demand2.{set_up_accepted, AcceptedFor, accepted_for, releases_exactly}
+use Rattle.claims.proofs.Demand2.{set_up_accepted, Accepted, accepted, releases_exactly}
 
 -- zeros written from a place on
 zeroed : (a b : List ℕ) (p k : ℕ) → b ≡ put p (zeros k) a → ZeroedOnly a b p k
@@ -59,9 +59,8 @@ sets_up_as_planned row pos F L a t s =
 
 pub reads_only : (row : ℕ) → 0 < row → (F : Form) → FormLaws row F → ReadsOnly row F
 reads_only row pos F L = record {
-  measured = λ a t who h. let k = measure-keeps row F L a t who h in record { arena = k.arena; kept = k.kept };
+  measured = λ a t h. let k = measure-keeps row F L a t h in record { arena = k.arena; kept = k.kept };
   reported = λ a t. let k = report-keeps row F L a t in record { arena = k.arena; kept = k.kept };
-  queue-reported = λ a t who. let k = queue-report-keeps row F L a t who in record { arena = k.arena; kept = k.kept };
 }
 
 pub reports_as_said : (row : ℕ) (F : Form) → ReportsAsSaid row F
@@ -69,13 +68,6 @@ unfolding plan report
 reports_as_said row F a t s =
     ap (λ (r : Outcome F.Kept). r.answer)
     (call-sound row F a t (T_true (F.sound (length a) t) s) reports tt ∙ carried_whole row F a t (report row (F.view t)) refl)
-
-pub queue-reports_as_said : (row : ℕ) (F : Form) → QueueReportsAsSaid row F
-unfolding plan_for report_queue
-queue-reports_as_said row F a t who s h =
-    ap (λ (r : Outcome F.Kept). r.answer)
-    (call-queued row F a t (T_true (F.sound (length a) t) s) who reports_queue (omega (arith, h))
-    ∙ carried_whole row F a t (report_queue row (F.view t) who) refl)
 
 -- ---- release
 
@@ -94,27 +86,26 @@ module _ (row : ℕ) (pos : 0 < row) (F : Form) (L : FormLaws row F) (a : List �
       (ap (λ (r : Outcome F.Kept). r.arena) done)
 
 -- the plan of a call on the live block of a handle
-module _ (row : ℕ) (pos : 0 < row) (P : Pool) (w : T (well_formed P)) (a : List ℕ) (who h : ℕ) (p : Place)
-    (i : demand2.Intact row a P who h p) where
-  pub on_intact : (f : Place → Plan) → on_handle row P who h f ≡ f p
-  on_intact f = on_present row pos P who h f p (starts_found row pos P (start_of h) p w i.live.here) i.live.live i.present i.own
+module _ (row : ℕ) (pos : 0 < row) (P : Pool) (w : T (well_formed P)) (a : List ℕ) (h : ℕ) (p : Place) (i : demand2.Intact row a P h p) where
+  pub on_intact : (f : Place → Plan) → on_handle row P h f ≡ f p
+  on_intact f = on_present row pos P h f p (starts_found row pos P (start_of h) p w i.live.here) i.live.live i.present
 
   pub place_formed : T (well_formed (pool_of p))
   place_formed = subst (λ Q. T (well_formed Q)) (sym i.live.here.slotted.pool) w
 
 pub releases_as_said : (row : ℕ) → 0 < row → (F : Form) → FormLaws row F → ReleasesAsSaid row F
-unfolding plan_for release
-releases_as_said row pos F L a t who h z =
-    let y : AcceptedFor row pos F L a t who (releases h) = accepted_for row pos F L a t who (releases h) z in
+unfolding plan release
+releases_as_said row pos F L a t h z =
+    let y : Accepted row pos F L a t (releases h) = accepted row pos F L a t (releases h) tt z in
     let w : T (well_formed (F.view t)) = (L.only (length a) t y.sound-tables).0.formed in
-    let (p, i) = (releases_exactly row pos F L a t who h y.sound-tables).0 z in
-    let l : call_by row F a t (queued who (releases h)) ≡ applied F a (release_at row p) =
-    y.left ∙ ap (applied F a) (on_intact row pos (F.view t) w a who h p i (release_at row)) in (
+    let (p, i) = (releases_exactly row pos F L a t h y.sound-tables).0 z in
+    let l : call_by row F a t (releases h) ≡ applied F a (release_at row p) =
+    y.left ∙ ap (applied F a) (on_intact row pos (F.view t) w a h p i (release_at row)) in (
       p,
       record {
         block = i;
         value = ap (λ (r : Outcome F.Kept). r.answer.values) l ∙ ap (λ r. r.values) (release_parts row p).1;
-        left = released_as_said row pos F L a p (place_formed row pos (F.view t) w a who h p i) i.live.live (call_by row F a t (queued who (releases h))) l;
+        left = released_as_said row pos F L a p (place_formed row pos (F.view t) w a h p i) i.live.live (call_by row F a t (releases h)) l;
       },
     )
 

@@ -7,7 +7,7 @@ use Rattle.mem.proofs.Laws.{zeros-length}
 use Rattle.classes.specs.Classes.{size_limit}
 use Rattle.model.specs.declared.Refusal.TheVariants.{TooLarge}
 use Rattle.model.specs.Answers.{refusal}
-use Rattle.model.specs.Plans.{grants, queued, fresh_pool, plan_for, plan, grant_as}
+use Rattle.model.specs.Plans.{grants, fresh_pool, plan, grant_as}
 use Rattle.model.specs.Calls.{Form, FormLaws, call_by, keeps, carried_by, unless}
 use Rattle.model.proofs.Fresh.{set_up-done, set_up-sound}
 use Rattle.model.proofs.Calls.{call-sound, same_room}
@@ -15,9 +15,9 @@ use Rattle.claims.specs.Bench.{TooLargeAnywhere}
 
 -- on sound tables
 too_large : (row : ℕ) (F : Form) → FormLaws row F → (a : List ℕ) (t : F.Kept) → F.sound (length a) t ≡ true
-    → call_by row F a t (queued 0 (grants 131052)) ≡ keeps (refusal TooLarge) a t
-unfolding carried_by unless plan plan_for grant_as size_limit choose
-too_large row F L a t s = call-sound row F a t s (queued 0 (grants 131052)) tt ∙ ap (keeps (refusal TooLarge) a) (same_room row F a t s L)
+    → call_by row F a t (grants 131052) ≡ keeps (refusal TooLarge) a t
+unfolding carried_by unless plan grant_as size_limit choose
+too_large row F L a t s = call-sound row F a t s (grants 131052) tt ∙ ap (keeps (refusal TooLarge) a) (same_room row F a t s L)
 
 pub too_large_anywhere : (row : ℕ) → 0 < row → (F : Form) → FormLaws row F → TooLargeAnywhere row F
 too_large_anywhere row pos F L a t h =

@@ -5,19 +5,18 @@ use borrow.Author.Tests.{ltb-true}
 use Rattle.mem.specs.Lists.{any}
 use Rattle.mem.proofs.Tests.{choose_case, true-T}
 use Rattle.classes.specs.Classes.{class_of, slots_of, rows_of, size_limit}
-use Rattle.classes.specs.Alignments.{code_of, enlarged}
+use Rattle.classes.specs.Alignments.{code_of, enlarged, Askable}
 use Rattle.classes.proofs.Alignments.{code_most}
 use Rattle.model.specs.declared.Slot.{Slot}
 use Rattle.model.specs.declared.Slot.TheVariants.{Fresh}
 use Rattle.model.specs.declared.Refusal.{Refusal}
 use Rattle.model.specs.declared.Refusal.TheVariants.{BadArena, Unsound, TooLarge, NoSuchBlock, AlreadyFree, Stale, HeaderDamaged, Overrun, NoRoom}
-use Rattle.model.specs.declared.Refusal.TheVariants.{NotInPlace, TooLong, BadProposal, BadAlignment, WrongQueue}
-use Rattle.model.specs.State.{Pool, Place, group, is_live, align, queues, queue, well_formed, start_of, pool_of, become, beginning, start, handle}
+use Rattle.model.specs.declared.Refusal.TheVariants.{NotInPlace, TooLong, BadProposal, BadAlignment}
+use Rattle.model.specs.State.{Pool, Place, group, is_live, align, well_formed, start_of, pool_of, become, beginning, start, handle}
 use Rattle.model.specs.Answers.{number_of, done}
 use Rattle.model.specs.Plans.{Plan, Site, refused, refused_on, refill, grant_in, reserve, grant_at, grant_as, grant_aligned, lookup, on_handle, release_at, fits_in_place}
-use Rattle.model.specs.Plans.{Askable, Request, no_queue, plan_for, plan}
 use Rattle.model.specs.Plans.{on_handle_for, resize_at, move_to, move_at, in_place_at, resize_in_place, move, fresh_pool}
-use Rattle.model.specs.Plans.{Call, sets_up, reports, queued}
+use Rattle.model.specs.Plans.{Call, sets_up, grants, grants_aligned, releases, resizes_in_place, moves, measures, reports, grants_list}
 use Rattle.model.proofs.Reserve.{Open, New, site_found_lem, Served, grant-live}
 use Rattle.model.proofs.Lookup.{lookup_found}
 use Rattle.model.proofs.Formed.{on_handle_lem, on_handle_for_lem}
@@ -38,19 +37,18 @@ refuses NoRoom e = omega arith
 refuses TooLong e = omega arith
 refuses BadProposal e = omega arith
 refuses BadAlignment e = omega arith
-refuses WrongQueue e = omega arith
 
 -- set up, and the other calls alike
 pub by_call : (M : Call → Type 0) → M sets_up → ((c : Call) → Asks c → M c) → (c : Call) → M c
 by_call M s f sets_up = s
+by_call M s f (grants n) = f (grants n) tt
+by_call M s f (grants_aligned n b) = f (grants_aligned n b) tt
+by_call M s f (releases h) = f (releases h) tt
+by_call M s f (resizes_in_place h n) = f (resizes_in_place h n) tt
+by_call M s f (moves h n) = f (moves h n) tt
+by_call M s f (measures h) = f (measures h) tt
 by_call M s f reports = f reports tt
-by_call M s f (queued who r) = f (queued who r) tt
-
--- a queue's call: by a number past the last, and by one that there is
-pub on_queue : (row : ℕ) (P : Pool) (M : Plan → Type 0) (who : ℕ) (r : Request) → M (no_queue r P) → (who < queues → M (plan_for row P who r))
-    → M (plan row P (queued who r))
-unfolding plan
-on_queue row P M who r wrong right = choose_case M (ltb who queues) (plan_for row P who r) (no_queue r P) (λ e. right (ltb-true who queues e)) (λ _. wrong)
+by_call M s f (grants_list total cap places ns) = f (grants_list total cap places ns) tt
 
 -- a release, whether its group stays or goes
 pub release_parts : (row : ℕ) (p : Place) → ((release_at row p).checks ≡ some p) × ((release_at row p).answer ≡ done (0 ∷ []))
@@ -59,82 +57,79 @@ release_parts row p =
     choose_case (λ (r : Plan). (r.checks ≡ some p) × (r.answer ≡ done (0 ∷ []))) (any is_live (p.lower ++ p.upper)) _ _
     (λ e. (refl, refl)) (λ e. (refl, refl))
 
--- the live block that a queue's call names by its handle
-pub record Named (row : ℕ) (P : Pool) (who h : ℕ) (p : Place) : Type 0 where
+-- the live block that a call names by its handle
+pub record Named (row : ℕ) (P : Pool) (h : ℕ) (p : Place) : Type 0 where
   pub found : lookup row P (start_of h) ≡ some p
   pub pool : pool_of p ≡ P
   pub live : T (is_live p.state)
   pub starts : start row p ≡ start_of h
   pub present : handle row p ≡ h
-  pub own : queue p.state ≡ who
 
 -- what holds of every refusal, and of what is done where nothing is refused
 module _ (row : ℕ) (pos : 0 < row) (P : Pool) (M : Plan → Type 0) (no : (r : Refusal) → M (refused r P)) where
-  pub on_named : (who h : ℕ) (f : Place → Plan) → ((p : Place) → Named row P who h p → M (f p)) → M (on_handle row P who h f)
-  on_named who h f k =
-      on_handle_lem row pos M P who h f no
-      (λ p e i l b o. k p (record { found = e; pool = i; live = l; starts = (lookup_found row pos P (start_of h) p e).2; present = b; own = o }))
+  pub on_named : (h : ℕ) (f : Place → Plan) → ((p : Place) → Named row P h p → M (f p)) → M (on_handle row P h f)
+  on_named h f k =
+      on_handle_lem row pos M P h f no
+      (λ p e i l b. k p (record { found = e; pool = i; live = l; starts = (lookup_found row pos P (start_of h) p e).2; present = b }))
 
   -- a grant with an alignment that the tables keep
-  pub on_grant : (who k n : ℕ) → who < queues → 1 ≤ k → k ≤ 9 → ((q : Place) → Askable who k n → reserve row P who k n ≡ some q → M (grant_at row P (some q)))
-      → M (grant_as row P who k n)
+  pub on_grant : (k n : ℕ) → 1 ≤ k → k ≤ 9 → ((q : Place) → Askable k n → reserve row P k n ≡ some q → M (grant_at row P (some q)))
+      → M (grant_as row P k n)
   unfolding grant_as
-  on_grant who k n b s l f =
+  on_grant k n s l f =
       choose_case M (leb size_limit (enlarged k n)) _ _ (λ e. no TooLarge)
-      (λ e. go (record { some-queue = b; some_code = s; last_code = l; small = leb-false size_limit (enlarged k n) e }) (reserve row P who k n) refl)
+      (λ e. go (record { some_code = s; last_code = l; small = leb-false size_limit (enlarged k n) e }) (reserve row P k n) refl)
     where
-      go : Askable who k n → (r : Option Place) → reserve row P who k n ≡ r → M (grant_at row P r)
+      go : Askable k n → (r : Option Place) → reserve row P k n ≡ r → M (grant_at row P r)
       go h none e = no NoRoom
       go h (some q) e = f q h e
 
   -- an aligned grant is one of the alignment's code, if it has one
-  pub on_aligned : (who n b : ℕ) → who < queues
-      → ((q : Place) → Askable who (code_of b) n → reserve row P who (code_of b) n ≡ some q → M (grant_at row P (some q))) → M (grant_aligned row P who n b)
+  pub on_aligned : (n b : ℕ) → ((q : Place) → Askable (code_of b) n → reserve row P (code_of b) n ≡ some q → M (grant_at row P (some q)))
+      → M (grant_aligned row P n b)
   unfolding grant_aligned
-  on_aligned who n b o f =
-      choose_case M (ltb 0 (code_of b)) _ _ (λ e. on_grant who (code_of b) n o (ltb-true 0 (code_of b) e) (code_most b) f) (λ e. no BadAlignment)
+  on_aligned n b f =
+      choose_case M (ltb 0 (code_of b)) _ _ (λ e. on_grant (code_of b) n (ltb-true 0 (code_of b) e) (code_most b) f) (λ e. no BadAlignment)
 
   -- what is done with the block of a handle that is to have n bytes, which can be asked for
-  on_named_for : T (well_formed P) → (who h n : ℕ) (f : Place → Plan)
-      → ((p : Place) → Named row P who h p → Askable (queue p.state) (align p.state) n → M (f p)) → M (on_handle_for row P who h n f)
-  on_named_for w who h n f k =
-      on_handle_for_lem row pos M P who h n f w no
-      (λ p e i l b o. k p (record { found = e; pool = i; live = l; starts = (lookup_found row pos P (start_of h) p e).2; present = b; own = o }))
+  on_named_for : T (well_formed P) → (h n : ℕ) (f : Place → Plan) → ((p : Place) → Named row P h p → Askable (align p.state) n → M (f p))
+      → M (on_handle_for row P h n f)
+  on_named_for w h n f k =
+      on_handle_for_lem row pos M P h n f w no
+      (λ p e i l b. k p (record { found = e; pool = i; live = l; starts = (lookup_found row pos P (start_of h) p e).2; present = b }))
 
-  pub on_in_place : T (well_formed P) → (who h n : ℕ) → ((p : Place) → Named row P who h p → T (fits_in_place p n) → M (resize_at row p n))
-      → ((p : Place) → Named row P who h p → M (refused_on NotInPlace P p)) → M (resize_in_place row P who h n)
+  pub on_in_place : T (well_formed P) → (h n : ℕ) → ((p : Place) → Named row P h p → T (fits_in_place p n) → M (resize_at row p n))
+      → ((p : Place) → Named row P h p → M (refused_on NotInPlace P p)) → M (resize_in_place row P h n)
   unfolding resize_in_place in_place_at
-  on_in_place w who h n here elsewhere =
-      on_named_for w who h n (in_place_at row P n)
+  on_in_place w h n here elsewhere =
+      on_named_for w h n (in_place_at row P n)
       (λ p b _. choose_case M (fits_in_place p n) (resize_at row p n) (refused_on NotInPlace P p) (λ t. here p b (true-T (fits_in_place p n) t)) (λ _. elsewhere p b))
 
-  -- a move asks for the block's own queue and alignment
-  pub on_move : T (well_formed P) → (who h n : ℕ) → ((p : Place) → Named row P who h p → M (refused_on NoRoom P p))
-      → ((p q : Place) → Named row P who h p → Askable (queue p.state) (align p.state) n
-      → reserve row P (queue p.state) (align p.state) n ≡ some q → M (move_to row P p n (some q)))
-      → M (move row P who h n)
+  -- a move asks for the block's own alignment
+  pub on_move : T (well_formed P) → (h n : ℕ) → ((p : Place) → Named row P h p → M (refused_on NoRoom P p))
+      → ((p q : Place) → Named row P h p → Askable (align p.state) n → reserve row P (align p.state) n ≡ some q → M (move_to row P p n (some q)))
+      → M (move row P h n)
   unfolding move move_at
-  on_move w who h n full moved =
-      on_named_for w who h n (move_at row P n) (λ p b s. go p b s (reserve row P (queue p.state) (align p.state) n) refl)
+  on_move w h n full moved = on_named_for w h n (move_at row P n) (λ p b s. go p b s (reserve row P (align p.state) n) refl)
     where
-      go : (p : Place) → Named row P who h p → Askable (queue p.state) (align p.state) n
-          → (r : Option Place) → reserve row P (queue p.state) (align p.state) n ≡ r → M (move_to row P p n r)
+      go : (p : Place) → Named row P h p → Askable (align p.state) n → (r : Option Place) → reserve row P (align p.state) n ≡ r
+          → M (move_to row P p n r)
       go p b s none e = full p b
       go p b s (some q) e = moved p q b s e
 
 -- what a grant takes is live
-pub reserve-live : (row : ℕ) (P : Pool) (who k n : ℕ) (q : Place) → Served row P who k n q → T (is_live q.state)
-reserve-live row P who k n q v =
-    subst (λ x. T (is_live x)) (sym v.taken.state) (grant-live (class_of (enlarged k n)) who k n (beginning row q) v.taken.old)
+pub reserve-live : (row : ℕ) (P : Pool) (k n : ℕ) (q : Place) → Served row P k n q → T (is_live q.state)
+reserve-live row P k n q v =
+    subst (λ x. T (is_live x)) (sym v.taken.state) (grant-live (class_of (enlarged k n)) k n (beginning row q) v.taken.old)
 
 -- What a pool comes to is the same before a grant and with the slot that it takes in its old state, if slots that become ready, and a new
 -- group, change nothing.
 module _ {A : Type 0} (row : ℕ) (Q : Pool → A)
     (ready : (X : Pool) (c : ℕ) (ss : List Slot) (Y : Pool) → Q (X ++ (group c (refill ss) ∷ Y)) ≡ Q (X ++ (group c ss ∷ Y)))
     (new : (X : Pool) (c : ℕ) (Y : Pool) → Q (X ++ (group c (replicate (slots_of c) Fresh) ∷ Y)) ≡ Q (X ++ (fresh_pool (rows_of row c) ++ Y))) where
-  pub taken-same : (P : Pool) (who k n : ℕ) (q : Place) (v : Served row P who k n q) → Q (pool_of (become q v.taken.old)) ≡ Q P
+  pub taken-same : (P : Pool) (k n : ℕ) (q : Place) (v : Served row P k n q) → Q (pool_of (become q v.taken.old)) ≡ Q P
   unfolding grant_in
-  taken-same P who k n q v =
+  taken-same P k n q v =
       let s : Site = v.at in
       let c : ℕ = class_of (enlarged k n) in
       let x : Slot = v.taken.old in

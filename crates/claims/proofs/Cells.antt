@@ -13,8 +13,8 @@ use Rattle.classes.proofs.Laws.{rows_hold}
 use Rattle.model.specs.declared.Slot.{Slot}
 use Rattle.model.specs.declared.Slot.TheVariants.{Live}
 use Rattle.model.specs.declared.Damage.TheVariants.{Intact}
-use Rattle.model.specs.State.{Span, Pool, Place, free, group, is_live, disp, size, slot_sound, span_sound, well_formed, pool_of, slot_number, rows, owned}
-use Rattle.model.specs.State.{resized, become, start}
+use Rattle.model.specs.State.{Span, Pool, Place, free, group, is_live, disp, size, slot_sound, span_sound, well_formed, pool_of, slot_number, rows, owned, count}
+use Rattle.model.specs.State.{become, start, align}
 use Rattle.model.specs.Blocks.{reserved, header, first_spare, spare, guard, frame, header_right, guard_right, damage_in, owned_bytes, damage}
 use Rattle.model.specs.Plans.{fresh_pool}
 use Rattle.model.proofs.Tables.{group-slots}
@@ -313,15 +313,15 @@ module _ (row : ℕ) (pos : 0 < row) (p : Place) (f : Fits p) (l : T (is_live p.
       (simp (length-append, front_length row pos p f, due-length, zeros-length, header-length) (omega arith)) refl (agrees_packets bs) g
 
   -- its header and all behind the bytes that stay written anew, for another size
-  pub sized_agrees : (n : ℕ) → 16 * disp p.state + n + 4 ≤ slot_bytes p.cls → Agrees (cells row (pool_of p)) a
-      → Agrees (cells row (pool_of (become p (resized p.state n))))
+  pub resized : (n : ℕ) → 16 * disp p.state + n + 4 ≤ slot_bytes p.cls → Agrees (cells row (pool_of p)) a
+      → Agrees (cells row (pool_of (become p (Live (record { count = count p.state; disp = disp p.state; size = n; align = align p.state })))))
       (put (start row p + min (size p.state) n) (zeros (n - min (size p.state) n) ++ spare (reserved p.cls (disp p.state) n))
       (put (start row p - 4) (header p.cls (slot_number p) (disp p.state) n) a))
   unfolding slot_cells choose
-  sized_agrees n h g =
+  resized n h g =
       let m : ℕ = size p.state in
       let k : ℕ = min m n in
-      let x : Slot = resized p.state n in
+      let x : Slot = Live (record { count = count p.state; disp = disp p.state; size = n; align = align p.state }) in
       let h₀ : 16 * disp p.state + m + 4 ≤ slot_bytes p.cls = disp_inside p.cls p.state f.class f.state in
       let hs : List ℕ = header p.cls (slot_number p) (disp p.state) n in
       let g₁ : Agrees (lead ++ (head n ++ (packets k ++ (tail m k ++ back row p)))) (put (start row p - 4) hs a) =

@@ -11,27 +11,26 @@ use Rattle.classes.proofs.Alignments.{enlarged_least}
 use Rattle.model.specs.declared.Slot.{Slot}
 use Rattle.model.specs.declared.Slot.TheVariants.{Fresh, Idle, Live}
 use Rattle.model.specs.declared.Refusal.TheVariants.{BadArena, TooLarge, AlreadyFree, Stale, NotInPlace, NoRoom}
-use Rattle.model.specs.declared.Refusal.TheVariants.{TooLong, BadProposal, BadAlignment, WrongQueue}
+use Rattle.model.specs.declared.Refusal.TheVariants.{TooLong, BadProposal, BadAlignment}
 use Rattle.model.specs.declared.Damage.{Damage}
-use Rattle.model.specs.State.{Pool, Place, is_live, granted, count, align, queues, queue, well_formed, use_bits, start_of, pool_of, start, handle}
+use Rattle.model.specs.State.{Pool, Place, is_live, granted, count, align, well_formed, use_bits, start_of, pool_of, start, handle}
 use Rattle.model.specs.Blocks.{damage_in}
 use Rattle.model.specs.Answers.{number_of, refusal}
-use Rattle.model.specs.Plans.{Request, grants, grants_aligned, releases, resizes_in_place, moves, measures, grants_list, reports_queue}
-use Rattle.model.specs.Plans.{Plan, Call, sets_up, reports, queued, values_of, values_asked, no_queue, plan_for, report_queue}
+use Rattle.model.specs.Plans.{Plan, Call, sets_up, grants, grants_aligned, releases, resizes_in_place, moves, measures, reports, grants_list, values_of}
 use Rattle.model.specs.Plans.{refused, refused_on, plan, NoPlace}
 use Rattle.model.specs.Proposals.{entries, accepts, plannable}
 use Rattle.model.specs.Plans.{reserve_all, grant_all_at, grant_list}
-use Rattle.model.specs.Plans.{reserve, grant_at, grant_as, grant_aligned, lookup, new_size, on_block, by_handle, by_queue, on_handle, release_at, on_handle_for, resize_at}
+use Rattle.model.specs.Plans.{reserve, grant_at, grant_as, grant_aligned, lookup, new_size, on_block, by_handle, on_handle, release_at, on_handle_for, resize_at}
 use Rattle.model.specs.Plans.{move_to, move_at, fits_in_place, in_place_at, measure_at}
 use Rattle.model.specs.Calls as calls
 use Rattle.model.specs.Calls.{Form, FormLaws, Stands, Outcome, keeps, applied, unless, set_up_right_by, call_by, carried_by, checked_by, set_up_by}
 use Rattle.model.proofs.Lookup.{fits, lookup-start, lookup_found}
 use Rattle.model.proofs.Formed.{code_kept}
 use Rattle.model.proofs.Lowest.{reserve-none, reserve-some}
-use Rattle.claims.specs.Demand1.{StaysInPlace, Reason, when, FirstDue, RefusedValues, six-zeros, two_zeros}
+use Rattle.claims.specs.Demand1.{StaysInPlace, Reason, when, FirstDue, RefusedValues, six-zeros}
 use Rattle.claims.specs.Demand1.{one_zero, StartsAt, LiveAt, header_due, guard_due, TooLargeAt}
-use Rattle.claims.specs.Demand1.{already_free, stale, other_queue, header_damaged, overrun, block_reasons, size_reasons, NotServed, NoRoomToMove, new_size_reasons}
-use Rattle.claims.specs.Demand1.{list_reasons, asked_reasons}
+use Rattle.claims.specs.Demand1.{already_free, stale, header_damaged, overrun, block_reasons, size_reasons, NotServed, NoRoomToMove, new_size_reasons}
+use Rattle.claims.specs.Demand1.{list_reasons}
 use Rattle.claims.specs.Demand1.{NoAlignment, Meets, unsound_reason, reasons, Demand1}
 use Rattle.claims.proofs.StaysInPlace.{in_place_serves}
 use Rattle.claims.proofs.Codes.{no_code, some_code, enlarged-align, enlarged_code}
@@ -109,7 +108,7 @@ module _ (row : ℕ) (pos : 0 < row) (P : Pool) (h : ℕ) where
 
 -- the value of a call that gives one, where it is refused
 gives_one : (c : Call) → values_of c ≡ 1 → RefusedValues c (0 ∷ [])
-gives_one c v = one_zero {c = c} (λ e. omega (arith, v, ap values_of e)) (λ who e. omega (arith, v, ap values_of e))
+gives_one c v = one_zero {c = c} (λ e. omega (arith, v, ap values_of e))
 
 module _ (row : ℕ) (pos : 0 < row) (F : Form) (L : FormLaws row F) (a : List ℕ) (t : F.Kept) where
   -- what is claimed of a call, of the reasons that are left to test and a result
@@ -171,29 +170,29 @@ module _ (row : ℕ) (pos : 0 < row) (F : Form) (L : FormLaws row F) (a : List �
         (λ e. later_right c (λ d. omega (arith, due.1 d, leb-false size_limit m e)) r)
 
     -- a grant with the code k
-    granted-right : (who k n : ℕ) {D E : Type 0} → (size_limit ≤ enlarged k n) ↔ D → NoPlace row P (class_of (enlarged k n)) ↔ E
-        → Right c (when TooLarge D ∷ when NoRoom E ∷ []) (carried_by row F a t (grant_as row P who k n))
+    granted-right : (k n : ℕ) {D E : Type 0} → (size_limit ≤ enlarged k n) ↔ D → NoPlace row P (class_of (enlarged k n)) ↔ E
+        → Right c (when TooLarge D ∷ when NoRoom E ∷ []) (carried_by row F a t (grant_as row P k n))
     unfolding grant_as carried_by unless
-    granted-right who k n {D} {E} large full = small-right _ (enlarged k n) large (room (reserve row P who k n) refl)
+    granted-right k n {D} {E} large full = small-right _ (enlarged k n) large (room (reserve row P k n) refl)
       where
-        room : (r : Option Place) → reserve row P who k n ≡ r → Right c (when NoRoom E ∷ []) (carried_by row F a t (grant_at row P r))
-        room none e = refused-right (full.0 (reserve-none row pos P who k n e))
-        room (some q) e = later_right c (λ d. reserve-some row P who k n q e (full.1 d)) (done-right c _ refl)
+        room : (r : Option Place) → reserve row P k n ≡ r → Right c (when NoRoom E ∷ []) (carried_by row F a t (grant_at row P r))
+        room none e = refused-right (full.0 (reserve-none row pos P k n e))
+        room (some q) e = later_right c (λ d. reserve-some row P k n q e (full.1 d)) (done-right c _ refl)
 
   -- and on a block by its handle
-  module _ (s : Sound) (c : Call) (v : values_of c ≡ 1) (who h : ℕ) where
+  module _ (s : Sound) (c : Call) (v : values_of c ≡ 1) (h : ℕ) where
     abbrev o : ℕ
     o = start_of h
 
     -- a live block's header and guard
     intact_right : (rs : List Reason) (p : Place) (f : Plan) → f.checks ≡ some p → LiveAt row P o p
-        → Right c rs (applied F a f) → Right c (header_damaged row a P who h ∷ overrun row a P who h ∷ rs) (carried_by row F a t f)
+        → Right c rs (applied F a f) → Right c (header_damaged row a P h ∷ overrun row a P h ∷ rs) (carried_by row F a t f)
     unfolding carried_by unless damage_in
     intact_right rs p f k l r =
         rw k
-        (choose_case (M (header_damaged row a P who h ∷ overrun row a P who h ∷ rs)) (header_due row a p) _ _
+        (choose_case (M (header_damaged row a P h ∷ overrun row a P h ∷ rs)) (header_due row a p) _ _
         (λ e. later_right c (λ (q, m, d). T_not (header_due row a q) d (alike (header_due row a) q m e))
-        (choose_case (M (overrun row a P who h ∷ rs)) (guard_due row a p) _ _
+        (choose_case (M (overrun row a P h ∷ rs)) (guard_due row a p) _ _
         (λ g. later_right c (λ (q, m, _, d). T_not (guard_due row a q) d (alike (guard_due row a) q m g)) r)
         (λ g. due-right c (gives_one c v) refl (p, l, true-T (header_due row a p) e, rw g tt))))
         (λ e. due-right c (gives_one c v) refl (p, l, rw e tt)))
@@ -204,45 +203,32 @@ module _ (row : ℕ) (pos : 0 < row) (F : Form) (L : FormLaws row F) (a : List �
         alike : (M : Place → Bool) (q : Place) → LiveAt row P o q → M p ≡ true → T (M q)
         alike M q m e = starts_alike row pos P o M p q s.0.formed l.here m.here (true-T (M p) e)
 
-    -- and before them its queue
-    owned-right : (rs : List Reason) (p : Place) (f : Place → Plan) → (f p).checks ≡ some p → LiveAt row P o p → Right c rs (applied F a (f p))
-        → Right c (other_queue row a P who h ∷ header_damaged row a P who h ∷ overrun row a P who h ∷ rs) (carried_by row F a t (by_queue P who f p))
-    owned-right rs p f k l r =
-        choose_case (λ z. Right c (other_queue row a P who h ∷ header_damaged row a P who h ∷ overrun row a P who h ∷ rs) (carried_by row F a t z))
-        (eqb (queue p.state) who) (f p) (refused WrongQueue P)
-        (λ e. later_right c
-        (λ (q, m, d). d (subst (λ (x : Place). queue x.state ≡ who) (starts-same row pos P o p q s.0.formed l.here m.here) (eqb-true _ _ e)))
-        (intact_right rs p (f p) k l r))
-        (λ e. refused-right s c v (p, l, eqb-false _ _ e))
-
-    -- and before that the bits of the handle
+    -- and before them the bits of the handle
     present_right : (rs : List Reason) (p : Place) (f : Place → Plan) → (f p).checks ≡ some p → LiveAt row P o p → Right c rs (applied F a (f p))
-        → Right c (stale row a P who h ∷ other_queue row a P who h ∷ header_damaged row a P who h ∷ overrun row a P who h ∷ rs)
-        (carried_by row F a t (by_handle P h (by_queue P who f) p))
+        → Right c (stale row a P h ∷ header_damaged row a P h ∷ overrun row a P h ∷ rs) (carried_by row F a t (by_handle P h f p))
     present_right rs p f k l r =
         let bits : (handle row p ≡ h) ↔ (h % 16 ≡ use_bits (count p.state)) = by_bits row p h l.here.starts in
-        choose_case (λ z. Right c (stale row a P who h ∷ other_queue row a P who h ∷ header_damaged row a P who h ∷ overrun row a P who h ∷ rs)
-        (carried_by row F a t z))
-        (eqb (h % 16) (use_bits (count p.state))) (by_queue P who f p) (refused Stale P)
+        choose_case (λ z. Right c (stale row a P h ∷ header_damaged row a P h ∷ overrun row a P h ∷ rs) (carried_by row F a t z))
+        (eqb (h % 16) (use_bits (count p.state))) (f p) (refused Stale P)
         (λ e. later_right c
         (λ (q, m, d). d (subst (λ x. handle row x ≡ h) (starts-same row pos P o p q s.0.formed l.here m.here) (bits.1 (eqb-true _ _ e))))
-        (owned-right rs p f k l r))
+        (intact_right rs p (f p) k l r))
         (λ e. refused-right s c v (p, l, λ i. eqb-false _ _ e (bits.0 i)))
 
     -- what is done with the block of a handle
     block_right : (rs : List Reason) (f : Place → Plan)
         → ((p : Place) → ((f p).checks ≡ some p) × (LiveAt row P o p → Right c rs (applied F a (f p))))
-        → Right c (block_reasons row a P who h rs) (carried_by row F a t (on_handle row P who h f))
+        → Right c (block_reasons row a P h rs) (carried_by row F a t (on_handle row P h f))
     unfolding on_handle
     block_right rs f k = found (lookup row P o) refl
       where
-        found : (r : Option Place) → lookup row P o ≡ r → Right c (block_reasons row a P who h rs) (carried_by row F a t (on_block P (by_handle P h (by_queue P who f)) r))
+        found : (r : Option Place) → lookup row P o ≡ r → Right c (block_reasons row a P h rs) (carried_by row F a t (on_block P (by_handle P h f) r))
         found none e = refused-right s c v (λ p h. none-starts row pos P o p s.0.formed e h)
         found (some p) e =
             let i : StartsAt row P o p = found_starts row pos P o p e in
             later_right c (λ d. d p i)
-            (choose_case (λ z. Right c (already_free row a P who h ∷ stale row a P who h ∷ other_queue row a P who h ∷ header_damaged row a P who h ∷ overrun row a P who h ∷ rs) (carried_by row F a t z))
-            (is_live p.state) (by_handle P h (by_queue P who f) p) (refused AlreadyFree P)
+            (choose_case (λ z. Right c (already_free row a P h ∷ stale row a P h ∷ header_damaged row a P h ∷ overrun row a P h ∷ rs) (carried_by row F a t z))
+            (is_live p.state) (by_handle P h f p) (refused AlreadyFree P)
             (λ e.
             let l : T (is_live p.state) = true-T (is_live p.state) e in
             let m : LiveAt row P o p = record { here = i; live = l } in
@@ -250,27 +236,26 @@ module _ (row : ℕ) (pos : 0 < row) (F : Form) (L : FormLaws row F) (a : List �
             (present_right rs p f (k p).0 m ((k p).1 m)))
             (λ e. refused-right s c v (p, i, rw e tt)))
 
-  -- what a queue that there is asks for
-  module _ (s : Sound) (who : ℕ) where
-    grants-right : (n : ℕ) → Right (queued who (grants n)) (size_reasons row P n) (carried_by row F a t (plan_for row P who (grants n)))
-    unfolding plan_for
-    grants-right n = granted-right s (queued who (grants n)) refl who ordinary n ((λ h. h), λ h. h) ((λ h. h), λ h. h)
+  module _ (s : Sound) where
+    grants-right : (n : ℕ) → Right (grants n) (size_reasons row P n) (carried_by row F a t (plan row P (grants n)))
+    unfolding plan
+    grants-right n = granted-right s (grants n) refl ordinary n ((λ h. h), λ h. h) ((λ h. h), λ h. h)
 
     -- an aligned grant is one of the alignment's code, if it has one
-    aligned-right : (n b : ℕ) → Right (queued who (grants_aligned n b)) (when BadAlignment (NoAlignment b) ∷ size_reasons row P (n + (b - 16)))
-        (carried_by row F a t (plan_for row P who (grants_aligned n b)))
-    unfolding plan_for grant_aligned
+    aligned-right : (n b : ℕ) → Right (grants_aligned n b) (when BadAlignment (NoAlignment b) ∷ size_reasons row P (n + (b - 16)))
+        (carried_by row F a t (plan row P (grants_aligned n b)))
+    unfolding plan grant_aligned
     aligned-right n b =
         choose_case (λ p. Right c (when BadAlignment (NoAlignment b) ∷ size_reasons row P (n + (b - 16))) (carried_by row F a t p)) (ltb 0 (code_of b))
-        (grant_as row P who (code_of b) n) (refused BadAlignment P)
+        (grant_as row P (code_of b) n) (refused BadAlignment P)
         (λ e.
         let h : 0 < code_of b = ltb-true 0 (code_of b) e in
         later_right c (some_code b h)
-        (granted-right s c refl who (code_of b) n (sized h (λ m. size_limit ≤ m)) (sized h (λ m. NoPlace row P (class_of m)))))
+        (granted-right s c refl (code_of b) n (sized h (λ m. size_limit ≤ m)) (sized h (λ m. NoPlace row P (class_of m)))))
         (λ e. refused-right s c refl (no_code b (omega (arith, ltb-false 0 (code_of b) e))))
       where
         c : Call
-        c = queued who (grants_aligned n b)
+        c = grants_aligned n b
 
         -- the enlarged size, by the code and by the alignment
         sized : 0 < code_of b → (M : ℕ → Type 0) → M (enlarged (code_of b) n) ↔ M (n + (b - 16))
@@ -279,14 +264,14 @@ module _ (row : ℕ) (pos : 0 < row) (F : Form) (L : FormLaws row F) (a : List �
     -- a call that gives the block of a handle n bytes, and that the block itself may refuse
     sized-right : (c : Call) → values_of c ≡ 1 → (h n : ℕ) (r : Reason) (f : Place → Plan)
         → ((p : Place) → ((f p).checks ≡ some p) × (LiveAt row P (start_of h) p → Right c (r ∷ []) (applied F a (f p))))
-        → Right c (new_size_reasons row a P who h n r) (carried_by row F a t (on_handle_for row P who h n f))
+        → Right c (new_size_reasons row a P h n r) (carried_by row F a t (on_handle_for row P h n f))
     unfolding on_handle_for
     sized-right c v h n r f k =
-        small-right s c v _ (new_size (lookup row P (start_of h)) n) (size_large row pos P h n s.0.formed) (block_right s c v who h (r ∷ []) f k)
+        small-right s c v _ (new_size (lookup row P (start_of h)) n) (size_large row pos P h n s.0.formed) (block_right s c v h (r ∷ []) f k)
 
-    in_place-right : (h n : ℕ) → Right (queued who (resizes_in_place h n)) (new_size_reasons row a P who h n (when NotInPlace (NotServed row P h n)))
-        (carried_by row F a t (plan_for row P who (resizes_in_place h n)))
-    unfolding plan_for
+    in_place-right : (h n : ℕ) → Right (resizes_in_place h n) (new_size_reasons row a P h n (when NotInPlace (NotServed row P h n)))
+        (carried_by row F a t (plan row P (resizes_in_place h n)))
+    unfolding plan
     in_place-right h n =
         sized-right c refl h n no_place (in_place_at row P n)
         (λ p. choose_case (λ (z : Plan). (z.checks ≡ some p) × (LiveAt row P o p → Right c (no_place ∷ []) (applied F a z))) (fits_in_place p n)
@@ -295,7 +280,7 @@ module _ (row : ℕ) (pos : 0 < row) (F : Form) (L : FormLaws row F) (a : List �
         (λ e. (refl, λ l. due-right c (gives_one c refl) (sym s.1) (p, l, λ v. subst T e ((live_serves row pos P o p n s.0.formed l).1 v)))))
       where
         c : Call
-        c = queued who (resizes_in_place h n)
+        c = resizes_in_place h n
 
         o : ℕ
         o = start_of h
@@ -309,13 +294,13 @@ module _ (row : ℕ) (pos : 0 < row) (F : Form) (L : FormLaws row F) (a : List �
             (live_serves row pos P o q n s.0.formed m).0
             (starts_alike row pos P o (λ z. fits_in_place z n) p q s.0.formed l.here m.here (true-T (fits_in_place p n) e))
 
-    moves-right : (h n : ℕ) → Right (queued who (moves h n)) (new_size_reasons row a P who h n (when NoRoom (NoRoomToMove row P h n)))
-        (carried_by row F a t (plan_for row P who (moves h n)))
-    unfolding plan_for
-    moves-right h n = sized-right c refl h n no_room (move_at row P n) (λ p. room p (reserve row P (queue p.state) (align p.state) n) refl)
+    moves-right : (h n : ℕ) → Right (moves h n) (new_size_reasons row a P h n (when NoRoom (NoRoomToMove row P h n)))
+        (carried_by row F a t (plan row P (moves h n)))
+    unfolding plan
+    moves-right h n = sized-right c refl h n no_room (move_at row P n) (λ p. room p (reserve row P (align p.state) n) refl)
       where
         c : Call
-        c = queued who (moves h n)
+        c = moves h n
 
         o : ℕ
         o = start_of h
@@ -327,85 +312,62 @@ module _ (row : ℕ) (pos : 0 < row) (F : Form) (L : FormLaws row F) (a : List �
         Full : ℕ → Type 0
         Full m = NoPlace row P (class_of m)
 
-        room : (p : Place) (r : Option Place) → reserve row P (queue p.state) (align p.state) n ≡ r
+        room : (p : Place) (r : Option Place) → reserve row P (align p.state) n ≡ r
             → ((move_to row P p n r).checks ≡ some p) × (LiveAt row P o p → Right c (no_room ∷ []) (applied F a (move_to row P p n r)))
         room p none f = (
           refl,
           λ l. due-right c (gives_one c refl) (sym s.1)
-              (p, l, subst Full (live-enlarged row pos P o p n s.0.formed l) (reserve-none row pos P (queue p.state) (align p.state) n f)),
+              (p, l, subst Full (live-enlarged row pos P o p n s.0.formed l) (reserve-none row pos P (align p.state) n f)),
         )
         room p (some q) f = (
           refl,
           λ l. later_right c
-              (λ (x, m, d). reserve-some row P (queue p.state) (align p.state) n q f
+              (λ (x, m, d). reserve-some row P (align p.state) n q f
               (subst (λ (x : Place). Full (enlarged (align x.state) n))
               (starts-same row pos P o x p s.0.formed m.here l.here)
               (subst Full (sym (live-enlarged row pos P o x n s.0.formed m)) d)))
               (done-right c _ refl),
         )
 
-    lists-right : (total cap places : ℕ) (ns : List ℕ) → Right (queued who (grants_list total cap places ns)) (list_reasons row P who total cap places ns)
-        (carried_by row F a t (plan_for row P who (grants_list total cap places ns)))
-    unfolding plan_for grant_list carried_by unless
+    lists-right : (total cap places : ℕ) (ns : List ℕ) → (let c = grants_list total cap places ns in
+        Right c (list_reasons row P total cap places ns) (carried_by row F a t (plan row P c)))
+    unfolding plan grant_list carried_by unless
     lists-right total cap places ns =
-        choose_case (M (list_reasons row P who total cap places ns)) (plannable total cap && leb entries places) _ (refused TooLong P)
+        choose_case (M (list_reasons row P total cap places ns)) (plannable total cap && leb entries places) _ (refused TooLong P)
         (λ e. later_right c (short_enough total cap places e)
-        (choose_case (M (when BadProposal (T (not (accepts total cap ns))) ∷ when NoRoom (Meets row P who ns) ∷ [])) (accepts total cap ns) (grant_all_at row P
-        (reserve_all row P who ns)) (refused BadProposal P)
+        (choose_case (M (when BadProposal (T (not (accepts total cap ns))) ∷ when NoRoom (Meets row P ns) ∷ [])) (accepts total cap ns) (grant_all_at row P
+        (reserve_all row P ns)) (refused BadProposal P)
         (λ f. later_right c (λ d. T_not (accepts total cap ns) d (true-T (accepts total cap ns) f))
-        (room (reserve_all row P who ns) refl))
+        (room (reserve_all row P ns) refl))
         (λ f. refused-right s c refl (rw f tt))))
         (λ e. refused-right s c refl (too_long total cap places e))
       where
         c : Call
-        c = queued who (grants_list total cap places ns)
+        c = grants_list total cap places ns
 
         M : List Reason → Plan → Type 0
         M rs p = Right c rs (carried_by row F a t p)
 
-        room : (o : Option (List Place)) → reserve_all row P who ns ≡ o → M (when NoRoom (Meets row P who ns) ∷ []) (grant_all_at row P o)
-        room none e = refused-right s c refl (meets row who pos P ns e)
-        room (some qs) e = later_right c (meets_none row who P ns qs e) (done-right c _ refl)
-
-    asked-right : (r : Request) → Right (queued who r) (asked_reasons row a P who r) (carried_by row F a t (plan_for row P who r))
-    unfolding plan_for carried_by unless report_queue
-    asked-right (grants n) = grants-right n
-    asked-right (grants_aligned n b) = aligned-right n b
-    asked-right (releases h) =
-        block_right s (queued who (releases h)) refl who h [] (release_at row)
-        (λ p. ((release_parts row p).0, λ l. done-right (queued who (releases h)) _ (ap (λ r. r.number) (release_parts row p).1)))
-    asked-right (resizes_in_place h n) = in_place-right h n
-    asked-right (moves h n) = moves-right h n
-    asked-right (measures h) =
-        block_right s (queued who (measures h)) refl who h [] (measure_at row P) (λ p. (refl, λ l. done-right (queued who (measures h)) _ refl))
-    asked-right (grants_list total cap places ns) = lists-right total cap places ns
-    asked-right reports_queue = done-right (queued who reports_queue) _ refl
-
-    -- the number is tested first
-    queue_right_lem : (r : Request) → RefusedValues (queued who r) (replicate (values_asked r) 0)
-        → Right (queued who r) (when WrongQueue (7 < who) ∷ asked_reasons row a P who r) (carried_by row F a t (plan row P (queued who r)))
-    unfolding plan carried_by unless
-    queue_right_lem r v =
-        choose_case (λ p. Right (queued who r) (when WrongQueue (7 < who) ∷ asked_reasons row a P who r) (carried_by row F a t p)) (ltb who queues)
-        (plan_for row P who r) (no_queue r P)
-        (λ e. later_right (queued who r) (λ d. omega (arith, d, ltb-true who queues e)) (asked-right r))
-        (λ e. due-right (queued who r) v (sym s.1) (omega (arith, ltb-false who queues e)))
-
-  zeros-right : (who : ℕ) (r : Request) → RefusedValues (queued who r) (replicate (values_asked r) 0)
-  zeros-right who (grants n) = gives_one _ refl
-  zeros-right who (grants_aligned n b) = gives_one _ refl
-  zeros-right who (releases h) = gives_one _ refl
-  zeros-right who (resizes_in_place h n) = gives_one _ refl
-  zeros-right who (moves h n) = gives_one _ refl
-  zeros-right who (measures h) = gives_one _ refl
-  zeros-right who (grants_list total cap places ns) = gives_one _ refl
-  zeros-right who reports_queue = two_zeros
+        room : (o : Option (List Place)) → reserve_all row P ns ≡ o → M (when NoRoom (Meets row P ns) ∷ []) (grant_all_at row P o)
+        room none e = refused-right s c refl (meets row pos P ns e)
+        room (some qs) e = later_right c (meets_none row P ns qs e) (done-right c _ refl)
 
   call-right : (c : Call) → Right c (reasons row F a t c) (call_by row F a t c)
   unfolding call_by choose plan carried_by unless
   call-right sets_up = set_up_right_lem
+  call-right (grants n) = checked-right (grants n) _ (gives_one _ refl) (λ s. grants-right s n)
+  call-right (grants_aligned n b) = checked-right (grants_aligned n b) _ (gives_one _ refl) (λ s. aligned-right s n b)
+  call-right (releases h) =
+      checked-right (releases h) _ (gives_one _ refl)
+      (λ s. block_right s (releases h) refl h [] (release_at row)
+      (λ p. ((release_parts row p).0, λ l. done-right (releases h) _ (ap (λ r. r.number) (release_parts row p).1))))
+  call-right (resizes_in_place h n) = checked-right (resizes_in_place h n) _ (gives_one _ refl) (λ s. in_place-right s h n)
+  call-right (moves h n) = checked-right (moves h n) _ (gives_one _ refl) (λ s. moves-right s h n)
+  call-right (measures h) =
+      checked-right (measures h) _ (gives_one _ refl)
+      (λ s. block_right s (measures h) refl h [] (measure_at row P) (λ p. (refl, λ l. done-right (measures h) _ refl)))
   call-right reports = checked-right reports [] six-zeros (λ s. done-right reports _ refl)
-  call-right (queued who r) = checked-right (queued who r) _ (zeros-right who r) (λ s. queue_right_lem s who r (zeros-right who r))
+  call-right (grants_list total cap places ns) = checked-right (grants_list total cap places ns) _ (gives_one _ refl) (λ s. lists-right s total cap places ns)
 
 pub demand1 : (row : ℕ) → 0 < row → (F : Form) → FormLaws row F → Demand1 row F
 demand1 row pos F L a t c =

@@ -1,7 +1,7 @@
 -- Demand 2: release, measure and grant accept exactly what document 01 says, a granted block is where and what it says, and live blocks
 -- never share a byte.
 use Rattle.mem.proofs.Prelude.{◌∙◌, ◌≡◌, sym, ap, refl, ap₂, subst, true, Bool, false, not, ⊎_elim, inl, inr, ◌⊎◌, some, none, Option, List, [], ◌∷◌, ◌++◌, ℕ}
-use Rattle.mem.proofs.Prelude.{◌<◌, ◌≤◌, ◌+◌, ◌*◌, ◌-◌, ◌%◌, ◌&&◌, arith, ltb, lt-ltb, le-leb, leb, leb-true, leb-false, T, T_not, eqb, eq-eqb, eqb→eq, lit≤, length}
+use Rattle.mem.proofs.Prelude.{◌<◌, ◌≤◌, ◌+◌, ◌*◌, ◌-◌, ◌%◌, ◌&&◌, arith, le-leb, leb, leb-true, leb-false, T, T_not, eqb, eq-eqb, eqb→eq, lit≤, length}
 use Rattle.mem.proofs.Prelude.{length-map, map, get_or}
 use mathlib.Core.Logic.{◌↔◌}
 use lib.ListN.{get_or-map}
@@ -10,18 +10,18 @@ use Rattle.mem.specs.Bytes.{put}
 use Rattle.mem.proofs.Tests.{T_true, and_left, and_right, eq→eqb, none_any, choose-true, choose-false}
 use Rattle.mem.proofs.Laws.{zeros-length}
 use Rattle.classes.specs.Classes.{slot_bytes, class_of, rows_of, size_limit}
-use Rattle.classes.specs.Alignments.{ordinary, align_of, enlarged}
+use Rattle.classes.specs.Alignments.{ordinary, align_of, enlarged, Askable}
 use Rattle.model.specs.declared.Slot.{Slot}
 use Rattle.model.specs.declared.Slot.TheVariants.{Fresh, Idle, Live}
-use Rattle.model.specs.declared.Refusal.TheVariants.{TooLarge, NotInPlace, WrongQueue}
+use Rattle.model.specs.declared.Refusal.TheVariants.{TooLarge, NotInPlace}
 use Rattle.model.specs.declared.Damage.{Damage}
 use Rattle.model.specs.declared.Damage.TheVariants.{Intact, Damaged}
-use Rattle.model.specs.State.{Pool, Place, group, is_live, is_ready, count, disp, size, align, queues, queue, well_formed, use_bits, start_of, pool_of, slot_number, rows}
+use Rattle.model.specs.State.{Pool, Place, group, is_live, is_ready, count, disp, size, align, well_formed, use_bits, start_of, pool_of, slot_number, rows}
 use Rattle.model.specs.State.{beginning, owned, start, handle}
 use Rattle.model.specs.Blocks.{frame, damage_in}
 use Rattle.model.specs.Answers.{number_of, refusal}
 use Rattle.model.specs.Plans.{Plan, Site, fresh_pool, AllLive, NoPlace, plan, reserve, turn_ready, refill, displaced, grant_slot, enframe}
-use Rattle.model.specs.Plans.{Askable, Request, grants, releases, resizes_in_place, measures, Call, sets_up, reports, queued, plan_for}
+use Rattle.model.specs.Plans.{Call, sets_up, grants, grants_aligned, releases, resizes_in_place, moves, measures, reports, grants_list}
 use Rattle.model.specs.Plans.{grant_at, grant_in, lookup}
 use Rattle.model.specs.Calls.{Form, FormLaws, Outcome, Stands, applied, keeps, damaged, set_up_right_by, call_by, carried_by, checked_by, unless}
 use Rattle.model.proofs.Fresh.{whole_units, set_up-done, set_up-sound}
@@ -29,11 +29,10 @@ use Rattle.model.proofs.Forms.{step, call_step, Standing, step_stands}
 use Rattle.model.proofs.Calls.{Asks, call-sound}
 use Rattle.model.proofs.Lookup.{Fits, fits, disp_inside, owned_inside, Owns, owned_unique}
 use Rattle.model.proofs.Reserve.{Served, served, Granted, reserve_formed}
-use Rattle.model.proofs.Formed.{queue_kept}
 use Rattle.model.proofs.Moves.{live-granted}
 use Rattle.model.proofs.Lowest.{site-lowest, first-lowest}
 use Rattle.claims.specs.Demand1.{Reason, when, FirstDue, Near, StaysInPlace, StartsAt, LiveAt, header_due, guard_due, block_reasons, TooLargeAt}
-use Rattle.claims.specs.Demand1.{NotServed, new_size_reasons, unsound_reason, asked_reasons, reasons}
+use Rattle.claims.specs.Demand1.{NotServed, new_size_reasons, unsound_reason, reasons}
 use Rattle.claims.specs.Demand2 as demand2
 use Rattle.claims.specs.Demand2.{ReleasesExactly, MeasuresExactly, GrantsExactly, TurnsReady, Refilled, LaidOut, GrantedBy, GrantsAsSaid, InBlock}
 use Rattle.claims.specs.Demand2.{Outgrows, InPlaceExactly, NeverShared, LeavesSound}
@@ -108,35 +107,18 @@ module _ (row : ℕ) (pos : 0 < row) (F : Form) (L : FormLaws row F) (a : List �
 
       asked-sound : (c : Call) → Asks c → NoneDue (reasons row F a t c) → T (F.sound (length a) t)
       asked-sound sets_up k n = absurd k
+      asked-sound (grants m) k n = unrefuted (F.sound (length a) t) n.0
+      asked-sound (grants_aligned m b) k n = unrefuted (F.sound (length a) t) n.0
+      asked-sound (releases h) k n = unrefuted (F.sound (length a) t) n.0
+      asked-sound (resizes_in_place h m) k n = unrefuted (F.sound (length a) t) n.0
+      asked-sound (moves h m) k n = unrefuted (F.sound (length a) t) n.0
+      asked-sound (measures h) k n = unrefuted (F.sound (length a) t) n.0
       asked-sound reports k n = unrefuted (F.sound (length a) t) n.0
-      asked-sound (queued who r) k n = unrefuted (F.sound (length a) t) n.0
+      asked-sound (grants_list total cap places ns) k n = unrefuted (F.sound (length a) t) n.0
 
       intact : (d : Damage) → call_by row F a t c ≡ unless d (applied F a p) (λ r. keeps (refusal r) a t) → call_by row F a t c ≡ applied F a p
       intact Intact e = e
       intact (Damaged r) e = absurd (refuses r (ap (λ r. r.answer.number) (sym e) ∙ z))
-
-  -- an accepted call of a queue: there is such a queue, and the plan of what it asks for is carried out
-  pub record AcceptedFor (who : ℕ) (r : Request) : Type 0 where
-    pub some-queue : who < queues
-    pub sound-tables : T (F.sound (length a) t)
-    pub left : call_by row F a t (queued who r) ≡ applied F a (plan_for row (F.view t) who r)
-    -- and so it is not refused
-    pub done : (plan_for row (F.view t) who r).answer.number ≡ 0
-
-  pub accepted_for : (who : ℕ) (r : Request) → (call_by row F a t (queued who r)).answer.number ≡ 0 → AcceptedFor who r
-  unfolding plan
-  accepted_for who r z =
-      let y : Accepted (queued who r) = accepted (queued who r) tt z in
-      let n : NoneDue (reasons row F a t (queued who r)) = none-due (reasons row F a t (queued who r)) _ (demand1 row pos F L a t (queued who r)).number z in
-      let o : who < queues = omega (arith, n.1.0) in
-      let e : call_by row F a t (queued who r) ≡ applied F a (plan_for row (F.view t) who r) =
-      y.left ∙ ap (applied F a) (choose-true (ltb who queues) _ _ (lt-ltb who queues o)) in
-      record {
-        some-queue = o;
-        sound-tables = y.sound-tables;
-        left = e;
-        done = ap (λ (r : Outcome F.Kept). r.answer.number) (sym e) ∙ z;
-      }
 
   pub set_up_accepted : (call_by row F a t sets_up).answer.number ≡ 0 → T (set_up_right_by row F a t)
   set_up_accepted z = unrefuted (set_up_right_by row F a t) (none-due (reasons row F a t sets_up) _ (demand1 row pos F L a t sets_up).number z).0
@@ -179,15 +161,15 @@ module _ (row : ℕ) (pos : 0 < row) (F : Form) (L : FormLaws row F) (a : List �
   w = (L.only (length a) t s).0.formed
 
   -- where no reason of the block of a handle is due, it is live and intact, and the handle is its present one
-  pub found_intact : (who h : ℕ) (rs : List Reason) → NoneDue (block_reasons row a P who h rs) → (p : Place) × demand2.Intact row a P who h p
-  found_intact who h rs n = whole (lookup row P o) refl n
+  pub found_intact : (h : ℕ) (rs : List Reason) → NoneDue (block_reasons row a P h rs) → (p : Place) × demand2.Intact row a P h p
+  found_intact h rs n = whole (lookup row P o) refl n
     where
       o : ℕ
       o = start_of h
 
-      whole : (r : Option Place) → lookup row P o ≡ r → NoneDue (block_reasons row a P who h rs) → (p : Place) × demand2.Intact row a P who h p
+      whole : (r : Option Place) → lookup row P o ≡ r → NoneDue (block_reasons row a P h rs) → (p : Place) × demand2.Intact row a P h p
       whole none e (n₄, _) = absurd (n₄ (λ p i. none-starts row pos P o p w e i))
-      whole (some p) e (_, (n₅, (n₁₀, (n₁₂, (n₆, (n₇, _)))))) =
+      whole (some p) e (_, (n₅, (n₁₀, (n₆, (n₇, _))))) =
           let i : StartsAt row P o p = found_starts row pos P o p e in
           let l : LiveAt row P o p = record { here = i; live = unrefuted (is_live p.state) (λ d. n₅ (p, i, d)) } in
           let m : T (header_due row a p) = unrefuted (header_due row a p) (λ d. n₆ (p, l, d)) in (
@@ -195,15 +177,14 @@ module _ (row : ℕ) (pos : 0 < row) (F : Form) (L : FormLaws row F) (a : List �
             record {
               live = l;
               present = same_number (handle row p) h (λ d. n₁₀ (p, l, d));
-              own = same_number (queue p.state) who (λ d. n₁₂ (p, l, d));
               header = m;
               guard = unrefuted (guard_due row a p) (λ d. n₇ (p, l, m, d));
             },
           )
 
   -- and of such a block none is due
-  intact_none : (who h : ℕ) (p : Place) → demand2.Intact row a P who h p → NoneDue (block_reasons row a P who h [])
-  intact_none who h p i =
+  intact_none : (h : ℕ) (p : Place) → demand2.Intact row a P h p → NoneDue (block_reasons row a P h [])
+  intact_none h p i =
       let o : ℕ = start_of h in
       let alike : (M : Place → Bool) (q : Place) → StartsAt row P o q → T (M p) → T (M q) = λ M q g. starts_alike row pos P o M p q w i.live.here g in (
         λ d. d p i.live.here,
@@ -212,39 +193,26 @@ module _ (row : ℕ) (pos : 0 < row) (F : Form) (L : FormLaws row F) (a : List �
           (
             λ (q, l, d). d (subst (λ z. handle row z ≡ h) (starts-same row pos P o p q w i.live.here l.here) i.present),
             (
-              λ (q, l, d). d (subst (λ (z : Place). queue z.state ≡ who) (starts-same row pos P o p q w i.live.here l.here) i.own),
-              (
-                λ (q, l, d). T_not (header_due row a q) d (alike (header_due row a) q l.here i.header),
-                (λ (q, l, _, d). T_not (guard_due row a q) d (alike (guard_due row a) q l.here i.guard), tt),
-              ),
+              λ (q, l, d). T_not (header_due row a q) d (alike (header_due row a) q l.here i.header),
+              (λ (q, l, _, d). T_not (guard_due row a q) d (alike (guard_due row a) q l.here i.guard), tt),
             ),
           ),
         ),
       )
 
-  -- so its queue is one that there is
-  some-queue : (who h : ℕ) (p : Place) → demand2.Intact row a P who h p → 7 < who → ⊥
-  some-queue who h p i d =
-      let f : Fits p = fits p (subst (λ Q. T (well_formed Q)) (sym i.live.here.slotted.pool) w) in
-      omega (arith, d, i.own, queue_kept p.cls p.state i.live.live f.state)
-
-  -- the number of a call on the block of a handle is 0 exactly if it is the present one of the queue's live, intact block
-  exactly : (who h k : ℕ) → FirstDue (unsound_reason row F a t ∷ when WrongQueue (7 < who) ∷ block_reasons row a P who h []) k
-      → (k ≡ 0) ↔ ((p : Place) × demand2.Intact row a P who h p)
-  exactly who h k d =
-      let all : List Reason = unsound_reason row F a t ∷ when WrongQueue (7 < who) ∷ block_reasons row a P who h [] in (
-        λ z. found_intact who h [] (none-due all k d z).1.1,
-        λ (p, i). due-none all k d (λ d. T_not (F.sound (length a) t) d s, (some-queue who h p i, intact_none who h p i)),
-      )
+  -- the number of a call on the block of a handle is 0 exactly if it is the present one of a live, intact block
+  exactly : (h k : ℕ) → FirstDue (unsound_reason row F a t ∷ block_reasons row a P h []) k → (k ≡ 0) ↔ ((p : Place) × demand2.Intact row a P h p)
+  exactly h k d =
+      let all : List Reason = unsound_reason row F a t ∷ block_reasons row a P h [] in
+      (λ z. found_intact h [] (none-due all k d z).1, λ (p, i). due-none all k d (λ d. T_not (F.sound (length a) t) d s, intact_none h p i))
 
   -- that of a resize in place is 11 exactly if moreover the block's slot does not serve the size
-  in_place_eleven : (who h n k : ℕ)
-      → FirstDue (unsound_reason row F a t ∷ when WrongQueue (7 < who) ∷ new_size_reasons row a P who h n (when NotInPlace (NotServed row P h n))) k
-      → (k ≡ 11) ↔ ((p : Place) × demand2.Intact row a P who h p × Outgrows p n)
-  in_place_eleven who h n k d = (
+  in_place_eleven : (h n k : ℕ) → FirstDue (unsound_reason row F a t ∷ new_size_reasons row a P h n (when NotInPlace (NotServed row P h n))) k
+      → (k ≡ 11) ↔ ((p : Place) × demand2.Intact row a P h p × Outgrows p n)
+  in_place_eleven h n k d = (
     λ e.
-        let ((n₂, (n₁₂, (n₃, m))), (q, l, x)) = due_last before r k d e tt in
-        let (p, i) = found_intact who h [] m in
+        let ((n₂, (n₃, m)), (q, l, x)) = due_last before r k d e tt in
+        let (p, i) = found_intact h [] m in
         let y : q ≡ p = starts-same row pos P o q p w l.here i.live.here in (
           p,
           i,
@@ -256,12 +224,9 @@ module _ (row : ℕ) (pos : 0 < row) (F : Form) (L : FormLaws row F) (a : List �
     λ (p, i, v). last_due before r k d (
       λ d. T_not (F.sound (length a) t) d s,
       (
-        some-queue who h p i,
-        (
-          ⊎_elim (λ g. omega (arith, g, v.small))
-              (λ (q, l, g). omega (arith, subst (λ (q : Place). size_limit ≤ sized q) (starts-same row pos P o q p w l.here i.live.here) g, v.small)),
-          intact_none who h p i,
-        ),
+        ⊎_elim (λ g. omega (arith, g, v.small))
+            (λ (q, l, g). omega (arith, subst (λ (q : Place). size_limit ≤ sized q) (starts-same row pos P o q p w l.here i.live.here) g, v.small)),
+        intact_none h p i,
       ),
     ) (p, i.live, λ u. ⊎_elim (λ g. omega (arith, g, u.fits)) (λ g. g u.near) v.fails),
   )
@@ -270,7 +235,7 @@ module _ (row : ℕ) (pos : 0 < row) (F : Form) (L : FormLaws row F) (a : List �
       o = start_of h
 
       before : List Reason
-      before = unsound_reason row F a t ∷ when WrongQueue (7 < who) ∷ when TooLarge (TooLargeAt row P h n) ∷ block_reasons row a P who h []
+      before = unsound_reason row F a t ∷ when TooLarge (TooLargeAt row P h n) ∷ block_reasons row a P h []
 
       r : Reason
       r = when NotInPlace (NotServed row P h n)
@@ -289,52 +254,48 @@ module _ (row : ℕ) (pos : 0 < row) (F : Form) (L : FormLaws row F) (a : List �
       by_size q x false e = inl (leb-false n (room q) e)
 
   -- the size of an intact block
-  measured : (who h : ℕ) (p : Place) → demand2.Intact row a P who h p → (call_by row F a t (queued who (measures h))).answer.values ≡ size p.state ∷ []
+  measured : (h : ℕ) (p : Place) → demand2.Intact row a P h p → (call_by row F a t (measures h)).answer.values ≡ size p.state ∷ []
   unfolding call_by checked_by carried_by unless plan damage_in choose
-  measured who h p i =
+  measured h p i =
       rw (
         T_true (F.sound (length a) t) s,
-        lt-ltb who queues (omega (arith, some-queue who h p i)),
         starts_found row pos P (start_of h) p w i.live.here,
         T_true (is_live p.state) i.live.live,
         eq-eqb (h % 16) (use_bits (count p.state)) ((by_bits row p h i.live.here.starts).0 i.present),
-        eq-eqb (queue p.state) who i.own,
         T_true (header_due row a p) i.header,
         T_true (guard_due row a p) i.guard,
       )
 
 pub releases_exactly : (row : ℕ) → 0 < row → (F : Form) → FormLaws row F → ReleasesExactly row F
-releases_exactly row pos F L a t who h s = exactly row pos F L a t s who h _ (demand1 row pos F L a t (queued who (releases h))).number
+releases_exactly row pos F L a t h s = exactly row pos F L a t s h _ (demand1 row pos F L a t (releases h)).number
 
 pub measures_exactly : (row : ℕ) → 0 < row → (F : Form) → FormLaws row F → MeasuresExactly row F
-measures_exactly row pos F L a t who h s =
-    (exactly row pos F L a t s who h _ (demand1 row pos F L a t (queued who (measures h))).number, λ p i. measured row pos F L a t s who h p i)
+measures_exactly row pos F L a t h s =
+    (exactly row pos F L a t s h _ (demand1 row pos F L a t (measures h)).number, λ p i. measured row pos F L a t s h p i)
 
 pub in_place_exactly : (row : ℕ) → 0 < row → (F : Form) → FormLaws row F → InPlaceExactly row F
-in_place_exactly row pos F L a t who h n s =
-    in_place_eleven row pos F L a t s who h n _ (demand1 row pos F L a t (queued who (resizes_in_place h n))).number
+in_place_exactly row pos F L a t h n s = in_place_eleven row pos F L a t s h n _ (demand1 row pos F L a t (resizes_in_place h n)).number
 
 -- ---- what a grant refuses, and what it gives
 
 pub grants_exactly : (row : ℕ) → 0 < row → (F : Form) → FormLaws row F → GrantsExactly row F
-grants_exactly row pos F L a t who n = (
+grants_exactly row pos F L a t n = (
   why d,
-  λ x e. let (n₂, (n₁₂, (n₃, (n₈, _)))) = none-due (reasons row F a t (queued who (grants n))) k d e in ⊎_elim n₁₂ (⊎_elim n₃ (⊎_elim n₂ n₈)) x,
+  λ x e. let (n₂, (n₃, (n₈, _))) = none-due (reasons row F a t (grants n)) k d e in ⊎_elim n₃ (⊎_elim n₂ n₈) x,
 )
   where
     k : ℕ
-    k = (call_by row F a t (queued who (grants n))).answer.number
+    k = (call_by row F a t (grants n)).answer.number
 
-    d : FirstDue (reasons row F a t (queued who (grants n))) k
-    d = (demand1 row pos F L a t (queued who (grants n))).number
+    d : FirstDue (reasons row F a t (grants n)) k
+    d = (demand1 row pos F L a t (grants n)).number
 
-    why : FirstDue (reasons row F a t (queued who (grants n))) k → (k ≡ 0 → ⊥)
-        → (7 < who) ⊎ ((size_limit ≤ n) ⊎ (T (not (F.sound (length a) t)) ⊎ NoPlace row (F.view t) (class_of n)))
-    why (inl (_, x)) z = inr (inr (inl x))
+    why : FirstDue (reasons row F a t (grants n)) k → (k ≡ 0 → ⊥)
+        → (size_limit ≤ n) ⊎ (T (not (F.sound (length a) t)) ⊎ NoPlace row (F.view t) (class_of n))
+    why (inl (_, x)) z = inr (inl x)
     why (inr (_, inl (_, x))) z = inl x
-    why (inr (_, inr (_, inl (_, x)))) z = inr (inl x)
-    why (inr (_, inr (_, inr (_, inl (_, x))))) z = inr (inr (inr x))
-    why (inr (_, inr (_, inr (_, inr (_, e))))) z = absurd (z e)
+    why (inr (_, inr (_, inl (_, x)))) z = inr (inr x)
+    why (inr (_, inr (_, inr (_, e)))) z = absurd (z e)
 
 -- ---- a refill is document 01's
 
@@ -358,27 +319,27 @@ refilled ss = record {
 -- ---- what a grant leaves
 
 -- a block that a call grants with the code k is where and what document 01 says
-module _ (row : ℕ) (pos : 0 < row) (F : Form) (L : FormLaws row F) (a : List ℕ) (t : F.Kept) (who : ℕ) (asks : Request) (k n : ℕ) where
+module _ (row : ℕ) (pos : 0 < row) (F : Form) (L : FormLaws row F) (a : List ℕ) (t : F.Kept) (asks : Call) (k n : ℕ) where
   abbrev S : Pool
   S = F.view t
 
   abbrev c : ℕ
   c = class_of (enlarged k n)
 
-  pub granted_by : Stands row (length a) S → (q : Place) → Askable who k n → reserve row S who k n ≡ some q
-      → call_by row F a t (queued who asks) ≡ applied F a (grant_at row S (some q)) → GrantedBy row F a t who asks k n c q
+  pub granted_by : Stands row (length a) S → (q : Place) → Askable k n → reserve row S k n ≡ some q
+      → call_by row F a t asks ≡ applied F a (grant_at row S (some q)) → GrantedBy row F a t asks k n c q
   unfolding grant_in grant_slot enframe
   granted_by y q h e l =
       let w : T (well_formed S) = y.formed in
-      let v : Served row S who k n q = served row S who k n q w e in
+      let v : Served row S k n q = served row S k n q w e in
       let s : Site = v.at in
       let b : q.before ≡ s.before = ap (λ p. p.before) v.place in
       let f : q.after ≡ s.after = ap (λ p. p.after) v.place in
       let x : disp q.state ≡ displaced c k n (beginning row q) (count v.taken.old) = ap disp v.taken.state in
-      let live : T (is_live q.state) = reserve-live row S who k n q v in
-      let made : Granted row S who k n q = reserve_formed row S who k n q w h e in
+      let live : T (is_live q.state) = reserve-live row S k n q v in
+      let made : Granted row S k n q = reserve_formed row S k n q w h e in
       let long : length a ≡ row * rows row (pool_of q) = y.long ∙ ap (λ j. row * j) (sym made.long) in
-      let z : (call_by row F a t (queued who asks)).arena ≡ put (owned row q) (frame q.cls (slot_number q) (disp q.state) (size q.state)) a = ap (λ r. r.arena) l in
+      let z : (call_by row F a t asks).arena ≡ put (owned row q) (frame q.cls (slot_number q) (disp q.state) (size q.state)) a = ap (λ r. r.arena) l in
       record {
         slots = s.slots;
         served =
@@ -399,7 +360,7 @@ module _ (row : ℕ) (pos : 0 < row) (F : Form) (L : FormLaws row F) (a : List �
         ready = v.taken.ready;
         lowest = first-lowest q.lower v.taken.old q.upper (v.taken.number ∙ ap (first is_ready) v.taken.slots);
         cls = ap (λ p. p.cls) v.place;
-        state = v.taken.state ∙ ap (λ d. Live (record { count = (count v.taken.old + 1) % 256; disp = d; size = n; align = k; queue = who })) (sym x);
+        state = v.taken.state ∙ ap (λ d. Live (record { count = (count v.taken.old + 1) % 256; disp = d; size = n; align = k })) (sym x);
         displaced = λ z. x ∙ choose-true (leb k ordinary) _ _ (le-leb k ordinary (omega (arith, z)));
         value = ap (λ r. r.answer.values) l;
         bits = ap (λ i. start row q + use_bits i) (ap count v.taken.state) ∙ ap (λ i. start row q + i) (stepped_bits (count v.taken.old));
@@ -415,7 +376,6 @@ module _ (row : ℕ) (pos : 0 < row) (F : Form) (L : FormLaws row F) (a : List �
             live = live;
           };
           present = refl;
-          own = ap queue v.taken.state;
           header = subst (λ b. T (header_due row b q)) (sym z) (laid_header row pos a q made.formed long);
           guard = subst (λ b. T (guard_due row b q)) (sym z) (laid_guard row pos a q made.formed long);
         };
@@ -423,14 +383,14 @@ module _ (row : ℕ) (pos : 0 < row) (F : Form) (L : FormLaws row F) (a : List �
       }
 
 pub grants_as_said : (row : ℕ) → 0 < row → (F : Form) → FormLaws row F → GrantsAsSaid row F
-unfolding plan_for
-grants_as_said row pos F L a t who n z =
-    let y : AcceptedFor row pos F L a t who (grants n) = accepted_for row pos F L a t who (grants n) z in
+unfolding plan
+grants_as_said row pos F L a t n z =
+    let y : Accepted row pos F L a t (grants n) = accepted row pos F L a t (grants n) tt z in
     on_grant row pos (F.view t)
-    (λ p. p.answer.number ≡ 0 → call_by row F a t (queued who (grants n)) ≡ applied F a p
-    → (q : Place) × GrantedBy row F a t who (grants n) ordinary n (class_of n) q)
-    (λ r z. absurd (refuses r z)) who ordinary n y.some-queue (lit≤ tt) (lit≤ tt)
-    (λ q h e _ l. (q, granted_by row pos F L a t who (grants n) ordinary n (L.only (length a) t y.sound-tables).0 q h e l)) y.done y.left
+    (λ p. p.answer.number ≡ 0 → call_by row F a t (grants n) ≡ applied F a p → (q : Place) × GrantedBy row F a t (grants n) ordinary n (class_of n) q)
+    (λ r z. absurd (refuses r z)) ordinary n (lit≤ tt) (lit≤ tt)
+    (λ q h e _ l. (q, granted_by row pos F L a t (grants n) ordinary n (L.only (length a) t y.sound-tables).0 q h e l))
+    (ap (λ (r : Outcome F.Kept). r.answer.number) (sym y.left) ∙ z) y.left
 
 -- ---- live blocks never share a byte
 

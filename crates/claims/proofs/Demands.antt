@@ -16,7 +16,7 @@ use Rattle.claims.proofs.Tables.{tables, plain_tables}
 use Rattle.claims.proofs.Bench.{too_large_anywhere}
 use Rattle.claims.proofs.Demand1.{demand1}
 use Rattle.claims.proofs.Demand2.{releases_exactly, measures_exactly, in_place_exactly, grants_exactly, grants_as_said, never_shared, leaves-sound}
-use Rattle.claims.proofs.AsSaid.{never_at_zero, sets_up_as_said, sets_up_as_planned, reads_only, reports_as_said, queue-reports_as_said, releases_as_said}
+use Rattle.claims.proofs.AsSaid.{never_at_zero, sets_up_as_said, sets_up_as_planned, reads_only, reports_as_said, releases_as_said}
 use Rattle.claims.proofs.StaysInPlace.{serves_ordinary}
 use Rattle.claims.proofs.Stays.{others_stay}
 use Rattle.claims.proofs.Kept.{sizes_keep_alignment}
@@ -25,13 +25,11 @@ use Rattle.claims.proofs.Guards.{headers_as_said, guards_as_said}
 use Rattle.claims.proofs.Soundness.{arenas_as_said, sets_up_exactly, sound_by_rules}
 use Rattle.claims.proofs.Resizes.{in_place_as_said, moves_as_said}
 use Rattle.claims.proofs.Demand3.{steers_nothing, stores_admitted, stores-only, model_stands}
-use Rattle.claims.proofs.History.{history, queue_history}
-use Rattle.claims.proofs.Queues.{queues-sum}
+use Rattle.claims.proofs.History.{history}
 use Rattle.claims.proofs.Stale.{starts_cleared, counts_step, stale-refused}
 use Rattle.claims.proofs.Flips.{flips_refused}
 use Rattle.claims.proofs.Record.{sound_exactly, records_fresh, reports-record, history_recorded, keeps-record}
 use Rattle.claims.proofs.Lists.{checks_exactly, plans_as_said, lists_as_grants, lists_exactly}
-use Rattle.claims.proofs.Apart.{queues_apart}
 use Rattle.claims.proofs.Alike.{two_engines, stores_anywhere}
 use Rattle.claims.proofs.Traces.{past-asks_nothing, lines_modelled, stores_steer_nothing, replay_steers_nothing}
 
@@ -53,7 +51,6 @@ meets_demands row pos F L = record {
   in_place_as_said = in_place_as_said row pos F L;
   moves_as_said = moves_as_said row pos F L;
   reports_as_said = reports_as_said row F;
-  queue-reports_as_said = queue-reports_as_said row F;
   reads_only = reads_only row pos F L;
   headers_as_said = headers_as_said row pos F L;
   guards_as_said = guards_as_said row pos F L;
@@ -69,9 +66,6 @@ meets_demands row pos F L = record {
   stale-refused = stale-refused row pos F L;
   steers_nothing = steers_nothing row pos F L;
   history = history row pos F L;
-  queue_history = queue_history row pos F L;
-  queues-sum = queues-sum row pos F L;
-  queues_apart = queues_apart row pos F L;
 }
 
 pub demands : Demands row_bytes

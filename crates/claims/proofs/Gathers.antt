@@ -4,10 +4,10 @@ use Rattle.mem.proofs.Prelude.{length, get_or, length-append}
 use Rattle.mem.specs.Bytes.{zeros, put}
 use Rattle.mem.proofs.Laws.{zeros-length, zeros-put, put-before, put-past}
 use Rattle.classes.specs.Classes.{slot_bytes}
-use Rattle.classes.specs.Alignments.{ordinary}
-use Rattle.model.specs.State.{Pool, Place, queues, is_live, disp, size, well_formed, pool_of, slot_number, owned, start, handle}
+use Rattle.classes.specs.Alignments.{ordinary, Askable}
+use Rattle.model.specs.State.{Pool, Place, is_live, disp, size, well_formed, pool_of, slot_number, owned, start, handle}
 use Rattle.model.specs.Blocks.{reserved, header, spare, frame}
-use Rattle.model.specs.Plans.{reserve, enframe, reserve_all, Askable}
+use Rattle.model.specs.Plans.{reserve, enframe, reserve_all}
 use Rattle.model.specs.Calls.{write, written}
 use Rattle.model.proofs.Lookup.{Fits, fits, disp_inside}
 use Rattle.model.proofs.Reserve.{plain, served, reserve_formed, reserve-size}
@@ -39,23 +39,23 @@ module _ (row : ℕ) where
     Leaves P qs = (p : Place) → pool_of p ≡ P → T (is_live p.state) → (a : List ℕ) (i : ℕ) → start row p ≤ i → i < start row p + size p.state
         → get_or (written a (map (enframe row) qs)) i 0 ≡ get_or a i 0
 
-    module _ (P : Pool) (who j n : ℕ) (q : Place) (w : T (well_formed P)) (s : Askable who j n) (r : reserve row P who j n ≡ some q) where
+    module _ (P : Pool) (j n : ℕ) (q : Place) (w : T (well_formed P)) (s : Askable j n) (r : reserve row P j n ≡ some q) where
       grant-leaves : (p : Place) → pool_of p ≡ P → T (is_live p.state) → (a : List ℕ) (i : ℕ) → start row p ≤ i → i < start row p + size p.state
           → get_or (write a (enframe row q)) i 0 ≡ get_or a i 0
       unfolding enframe
       grant-leaves p e t a i h₁ h₂ =
           let fp : Fits p = fits p (subst (λ Q. T (well_formed Q)) (sym e) w) in
-          let fq : Fits q = fits q (reserve_formed row P who j n q w s r).formed in
+          let fq : Fits q = fits q (reserve_formed row P j n q w s r).formed in
           let ip : 16 * disp p.state + size p.state + 4 ≤ slot_bytes p.cls = disp_inside p.cls p.state fp.class fp.state in
           let iq : 16 * disp q.state + size q.state + 4 ≤ slot_bytes q.cls = disp_inside q.cls q.state fq.class fq.state in
           let bs : List ℕ = frame q.cls (slot_number q) (disp q.state) (size q.state) in
           let z : length bs ≡ slot_bytes q.cls = frame-length q.cls (slot_number q) (disp q.state) (size q.state) iq in
           ⊎_elim (λ x. put-before (owned row q) bs a i 0 (omega (arith, x, ip, h₂))) (λ x. put-past (owned row q) bs a i 0 (omega (arith, x, z, h₁)))
-          (old_apart row pos P w who j n s q r p e t)
+          (old_apart row pos P w j n s q r p e t)
 
       leaves-more : (qs : List Place) → Leaves (pool_of q) qs → Leaves P (q ∷ qs)
       leaves-more qs k p e t a i h₁ h₂ =
-          let o : Old row pos P w who j n s q r p e t = old row pos P w who j n s q r p e t in
+          let o : Old row pos P w j n s q r p e t = old row pos P w j n s q r p e t in
           let b : start row o.place ≡ start row p = stays_start row p o.place o.stays in
           let c : size o.place.state ≡ size p.state = ap size o.stays.state in
           k o.place o.pool o.live (write a (enframe row q)) i (omega (arith, b, h₁)) (omega (arith, b, c, h₂)) ∙ grant-leaves p e t a i h₁ h₂
@@ -63,18 +63,18 @@ module _ (row : ℕ) where
     abbrev Clears : Pool → List ℕ → List Place → Type 0
     Clears P ns qs = Leaves P qs × ((a : List ℕ) (i : ℕ) → GainsEach row (map (handle row) qs) ns i → get_or (written a (map (enframe row) qs)) i 0 ≡ 0)
 
-    clears_more : row % 16 ≡ 0 → (P : Pool) (who n : ℕ) (ns : List ℕ) (q : Place) (qs : List Place) → T (well_formed P) → reserve row P who ordinary n ≡ some q
+    clears_more : row % 16 ≡ 0 → (P : Pool) (n : ℕ) (ns : List ℕ) (q : Place) (qs : List Place) → T (well_formed P) → reserve row P ordinary n ≡ some q
         → Clears (pool_of q) ns qs → (a : List ℕ) (i : ℕ) → GainsEach row (map (handle row) (q ∷ qs)) (n ∷ ns) i
         → get_or (written a (map (enframe row) (q ∷ qs))) i 0 ≡ 0
-    clears_more u P who n ns q qs w r k a i (inl g) =
-        let z : size q.state ≡ n = reserve-size row P who ordinary n q w r in
+    clears_more u P n ns q qs w r k a i (inl g) =
+        let z : size q.state ≡ n = reserve-size row P ordinary n q w r in
         let (from, to) = subst (λ s. (s ≤ i) × (i < s + n)) (start_cleared row u q) g in
-        k.0 q refl (reserve-live row P who ordinary n q (served row P who ordinary n q w r)) (write a (enframe row q)) i from (omega (arith, to, z))
+        k.0 q refl (reserve-live row P ordinary n q (served row P ordinary n q w r)) (write a (enframe row q)) i from (omega (arith, to, z))
         ∙ framed q a i from (omega (arith, to, z))
-    clears_more u P who n ns q qs w r k a i (inr g) = k.1 (write a (enframe row q)) i g
+    clears_more u P n ns q qs w r k a i (inr g) = k.1 (write a (enframe row q)) i g
 
-    pub list_clears : row % 16 ≡ 0 → (P : Pool) (who : ℕ) (ns : List ℕ) (qs : List Place) → who < queues → T (well_formed P) → T (small ns)
-        → reserve_all row P who ns ≡ some qs → (a : List ℕ) (i : ℕ) → GainsEach row (map (handle row) qs) ns i → get_or (written a (map (enframe row) qs)) i 0 ≡ 0
-    list_clears u P who ns qs b w h e =
-        (by_grants row who b Clears (λ P. ((λ p e t a i h₁ h₂. refl), λ a i g. absurd g))
-        (λ P n ns q qs w s r k. (leaves-more P who ordinary n q w (plain b s) r qs k.0, clears_more u P who n ns q qs w r k)) P ns qs w h e).1
+    pub list_clears : row % 16 ≡ 0 → (P : Pool) (ns : List ℕ) (qs : List Place) → T (well_formed P) → T (small ns) → reserve_all row P ns ≡ some qs
+        → (a : List ℕ) (i : ℕ) → GainsEach row (map (handle row) qs) ns i → get_or (written a (map (enframe row) qs)) i 0 ≡ 0
+    list_clears u P ns qs w h e =
+        (by_grants row Clears (λ P. ((λ p e t a i h₁ h₂. refl), λ a i g. absurd g))
+        (λ P n ns q qs w s r k. (leaves-more P ordinary n q w (plain s) r qs k.0, clears_more u P n ns q qs w r k)) P ns qs w h e).1

@@ -1,23 +1,20 @@
--- The history of report, of the pool and of each queue: what the tables count to is what the calls since the last set up come to.
+-- The history of report: what the tables count to is what the calls since the last set up come to.
 use Rattle.mem.proofs.Prelude.{◌∙◌, ◌≡◌, sym, ap, refl, ap₂, subst, true, Bool, false, ◌&&◌, not, true≢false, some, List, [], ◌∷◌, ◌++◌, append_assoc, map, ◌+◌}
 use Rattle.mem.proofs.Prelude.{ℕ, ◌<◌, ◌≤◌, ◌*◌, suc, ◌/◌, ◌%◌, zero, add-zero, zero-add, add_assoc, mul-div_cancel_left, arith, eqb-false, eqb-true, T, eqb}
 use Rattle.mem.proofs.Prelude.{eqb_refl, lit≤, length, length-append, replicate}
 use Rattle.mem.specs.Lists.{choose, any, sum}
 use Rattle.mem.specs.Bytes.{bit}
-use Rattle.mem.proofs.Tests.{T_true, true-T, choose-true, choose-false, choose_case, and_right, eq→eqb}
+use Rattle.mem.proofs.Tests.{T_true, true-T, choose-true, choose_case, and_right, eq→eqb}
 use Rattle.classes.specs.Classes.{slot_bytes, slots_of, rows_of}
-use Rattle.classes.specs.Alignments.{ordinary, code_of}
+use Rattle.classes.specs.Alignments.{ordinary, code_of, Askable}
 use Rattle.model.specs.declared.Slot.{Slot}
 use Rattle.model.specs.declared.Slot.TheVariants.{Fresh, Idle, Live}
 use Rattle.model.specs.declared.Refusal.{Refusal}
-use Rattle.model.specs.declared.Refusal.TheVariants.{WrongQueue}
 use Rattle.model.specs.State.{Span, Pool, Place, free, group, is_live, is_ready, disp, size, well_formed, pool_of, become, slot_number, rows_in, rows, beginning}
-use Rattle.model.specs.State.{handle, count, align, queues, queue, resized, use_bits}
+use Rattle.model.specs.State.{handle, count, align, use_bits}
 use Rattle.model.specs.Plans.{Plan, turn_ready, refill, reserve, vacant, release_at, fresh_pool, refused, release, discard, resize_at, move_to, measure_at}
-use Rattle.model.specs.Plans.{Askable}
-use Rattle.model.specs.Plans.{slot_sum, totals, report, of_queue, queue_totals, report_queue, grant_slot, measure, reserve_all, pool_after, plan_for, plan}
-use Rattle.model.specs.Plans.{Request, grants, grants_aligned, releases, resizes_in_place, moves, measures, grants_list, reports_queue}
-use Rattle.model.specs.Plans.{Call, sets_up, reports, queued}
+use Rattle.model.specs.Plans.{slot_sum, totals, report, measure, reserve_all, pool_after, plan}
+use Rattle.model.specs.Plans.{Call, sets_up, grants, grants_aligned, releases, resizes_in_place, moves, measures, reports, grants_list}
 use Rattle.model.proofs.Lists.{small, by_grants, on_list}
 use Rattle.model.specs.Calls.{Form, FormLaws, Outcome, Stands, call_by, set_up_by, set_up_right_by}
 use Rattle.model.proofs.Rooms.{rows_append}
@@ -28,41 +25,36 @@ use Rattle.model.proofs.Reserve.{Served, served, reserve-size}
 use Rattle.model.proofs.Formed.{any_middle, plan_formed}
 use Rattle.model.proofs.Calls.{Asks}
 use Rattle.model.proofs.Moves.{Old, old, old_released}
-use Rattle.claims.specs.History.{LedgerBlock, Ledger, opening, without, entered_grant, entered_each, entered_size}
-use Rattle.claims.specs.History.{asked, entered, every_queue, only, Asked, booked, books_after, Balances, ReportTells, History, QueueTells, QueueHistory}
+use Rattle.claims.specs.History.{LedgerBlock, Ledger, opening, without, entered_grant, entered_each}
+use Rattle.claims.specs.History.{entered, Asked, booked, books_after, Balances, ReportTells, History}
 use Rattle.model.proofs.Handles.{same_start, stays_handle}
-use Rattle.claims.proofs.Cases.{reserve-live, taken-same, refuses, by_call, on_queue, Named, on_named, on_grant, on_aligned, on_in_place, on_move}
+use Rattle.claims.proofs.Cases.{reserve-live, taken-same, refuses, by_call, Named, on_named, on_grant, on_aligned, on_in_place, on_move}
 use Rattle.claims.proofs.Demand1.{demand1}
 use Rattle.claims.proofs.Demand2.{Accepted, accepted, set_up_accepted, sound-leaves}
-use Rattle.claims.proofs.AsSaid.{reports_as_said, queue-reports_as_said}
+use Rattle.claims.proofs.AsSaid.{reports_as_said}
 
--- ---- What a pool weighs: each live block as much as f says of its queue, its handle and its size. That the blocks of a ledger are those of a pool,
+-- ---- What a pool weighs: each live block as much as f says of its handle and size. That the blocks of a ledger and of a pool are the same,
 -- in whatever order, is said so: whatever f says, they weigh the same.
 
 -- a slot that begins at b
-unfoldable weight : (ℕ → LedgerBlock → ℕ) → ℕ → Slot → ℕ
-weight f b x = choose (is_live x) (f (queue x) (record { handle = b + 16 * disp x + use_bits (count x); size = size x })) 0
+unfoldable weight : (LedgerBlock → ℕ) → ℕ → Slot → ℕ
+weight f b x = choose (is_live x) (f (record { handle = b + 16 * disp x + use_bits (count x); size = size x })) 0
 
 -- a live block
 abbrev entry : ℕ → Place → LedgerBlock
 entry row p = record { handle = handle row p; size = size p.state }
 
-ready_weight : (f : ℕ → LedgerBlock → ℕ) (b : ℕ) (x : Slot) → T (is_ready x) → weight f b x ≡ 0
+ready_weight : (f : LedgerBlock → ℕ) (b : ℕ) (x : Slot) → T (is_ready x) → weight f b x ≡ 0
 unfolding weight choose
 ready_weight f b Fresh t = refl
 ready_weight f b (Idle r k d) t = refl
 ready_weight f b (Live a) t = absurd t
 
--- a reserved slot has the queue that asked for it
-reserve-queue : (row : ℕ) (P : Pool) (who k n : ℕ) (q : Place) → T (well_formed P) → reserve row P who k n ≡ some q → queue q.state ≡ who
-unfolding grant_slot
-reserve-queue row P who k n q w e = ap queue (served row P who k n q w e).taken.state
-
 fresh_idle : (n : ℕ) → any is_live (replicate n Fresh) ≡ false
 fresh_idle zero = refl
 fresh_idle (suc n) = fresh_idle n
 
-module _ (row : ℕ) (f : ℕ → LedgerBlock → ℕ) where
+module _ (row : ℕ) (f : LedgerBlock → ℕ) where
   -- slots of a group of class c whose first row is r, from number i on
   abbrev weigh_slots : ℕ → ℕ → ℕ → List Slot → ℕ
   weigh_slots r c i [] = 0
@@ -150,7 +142,7 @@ module _ (row : ℕ) (f : ℕ → LedgerBlock → ℕ) where
         behind p.before (group_of p ∷ p.after),
       )
 
-  live_weigh : (p : Place) → T (is_live p.state) → weigh 0 (pool_of p) ≡ rest p + f (queue p.state) (entry row p)
+  live_weigh : (p : Place) → T (is_live p.state) → weigh 0 (pool_of p) ≡ rest p + f (entry row p)
   unfolding weight
   live_weigh p l = place_weigh p ∙ ap (λ k. rest p + k) (choose-true (is_live p.state) _ 0 (T_true (is_live p.state) l))
 
@@ -165,30 +157,28 @@ module _ (row : ℕ) (f : ℕ → LedgerBlock → ℕ) where
       ))
 
   -- the slot that a grant takes
-  reserve_weigh : (P : Pool) (who k n : ℕ) (q : Place) → T (well_formed P) → reserve row P who k n ≡ some q
-      → weigh 0 (pool_of q) ≡ f who (record { handle = handle row q; size = n }) + weigh 0 P
+  reserve_weigh : (P : Pool) (k n : ℕ) (q : Place) → T (well_formed P) → reserve row P k n ≡ some q
+      → weigh 0 (pool_of q) ≡ f (record { handle = handle row q; size = n }) + weigh 0 P
   unfolding rest
-  reserve_weigh P who k n q w e =
-      let v : Served row P who k n q = served row P who k n q w e in
+  reserve_weigh P k n q w e =
+      let v : Served row P k n q = served row P k n q w e in
       let x : Slot = v.taken.old in
       omega (
         arith,
-        live_weigh q (reserve-live row P who k n q v),
-        ap₂ (λ v m. f v (record { handle = handle row q; size = m })) (reserve-queue row P who k n q w e) (reserve-size row P who k n q w e),
+        live_weigh q (reserve-live row P k n q v),
+        ap (λ m. f (record { handle = handle row q; size = m })) (reserve-size row P k n q w e),
         place_weigh (become q x),
         ready_weight f (beginning row q) x v.taken.ready,
         taken-same row (weigh 0)
             (λ X c ss Y. omega (arith, behind X (group c (refill ss) ∷ Y), behind X (group c ss ∷ Y), refill_weigh (rows row X) c ss))
             (λ X c Y. idle_weigh X c (replicate (slots_of c) Fresh) Y (fresh_idle (slots_of c)))
-            P who k n q v,
+            P k n q v,
       )
 
   -- ---- a pool weighs nothing where no live block does
 
-  abbrev NoneWeighs : Pool → Type 0
-  NoneWeighs P = (p : Place) → pool_of p ≡ P → T (is_live p.state) → f (queue p.state) (entry row p) ≡ 0
-
-  slots-zero : (X : Pool) (c : ℕ) (us xs : List Slot) (Y : Pool) → NoneWeighs (X ++ (group c (us ++ xs) ∷ Y)) → weigh_slots (rows row X) c (length us) xs ≡ 0
+  slots-zero : (X : Pool) (c : ℕ) (us xs : List Slot) (Y : Pool)
+      → ((p : Place) → pool_of p ≡ X ++ (group c (us ++ xs) ∷ Y) → T (is_live p.state) → f (entry row p) ≡ 0) → weigh_slots (rows row X) c (length us) xs ≡ 0
   unfolding weight
   slots-zero X c us [] Y h = refl
   slots-zero X c us (x ∷ xs) Y h =
@@ -196,12 +186,12 @@ module _ (row : ℕ) (f : ℕ → LedgerBlock → ℕ) where
       let p : Place = placed X c us x xs Y in
       omega (
         arith,
-        choose_case (λ k. k ≡ 0) (is_live x) (f (queue x) (entry row p)) 0 (λ e. h p refl (true-T (is_live x) e)) (λ e. refl),
+        choose_case (λ k. k ≡ 0) (is_live x) (f (entry row p)) 0 (λ e. h p refl (true-T (is_live x) e)) (λ e. refl),
         slots-zero X c (us ++ (x ∷ [])) xs Y (λ q e. h q (e ∙ ap (λ l. X ++ (group c l ∷ Y)) (append_assoc us (x ∷ []) xs))),
         ap (λ j. weigh_slots (rows row X) c j xs) l,
       )
 
-  weigh_zero : (X P : Pool) → NoneWeighs (X ++ P) → weigh (rows row X) P ≡ 0
+  weigh_zero : (X P : Pool) → ((p : Place) → pool_of p ≡ X ++ P → T (is_live p.state) → f (entry row p) ≡ 0) → weigh (rows row X) P ≡ 0
   weigh_zero X [] h = refl
   weigh_zero X (s ∷ P) h =
       omega (
@@ -211,7 +201,7 @@ module _ (row : ℕ) (f : ℕ → LedgerBlock → ℕ) where
         ap (λ k. weigh k P) (rows_append row X (s ∷ []) ∙ ap (λ k. rows row X + k) (add-zero (rows_in row s))),
       )
     where
-      span : (s : Span) → NoneWeighs (X ++ (s ∷ P)) → weigh_span (rows row X) s ≡ 0
+      span : (s : Span) → ((p : Place) → pool_of p ≡ X ++ (s ∷ P) → T (is_live p.state) → f (entry row p) ≡ 0) → weigh_span (rows row X) s ≡ 0
       span free h = refl
       span (group c ss) h = slots-zero X c [] ss P h
 
@@ -239,137 +229,40 @@ module _ (b : LedgerBlock) where
       same true q h = eqb-true e.size b.size q
       same false q h = absurd (omega arith)
 
--- ---- what a queue's request changes
+-- ---- calls on a pool whose live blocks are those of a ledger
 
 module _ (row : ℕ) where
-  -- of a pool's live blocks, those of the queue that go, and those that come
-  record Changes (who : ℕ) (P Q : Pool) (gone come : List LedgerBlock) : Type 0 where
-    weighs : (f : ℕ → LedgerBlock → ℕ) → weigh row f 0 Q + sum (f who) gone ≡ sum (f who) come + weigh row f 0 P
-
-  -- a grant, with whatever alignment
-  grant_changes : (P : Pool) (who k n : ℕ) (q : Place) → T (well_formed P) → reserve row P who k n ≡ some q
-      → Changes who P (pool_of q) [] (record { handle = handle row q; size = n } ∷ [])
-  grant_changes P who k n q w e = record { weighs = λ f. omega (arith, reserve_weigh row f P who k n q w e) }
-
-  module _ (P : Pool) (who h : ℕ) (p : Place) (n : Named row P who h p) where
-    -- the block of a handle, as it was
-    named_weigh : (f : ℕ → LedgerBlock → ℕ) → weigh row f 0 P ≡ rest row f p + f who (entry row p)
-    named_weigh f = ap (weigh row f 0) (sym n.pool) ∙ live_weigh row f p n.live ∙ ap (λ v. rest row f p + f v (entry row p)) n.own
-
-    -- a release, and a resize in place
-    release_changes : Changes who P (release_at row p).pool (entry row p ∷ []) []
-    release_changes = record { weighs = λ f. omega (arith, named_weigh f, released_weigh row f p) }
-
-    in_place_changes : (m : ℕ) → Changes who P (resize_at row p m).pool (entry row p ∷ []) (record { handle = h; size = m } ∷ [])
-    unfolding resize_at rest
-    in_place_changes m = record {
-      weighs = λ f.
-          omega (
-            arith,
-            named_weigh f,
-            live_weigh row f (become p (resized p.state m)) tt,
-            ap₂ (λ v i. f v (record { handle = i; size = m })) n.own n.present,
-          );
-    }
-
-    -- the old block is where it was when the new one has been granted
-    move_changes : (pos : 0 < row) (w : T (well_formed P)) (m : ℕ) (q : Place) → Askable (queue p.state) (align p.state) m
-        → reserve row P (queue p.state) (align p.state) m ≡ some q
-        → Changes who P (move_to row P p m (some q)).pool (entry row p ∷ []) (record { handle = handle row q; size = m } ∷ [])
-    move_changes pos w m q s e =
-        let v : ℕ = queue p.state in
-        let k : ℕ = align p.state in
-        let y : Old row pos P w v k m s q e p n.pool n.live = old row pos P w v k m s q e p n.pool n.live in
-        let p' : Place = y.place in
-        let i : handle row p' ≡ handle row p = stays_handle row p p' y.stays in
-        let d : discard row (pool_of q) p ≡ release_at row p' = old_released row pos P w v k m s q e p n.pool n.live in
-        record {
-          weighs = λ f.
-              omega (
-                arith,
-                reserve_weigh row f P v k m q w e,
-                ap (λ v. f v (record { handle = handle row q; size = m })) n.own,
-                ap (weigh row f 0) y.pool,
-                live_weigh row f p' y.live,
-                ap₂ (λ x i. f (queue x) (record { handle = i; size = size x })) y.stays.state i,
-                ap (λ v. f v (entry row p)) n.own,
-                released_weigh row f p',
-                ap (λ (r : Plan). weigh row f 0 r.pool) d,
-              );
-        }
-
--- ---- calls on a pool whose live blocks of chosen queues are those of a ledger
-
--- a block of a chosen queue weighs as much as f says
-abbrev among : (ℕ → Bool) → (LedgerBlock → ℕ) → ℕ → LedgerBlock → ℕ
-among chosen f who e = choose (chosen who) (f e) 0
-
-module _ (row : ℕ) (chosen : ℕ → Bool) where
-  -- the ledger's blocks are the chosen queues' live ones, and they are as many as its grants less its releases
+  -- the ledger's blocks are the pool's live ones, and they are as many as its grants less its releases
   record Tallies (l : Ledger) (P : Pool) : Type 0 where
-    sums : (f : LedgerBlock → ℕ) → sum f l.blocks ≡ weigh row (among chosen f) 0 P
+    sums : (f : LedgerBlock → ℕ) → sum f l.blocks ≡ weigh row f 0 P
     count : sum (λ e. 1) l.blocks + l.released ≡ l.granted
 
   fresh_tallies : (n : ℕ) → Tallies opening (fresh_pool n)
-  fresh_tallies n = record { sums = λ f. sym (fresh_weigh row (among chosen f) 0 n); count = refl }
+  fresh_tallies n = record { sums = λ f. sym (fresh_weigh row f 0 n); count = refl }
 
-  module _ (who : ℕ) where
-    -- blocks of a chosen queue, and of another
-    own_sum : chosen who ≡ true → (f : LedgerBlock → ℕ) (es : List LedgerBlock) → sum (among chosen f who) es ≡ sum f es
-    own_sum o f [] = refl
-    own_sum o f (e ∷ es) = ap₂ (λ j k. j + k) (choose-true (chosen who) (f e) 0 o) (own_sum o f es)
+  -- a grant, with whatever alignment
+  grant_tallies : (P : Pool) (k n : ℕ) (q : Place) → T (well_formed P) → reserve row P k n ≡ some q → (l : Ledger) → Tallies l P
+      → Tallies (entered_grant l (handle row q) n) (pool_of q)
+  grant_tallies P k n q w r l t = record { sums = λ f. omega (arith, t.sums f, reserve_weigh row f P k n q w r); count = omega (arith, t.count) }
 
-    other_sum : chosen who ≡ false → (f : LedgerBlock → ℕ) (es : List LedgerBlock) → sum (among chosen f who) es ≡ 0
-    other_sum o f [] = refl
-    other_sum o f (e ∷ es) = ap₂ (λ j k. j + k) (choose-false (chosen who) (f e) 0 o) (other_sum o f es)
-
-    module _ {P Q : Pool} {gone come : List LedgerBlock} (c : Changes row who P Q gone come) (l : Ledger) (t : Tallies l P) where
-      -- what a chosen queue changes
-      own_weighs : chosen who ≡ true → (f : LedgerBlock → ℕ) → weigh row (among chosen f) 0 Q + sum f gone ≡ sum f come + sum f l.blocks
-      own_weighs o f = omega (arith, c.weighs (among chosen f), own_sum o f gone, own_sum o f come, t.sums f)
-
-      -- what another queue changes is none of the ledger's
-      other_tallies : chosen who ≡ false → Tallies l Q
-      other_tallies o = record {
-        sums = λ f. omega (arith, c.weighs (among chosen f), other_sum o f gone, other_sum o f come, t.sums f);
-        count = t.count;
-      }
-
-    -- a grant to a chosen queue is entered
-    grant_tallies : (P : Pool) (k n : ℕ) (q : Place) → T (well_formed P) → reserve row P who k n ≡ some q → chosen who ≡ true
-        → (l : Ledger) → Tallies l P → Tallies (entered_grant l (handle row q) n) (pool_of q)
-    grant_tallies P k n q w r o l t = record {
-      sums = λ f. omega (arith, own_weighs (grant_changes row P who k n q w r) l t o f);
-      count = omega (arith, t.count);
-    }
-
-    -- each entry of a list is a grant
-    module _ (b : who < queues) (P : Pool) (ns : List ℕ) (qs : List Place) (w : T (well_formed P)) (h : T (small ns))
-        (e : reserve_all row P who ns ≡ some qs) where
-      list_tallies : chosen who ≡ true → (l : Ledger) → Tallies l P → Tallies (entered_each l (map (handle row) qs) ns) (pool_after P qs)
-      list_tallies o =
-          by_grants row who b (λ P ns qs. (l : Ledger) → Tallies l P → Tallies (entered_each l (map (handle row) qs) ns) (pool_after P qs)) (λ P l t. t)
-          (λ P n ns q qs w h r k l t. k _ (grant_tallies P ordinary n q w r o l t)) P ns qs w h e
-
-      list_others : chosen who ≡ false → (l : Ledger) → Tallies l P → Tallies l (pool_after P qs)
-      list_others o l =
-          by_grants row who b (λ P ns qs. Tallies l P → Tallies l (pool_after P qs)) (λ P t. t)
-          (λ P n ns q qs w h r k t. k (other_tallies (grant_changes row P who ordinary n q w r) l t o)) P ns qs w h e
+  -- each entry of a list is a grant
+  list_tallies : (P : Pool) (ns : List ℕ) (qs : List Place) → T (well_formed P) → T (small ns) → reserve_all row P ns ≡ some qs
+      → (l : Ledger) → Tallies l P → Tallies (entered_each l (map (handle row) qs) ns) (pool_after P qs)
+  list_tallies =
+      by_grants row (λ P ns qs. (l : Ledger) → Tallies l P → Tallies (entered_each l (map (handle row) qs) ns) (pool_after P qs)) (λ P l t. t)
+      (λ P n ns q qs w h r k l t. k _ (grant_tallies P ordinary n q w r l t))
 
   module _ (pos : 0 < row) (u : row % 16 ≡ 0) (P : Pool) (w : T (well_formed P)) (l : Ledger) (t : Tallies l P) where
-    -- the ledger's block that has the handle of a chosen queue's live block is that one
-    struck : (who h : ℕ) (p : Place) → Named row P who h p → chosen who ≡ true
-        → (f : LedgerBlock → ℕ) → sum f (without h l.blocks) + f (entry row p) ≡ sum f l.blocks
-    struck who h p n o f =
+    -- the ledger's block that has the handle of a live block of the pool is that one
+    struck : (p : Place) (h : ℕ) → Named row P h p → (f : LedgerBlock → ℕ) → sum f (without h l.blocks) + f (entry row p) ≡ sum f l.blocks
+    struck p h n f =
         subst (λ k. sum f (without k l.blocks) + f b ≡ sum f l.blocks) n.present
-        (without-sum b f l.blocks
-        (t.sums (strays b) ∙ weigh_zero row (among chosen (strays b)) [] P (λ q i _.
-        choose_case (λ k. k ≡ 0) (chosen (queue q.state)) (strays b (entry row q)) 0 (λ _. one q i (eqb (handle row q) (handle row p)) refl) (λ _. refl)))
+        (without-sum b f l.blocks (t.sums (strays b) ∙ weigh_zero row (strays b) [] P (λ q i _. one q i (eqb (handle row q) (handle row p)) refl))
         (omega (
           arith,
           t.sums (meets b),
-          named_weigh row P who h p n (among chosen (meets b)),
-          choose-true (chosen who) (meets b b) 0 o,
+          ap (weigh row (meets b) 0) n.pool,
+          live_weigh row (meets b) p n.live,
           ap bit (T_true (eqb (handle row p) (handle row p)) (eqb_refl (handle row p))),
         )))
       where
@@ -383,84 +276,89 @@ module _ (row : ℕ) (chosen : ℕ → Bool) where
             ap (λ c. bit (not c)) (T_true (eqb (size q.state) (size p.state)) (eq→eqb _ _ (ap (λ r. size r.state) z)))
         one q i false e = refl
 
-    module _ (who : ℕ) where
-      -- the ledger after an accepted plan of the queue's request
-      abbrev Enters : Request → Plan → Type 0
-      Enters c r = r.answer.number ≡ 0 → Tallies (let e = asked l c r.answer in choose (chosen who) e l) r.pool
+    -- the ledger after an accepted plan
+    abbrev Enters : Call → Plan → Type 0
+    Enters c r = r.answer.number ≡ 0 → Tallies (entered l c r.answer) r.pool
 
-      refused_enters : (c : Request) (r : Refusal) → Enters c (refused r P)
-      refused_enters c r z = absurd (refuses r z)
+    refused_enters : (c : Call) (r : Refusal) → Enters c (refused r P)
+    refused_enters c r z = absurd (refuses r z)
 
-      -- a request that changes nothing
-      same_enters : Tallies (choose (chosen who) l l) P
-      same_enters = choose_case (λ m. Tallies m P) (chosen who) l l (λ _. t) (λ _. t)
+    release_enters : (h : ℕ) (p : Place) → Named row P h p → Enters (releases h) (release_at row p)
+    release_enters h p n z =
+        record {
+          sums = λ g. omega (arith, struck p h n g, t.sums g, ap (weigh row g 0) n.pool, live_weigh row g p n.live, released_weigh row g p);
+          count = omega (arith, struck p h n (λ e. 1), t.count);
+        }
 
-      -- one that changes some blocks of the queue, if they are struck and entered where it is chosen
-      changed_enters : {Q : Pool} {gone come : List LedgerBlock} (m : Ledger) → Changes row who P Q gone come → (chosen who ≡ true → Tallies m Q)
-          → Tallies (choose (chosen who) m l) Q
-      changed_enters {Q} m c k = choose_case (λ m. Tallies m Q) (chosen who) m l k (other_tallies who c l t)
+    in_place_enters : (h m : ℕ) (p : Place) → Named row P h p → Enters (resizes_in_place h m) (resize_at row p m)
+    unfolding resize_at rest
+    in_place_enters h m p n z =
+        let q : Place = become p (Live (record { count = count p.state; disp = disp p.state; size = m; align = align p.state })) in
+        record {
+          sums = λ g.
+              omega (
+                arith,
+                struck p h n g,
+                t.sums g,
+                ap (weigh row g 0) n.pool,
+                live_weigh row g p n.live,
+                live_weigh row g q tt,
+                ap (λ v. g (record { handle = v; size = m })) n.present,
+              );
+          count = omega (arith, struck p h n (λ e. 1), t.count);
+        }
 
-      -- one grant, a list of them, and a release
-      grant_enters : (k n : ℕ) (q : Place) → reserve row P who k n ≡ some q
-          → Tallies (choose (chosen who) (entered_grant l (handle row q) n) l) (pool_of q)
-      grant_enters k n q e = changed_enters _ (grant_changes row P who k n q w e) (λ o. grant_tallies who P k n q w e o l t)
+    -- the old block is where it was when the new one has been granted
+    moved_enters : (h m : ℕ) (p q : Place) → Named row P h p → Askable (align p.state) m → reserve row P (align p.state) m ≡ some q
+        → Enters (moves h m) (move_to row P p m (some q))
+    moved_enters h m p q n s e z =
+        let k : ℕ = align p.state in
+        let y : Old row pos P w k m s q e p n.pool n.live = old row pos P w k m s q e p n.pool n.live in
+        let p' : Place = y.place in
+        let i : handle row p' ≡ handle row p = stays_handle row p p' y.stays in
+        let d : discard row (pool_of q) p ≡ release_at row p' = old_released row pos P w k m s q e p n.pool n.live in
+        record {
+          sums = λ g.
+              omega (
+                arith,
+                struck p h n g,
+                t.sums g,
+                reserve_weigh row g P k m q w e,
+                ap (weigh row g 0) y.pool,
+                live_weigh row g p' y.live,
+                ap₂ (λ x y. g (record { handle = x; size = y })) i (ap size y.stays.state),
+                released_weigh row g p',
+                ap (λ (r : Plan). weigh row g 0 r.pool) d,
+              );
+          count = omega (arith, struck p h n (λ e. 1), t.count);
+        }
 
-      list_enters : (ns : List ℕ) (qs : List Place) → who < queues → T (small ns) → reserve_all row P who ns ≡ some qs
-          → Tallies (choose (chosen who) (entered_each l (map (handle row) qs) ns) l) (pool_after P qs)
-      list_enters ns qs b h e =
-          choose_case (λ m. Tallies m (pool_after P qs)) (chosen who) _ l (λ o. list_tallies who b P ns qs w h e o l t)
-          (λ o. list_others who b P ns qs w h e o l t)
-
-      release_enters : (h : ℕ) (p : Place) → Named row P who h p → Enters (releases h) (release_at row p)
-      release_enters h p n z =
-          let c : Changes row who P (release_at row p).pool (entry row p ∷ []) [] = release_changes row P who h p n in
-          changed_enters _ c (λ o. record {
-            sums = λ f. omega (arith, own_weighs who c l t o f, struck who h p n o f);
-            count = omega (arith, struck who h p n o (λ e. 1), t.count);
-          })
-
-      -- another size, under one handle or another
-      sized_enters : (h v m : ℕ) (p : Place) (Q : Pool) → Named row P who h p → Changes row who P Q (entry row p ∷ []) (record { handle = v; size = m } ∷ [])
-          → Tallies (choose (chosen who) (entered_size l h v m) l) Q
-      sized_enters h v m p Q n c =
-          changed_enters _ c (λ o. record {
-            sums = λ f. omega (arith, own_weighs who c l t o f, struck who h p n o f);
-            count = omega (arith, struck who h p n o (λ e. 1), t.count);
-          })
-
-      -- any request of a queue that there is
-      request_enters : who < queues → (c : Request) → Enters c (plan_for row P who c)
-      unfolding plan_for release measure report_queue
-      request_enters b (grants m) =
-          on_grant row pos P (Enters (grants m)) (refused_enters (grants m)) who ordinary m b (lit≤ tt) (lit≤ tt) (λ q h e z. grant_enters ordinary m q e)
-      request_enters b (grants_aligned m a) =
-          on_aligned row pos P (Enters (grants_aligned m a)) (refused_enters (grants_aligned m a)) who m a b (λ q h e z. grant_enters (code_of a) m q e)
-      request_enters b (releases h) =
-          on_named row pos P (Enters (releases h)) (refused_enters (releases h)) who h (release_at row) (λ p n. release_enters h p n)
-      request_enters b (resizes_in_place h m) =
-          on_in_place row pos P (Enters (resizes_in_place h m)) (refused_enters (resizes_in_place h m)) w who h m
-          (λ p n i z. sized_enters h h m p _ n (in_place_changes row P who h p n m)) (λ p n z. absurd (omega arith))
-      request_enters b (moves h m) =
-          on_move row pos P (Enters (moves h m)) (refused_enters (moves h m)) w who h m (λ p n z. absurd (omega arith))
-          (λ p q n s e z. sized_enters h (handle row q) m p _ n (move_changes row P who h p n pos w m q s e))
-      request_enters b (measures h) =
-          on_named row pos P (Enters (measures h)) (refused_enters (measures h)) who h (measure_at row P) (λ p n z. same_enters)
-      request_enters b (grants_list total cap places ns) =
-          let c : Request = grants_list total cap places ns in
-          on_list row (Enters c) P who total cap places ns (refused_enters c) (λ qs h e z. list_enters ns qs b h e)
-      request_enters b reports_queue = λ z. same_enters
-
-    -- any call
-    plan_enters : (c : Call) → (plan row P c).answer.number ≡ 0 → Tallies (entered chosen l c (plan row P c).answer) (plan row P c).pool
-    unfolding plan report
+    plan_enters : (c : Call) → Enters c (plan row P c)
+    unfolding plan release measure report
     plan_enters sets_up = λ z. fresh_tallies (rows row P)
+    plan_enters (grants m) =
+        on_grant row pos P (Enters (grants m)) (refused_enters (grants m)) ordinary m (lit≤ tt) (lit≤ tt)
+        (λ q h e z. grant_tallies P ordinary m q w e l t)
+    plan_enters (grants_aligned m b) =
+        on_aligned row pos P (Enters (grants_aligned m b)) (refused_enters (grants_aligned m b)) m b (λ q h e z. grant_tallies P (code_of b) m q w e l t)
+    plan_enters (releases h) =
+        on_named row pos P (Enters (releases h)) (refused_enters (releases h)) h (release_at row) (λ p n. release_enters h p n)
+    plan_enters (resizes_in_place h m) =
+        on_in_place row pos P (Enters (resizes_in_place h m)) (refused_enters (resizes_in_place h m)) w h m (λ p n i. in_place_enters h m p n)
+        (λ p n z. absurd (omega arith))
+    plan_enters (moves h m) =
+        on_move row pos P (Enters (moves h m)) (refused_enters (moves h m)) w h m (λ p n z. absurd (omega arith))
+        (λ p q n s e. moved_enters h m p q n s e)
+    plan_enters (measures h) = on_named row pos P (Enters (measures h)) (refused_enters (measures h)) h (measure_at row P) (λ p n z. t)
     plan_enters reports = λ z. t
-    plan_enters (queued who c) = on_queue row P (Enters who c) who c (λ z. absurd (refuses WrongQueue z)) (λ b. request_enters who b c)
+    plan_enters (grants_list total cap places ns) =
+        let c : Call = grants_list total cap places ns in
+        on_list row (Enters c) P total cap places ns (refused_enters c) (λ qs h e z. list_tallies P ns qs w h e l t)
 
 -- ---- what report counts
 
 -- a sum over slots of which only the live ones count
-total_weigh : (row : ℕ) (g : Slot → ℕ) (f : ℕ → LedgerBlock → ℕ) → ((b : ℕ) (x : Slot) → g x ≡ weight f b x)
+total_weigh : (row : ℕ) (g : Slot → ℕ) (f : LedgerBlock → ℕ) → ((b : ℕ) (x : Slot) → g x ≡ weight f b x)
     → (r : ℕ) (P : Pool) → sum (slot_sum g) P ≡ weigh row f r P
 total_weigh row g f h r [] = refl
 total_weigh row g f h r (free ∷ P) = ap (λ k. 0 + k) (total_weigh row g f h (r + 1) P)
@@ -470,151 +368,103 @@ total_weigh row g f h r (group c ss ∷ P) = ap₂ (λ j k. j + k) (slots 0 ss) 
     slots i [] = refl
     slots i (x ∷ ss) = ap₂ (λ j k. j + k) (h (row * r + 16 + i * slot_bytes c) x) (slots (suc i) ss)
 
--- of all queues, and of one
-live_one : (b : ℕ) (x : Slot) → bit (is_live x) ≡ weight (among every_queue (λ e. 1)) b x
-unfolding weight choose
-live_one b Fresh = refl
-live_one b (Idle r k d) = refl
-live_one b (Live a) = refl
-
-live-size : (b : ℕ) (x : Slot) → size x ≡ weight (among every_queue (λ e. e.size)) b x
-unfolding weight choose
-live-size b Fresh = refl
-live-size b (Idle r k d) = refl
-live-size b (Live a) = refl
-
-queue_one : (q b : ℕ) (x : Slot) → bit (of_queue q x) ≡ weight (among (only q) (λ e. 1)) b x
-unfolding weight choose
-queue_one q b Fresh = refl
-queue_one q b (Idle r k d) = refl
-queue_one q b (Live a) = choose_case (λ k. bit (eqb a.queue q) ≡ k) (eqb a.queue q) 1 0 (ap bit) (ap bit)
-
-queue-size : (q b : ℕ) (x : Slot) → choose (of_queue q x) (size x) 0 ≡ weight (among (only q) (λ e. e.size)) b x
-unfolding weight choose
-queue-size q b Fresh = refl
-queue-size q b (Idle r k d) = refl
-queue-size q b (Live a) = refl
-
 -- ---- a list of calls
 
 module _ (row : ℕ) (pos : 0 < row) (F : Form) (L : FormLaws row F) (n : ℕ) where
-  module _ (chosen : ℕ → Bool) where
-    -- tables that are sound for an arena of n bytes, with the chosen queues' blocks those of a ledger
-    record Kept (l : Ledger) (t : F.Kept) : Type 0 where
-      tables : T (F.sound n t)
-      tallies : Tallies row chosen l (F.view t)
+  -- tables that are sound for an arena of n bytes, with the blocks of a ledger
+  record Kept (l : Ledger) (t : F.Kept) : Type 0 where
+    tables : T (F.sound n t)
+    tallies : Tallies row l (F.view t)
 
-    -- an accepted set up
-    fresh_kept : (a : List ℕ) (t : F.Kept) → T (set_up_right_by row F a t) → length a ≡ n → Kept opening (set_up_by row F a t).kept
-    fresh_kept a t h e =
-        let Q : Pool = fresh_pool (length a / row) in
-        subst (λ (r : Outcome F.Kept). Kept opening r.kept) (sym (set_up-done row F a t h)) (record {
-          tables = subst (λ m. T (F.sound m (F.encode Q))) e (set_up-sound row F a t h L);
-          tallies = subst (Tallies row chosen opening) (sym (L.says Q (fresh_formed (length a / row)))) (fresh_tallies row chosen (length a / row));
-        })
-
-    -- one call, over whatever arena
-    module _ (l : Ledger) (a : List ℕ) (t : F.Kept) (k : Kept l t) where
-      s : Stands row n (F.view t)
-      s = (L.only n t k.tables).0
-
-      abbrev Keeps : Call → Type 0
-      Keeps c = (call_by row F a t c).answer.number ≡ 0 → Kept (entered chosen l c (call_by row F a t c).answer) (call_by row F a t c).kept
-
-      -- a call but set up is accepted only over an arena of n bytes
-      asks_kept : (c : Call) → Asks c → Keeps c
-      asks_kept c i z =
-          let y : Accepted row pos F L a t c = accepted row pos F L a t c i z in
-          let P : Pool = F.view t in
-          let e : length a ≡ n = (L.only (length a) t y.sound-tables).0.long ∙ sym s.long in
-          let p : Plan = plan row P c in
-          record {
-            tables = subst (λ m. T (F.sound m (call_by row F a t c).kept)) e (sound-leaves row pos F L a t y.sound-tables c).tables;
-            tallies =
-                subst (λ (r : Outcome F.Kept). Tallies row chosen (entered chosen l c r.answer) (F.view r.kept)) (sym y.left)
-                (subst (Tallies row chosen (entered chosen l c p.answer))
-                (sym (L.says p.pool (plan_formed row pos P c s.formed).formed))
-                (plan_enters row chosen pos (whole_units row n s.lawful) P s.formed l k.tallies c
-                (ap (λ (r : Outcome F.Kept). r.answer.number) (sym y.left) ∙ z)));
-          }
-
-      -- a set up too, since what is lent tells the arena's length
-      set_up_kept : Keeps sets_up
-      unfolding call_by set_up_right_by
-      set_up_kept z =
-          let h : T (set_up_right_by row F a t) = set_up_accepted row pos F L a t z in
-          let (s, e) = L.only n t k.tables in
-          let f : T (F.fits (length a) (F.encode (F.view t))) = subst (λ u. T (F.fits (length a) u)) e (search and_right) in
-          fresh_kept a t h (L.sized n (length a) (F.view t) s (set_up_lawful row F a t h) f)
-
-      call_kept : (c : Call) → Kept (booked chosen l c (call_by row F a t c).answer) (call_by row F a t c).kept
-      call_kept c =
-          choose_case (λ m. Kept m (call_by row F a t c).kept) (eqb (call_by row F a t c).answer.number 0) _ _
-          (λ e. by_call Keeps set_up_kept asks_kept c (eqb-true (call_by row F a t c).answer.number 0 e))
-          (λ e. subst (Kept l) (sym ((demand1 row pos F L a t c).refused (eqb-false (call_by row F a t c).answer.number 0 e)).1) k)
-
-    calls_kept : (l : Ledger) (t : F.Kept) (cs : List Asked) → Kept l t → Kept (books_after row F chosen l t cs).ledger (books_after row F chosen l t cs).kept
-    unfolding books_after
-    calls_kept l t [] k = k
-    calls_kept l t (c ∷ cs) k = calls_kept _ (call_by row F c.arena t c.asks).kept cs (call_kept l c.arena t k c.asks)
-
-  kept_counts : (l : Ledger) (t : F.Kept) → Kept every_queue l t → Balances row l (totals row (F.view t)) n
-  unfolding totals
+  kept_counts : (l : Ledger) (t : F.Kept) → Kept l t → Balances row l (totals row (F.view t)) n
+  unfolding totals weight choose
   kept_counts l t k =
       let P : Pool = F.view t in
       record {
-        blocks = omega (
-          arith,
-          total_weigh row (λ x. bit (is_live x)) (among every_queue (λ e. 1)) live_one 0 P,
-          k.tallies.sums (λ e. 1),
-          k.tallies.count,
-        );
-        bytes = total_weigh row size (among every_queue (λ e. e.size)) live-size 0 P ∙ sym (k.tallies.sums (λ e. e.size));
+        blocks = omega (arith, total_weigh row (λ x. bit (is_live x)) (λ e. 1) live_one 0 P, k.tallies.sums (λ e. 1), k.tallies.count);
+        bytes = total_weigh row size (λ e. e.size) live-size 0 P ∙ sym (k.tallies.sums (λ e. e.size));
         rows = held_free row P ∙ sym (ap (λ m. m / row) (L.only n t k.tables).0.long ∙ mul-div_cancel_left (rows row P) pos);
       }
+    where
+      live_one : (b : ℕ) (x : Slot) → bit (is_live x) ≡ weight (λ e. 1) b x
+      live_one b x = choose_case (λ k. bit (is_live x) ≡ k) (is_live x) 1 0 (ap bit) (ap bit)
+
+      live-size : (b : ℕ) (x : Slot) → size x ≡ weight (λ e. e.size) b x
+      live-size b Fresh = refl
+      live-size b (Idle r k d) = refl
+      live-size b (Live a) = refl
+
+  -- an accepted set up
+  fresh_kept : (a : List ℕ) (t : F.Kept) → T (set_up_right_by row F a t) → length a ≡ n → Kept opening (set_up_by row F a t).kept
+  fresh_kept a t h e =
+      let Q : Pool = fresh_pool (length a / row) in
+      subst (λ (r : Outcome F.Kept). Kept opening r.kept) (sym (set_up-done row F a t h)) (record {
+        tables = subst (λ m. T (F.sound m (F.encode Q))) e (set_up-sound row F a t h L);
+        tallies = subst (Tallies row opening) (sym (L.says Q (fresh_formed (length a / row)))) (fresh_tallies row (length a / row));
+      })
+
+  -- one call, over whatever arena
+  module _ (l : Ledger) (a : List ℕ) (t : F.Kept) (k : Kept l t) where
+    s : Stands row n (F.view t)
+    s = (L.only n t k.tables).0
+
+    abbrev Keeps : Call → Type 0
+    Keeps c = (call_by row F a t c).answer.number ≡ 0 → Kept (entered l c (call_by row F a t c).answer) (call_by row F a t c).kept
+
+    -- a call but set up is accepted only over an arena of n bytes
+    asks_kept : (c : Call) → Asks c → Keeps c
+    asks_kept c i z =
+        let y : Accepted row pos F L a t c = accepted row pos F L a t c i z in
+        let P : Pool = F.view t in
+        let e : length a ≡ n = (L.only (length a) t y.sound-tables).0.long ∙ sym s.long in
+        let p : Plan = plan row P c in
+        record {
+          tables = subst (λ m. T (F.sound m (call_by row F a t c).kept)) e (sound-leaves row pos F L a t y.sound-tables c).tables;
+          tallies =
+              subst (λ (r : Outcome F.Kept). Tallies row (entered l c r.answer) (F.view r.kept)) (sym y.left)
+              (subst (Tallies row (entered l c p.answer))
+              (sym (L.says p.pool (plan_formed row pos P c s.formed).formed))
+              (plan_enters row pos (whole_units row n s.lawful) P s.formed l k.tallies c
+              (ap (λ (r : Outcome F.Kept). r.answer.number) (sym y.left) ∙ z)));
+        }
+
+    -- a set up too, since what is lent tells the arena's length
+    set_up_kept : Keeps sets_up
+    unfolding call_by set_up_right_by
+    set_up_kept z =
+        let h : T (set_up_right_by row F a t) = set_up_accepted row pos F L a t z in
+        let (s, e) = L.only n t k.tables in
+        let f : T (F.fits (length a) (F.encode (F.view t))) = subst (λ u. T (F.fits (length a) u)) e (search and_right) in
+        fresh_kept a t h (L.sized n (length a) (F.view t) s (set_up_lawful row F a t h) f)
+
+    call_kept : (c : Call) → Kept (booked l c (call_by row F a t c).answer) (call_by row F a t c).kept
+    call_kept c =
+        choose_case (λ m. Kept m (call_by row F a t c).kept) (eqb (call_by row F a t c).answer.number 0) _ _
+        (λ e. by_call Keeps set_up_kept asks_kept c (eqb-true (call_by row F a t c).answer.number 0 e))
+        (λ e. subst (Kept l) (sym ((demand1 row pos F L a t c).refused (eqb-false (call_by row F a t c).answer.number 0 e)).1) k)
+
+  calls_kept : (l : Ledger) (t : F.Kept) (cs : List Asked) → Kept l t → Kept (books_after row F l t cs).ledger (books_after row F l t cs).kept
+  unfolding books_after
+  calls_kept l t [] k = k
+  calls_kept l t (c ∷ cs) k = calls_kept _ (call_by row F c.arena t c.asks).kept cs (call_kept l c.arena t k c.asks)
 
   -- what report gives over an arena of n bytes
-  module _ (b : List ℕ) (e : length b ≡ n) (l : Ledger) (t : F.Kept) where
-    kept_told : Kept every_queue l t → ReportTells row F b (record { ledger = l; kept = t }) n
-    kept_told k = record {
-      totals = totals row (F.view t);
-      given = reports_as_said row F b t (subst (λ m. T (F.sound m t)) (sym e) k.tables);
-      counts = kept_counts l t k;
-    }
-
-    -- and a queue's report
-    queue_kept_told : (q : ℕ) → q ≤ 7 → Kept (only q) l t → QueueTells row F q b (record { ledger = l; kept = t })
-    unfolding queue_totals
-    queue_kept_told q h k =
-        let P : Pool = F.view t in
-        record {
-          blocks = (queue_totals row P q).blocks;
-          bytes = (queue_totals row P q).bytes;
-          given = queue-reports_as_said row F b t q (subst (λ m. T (F.sound m t)) (sym e) k.tables) h;
-          granted-less_released = omega (
-            arith,
-            total_weigh row (λ x. bit (of_queue q x)) (among (only q) (λ e. 1)) (queue_one q) 0 P,
-            k.tallies.sums (λ e. 1),
-            k.tallies.count,
-          );
-          latest_sizes =
-              total_weigh row (λ x. choose (of_queue q x) (size x) 0) (among (only q) (λ e. e.size)) (queue-size q) 0 P
-              ∙ sym (k.tallies.sums (λ e. e.size));
-        }
+  kept_told : (b : List ℕ) → length b ≡ n → (l : Ledger) (t : F.Kept) → Kept l t → ReportTells row F b (record { ledger = l; kept = t }) n
+  kept_told b e l t k = record {
+    totals = totals row (F.view t);
+    given = reports_as_said row F b t (subst (λ m. T (F.sound m t)) (sym e) k.tables);
+    counts = kept_counts l t k;
+  }
 
 -- what is lent after any calls from an accepted set up on
 module _ (row : ℕ) (pos : 0 < row) (F : Form) (L : FormLaws row F) where
-  run_kept : (chosen : ℕ → Bool) (a : List ℕ) (t : F.Kept) (cs : List Asked) → T (set_up_right_by row F a t)
-      → (let k = books_after row F chosen opening (set_up_by row F a t).kept cs in Kept row pos F L (length a) chosen k.ledger k.kept)
-  run_kept chosen a t cs h =
-      calls_kept row pos F L (length a) chosen opening (set_up_by row F a t).kept cs (fresh_kept row pos F L (length a) chosen a t h refl)
+  run_kept : (a : List ℕ) (t : F.Kept) (cs : List Asked) → T (set_up_right_by row F a t) → (let k = books_after row F opening (set_up_by row F a t).kept cs in
+      Kept row pos F L (length a) k.ledger k.kept)
+  run_kept a t cs h = calls_kept row pos F L (length a) opening (set_up_by row F a t).kept cs (fresh_kept row pos F L (length a) a t h refl)
 
   pub history_sound : (a : List ℕ) (t : F.Kept) (cs : List Asked) → T (set_up_right_by row F a t)
-      → T (F.sound (length a) (books_after row F every_queue opening (set_up_by row F a t).kept cs).kept)
-  history_sound a t cs h = (run_kept every_queue a t cs h).tables
+      → T (F.sound (length a) (books_after row F opening (set_up_by row F a t).kept cs).kept)
+  history_sound a t cs h = (run_kept a t cs h).tables
 
   pub history : History row F
-  history a t cs b h e = kept_told row pos F L (length a) b e _ _ (run_kept every_queue a t cs h)
-
-  pub queue_history : QueueHistory row F
-  queue_history q i a t cs b h e = queue_kept_told row pos F L (length a) b e _ _ q i (run_kept (only q) a t cs h)
+  history a t cs b h e = kept_told row pos F L (length a) b e _ _ (run_kept a t cs h)

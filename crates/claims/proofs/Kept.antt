@@ -1,11 +1,12 @@
 -- Another size keeps the alignment: in place the slot keeps it, and a move is a grant of it.
-use Rattle.mem.proofs.Prelude.{◌∙◌, ◌≡◌, sym, ap, refl, subst, some, List, [], ◌∷◌, ℕ, ◌%◌, ◌<◌, length, T, ltb, lt-ltb}
-use Rattle.mem.proofs.Tests.{choose-true}
+use Rattle.mem.proofs.Prelude.{◌∙◌, ◌≡◌, sym, ap, refl, subst, some, List, [], ◌∷◌, ℕ, ◌%◌, ◌<◌, length, T}
+use Rattle.classes.specs.Alignments.{Askable}
 use Rattle.model.specs.declared.Refusal.TheVariants.{NotInPlace, NoRoom}
-use Rattle.model.specs.State.{Pool, Place, queues, is_live, align, queue, well_formed, start_of, pool_of, start, handle}
-use Rattle.model.specs.Plans.{Plan, reserve, resize_at, move_to, resize_in_place, move, Request, resizes_in_place, moves, Call, queued, plan_for, plan, Askable}
+use Rattle.model.specs.State.{Pool, Place, is_live, align, well_formed, start_of, pool_of, start, handle}
+use Rattle.model.specs.Plans.{Plan, reserve, resize_at, move_to, resize_in_place, move, Call, plan}
 use Rattle.model.specs.Calls.{Form, FormLaws, Stands, Outcome, call_by}
 use Rattle.model.proofs.Fresh.{whole_units}
+use Rattle.model.proofs.Calls.{Asks}
 use Rattle.model.proofs.Lookup.{place_unique}
 use Rattle.model.proofs.Reserve.{served, reserve-align}
 use Rattle.model.proofs.Moves.{Old, old, stays_start}
@@ -14,7 +15,7 @@ use Rattle.claims.specs.AsSaid.{sized}
 use Rattle.claims.specs.Alignment.{sizes_in_place, sizes-move, KeepsBoundary, SizesKeepAlignment}
 use Rattle.model.proofs.Handles.{start_cleared}
 use Rattle.claims.proofs.Cases.{refuses, Named, on_in_place, on_move, reserve-live}
-use Rattle.claims.proofs.Demand2.{Accepted, accepted, AcceptedFor, accepted_for}
+use Rattle.claims.proofs.Demand2.{Accepted, accepted}
 use Rattle.claims.proofs.Stays.{discard-keeps, live_at, accepted_pool}
 
 -- the block of a handle in a pool, and the one of the value that a plan gives, which has its alignment
@@ -27,9 +28,9 @@ record Keeps (row : ℕ) (P : Pool) (h : ℕ) (l : Plan) : Type 0 where
   is : LiveAt row l.pool (start_of given) new
   same : align new.state ≡ align old.state
 
-module _ (row : ℕ) (pos : 0 < row) (P : Pool) (w : T (well_formed P)) (u : row % 16 ≡ 0) (who h n : ℕ) where
+module _ (row : ℕ) (pos : 0 < row) (P : Pool) (w : T (well_formed P)) (u : row % 16 ≡ 0) (h n : ℕ) where
   -- the block that gets another size, in place or by a move
-  module _ (p : Place) (b : Named row P who h p) where
+  module _ (p : Place) (b : Named row P h p) where
     -- the slot has another size, and nothing else
     in_place : Keeps row P h (resize_at row p n)
     unfolding resize_at
@@ -44,12 +45,10 @@ module _ (row : ℕ) (pos : 0 < row) (P : Pool) (w : T (well_formed P)) (u : row
     }
 
     -- a new block is at another start, so the release of the old one keeps it
-    moved : Askable (queue p.state) (align p.state) n → (q : Place) → reserve row P (queue p.state) (align p.state) n ≡ some q
-        → Keeps row P h (move_to row P p n (some q))
+    moved : Askable (align p.state) n → (q : Place) → reserve row P (align p.state) n ≡ some q → Keeps row P h (move_to row P p n (some q))
     moved s q f =
-        let j : ℕ = queue p.state in
-        let k : Old row pos P w j (align p.state) n s q f p b.pool b.live = old row pos P w j (align p.state) n s q f p b.pool b.live in
-        let l : T (is_live q.state) = reserve-live row P j (align p.state) n q (served row P j (align p.state) n q w f) in
+        let k : Old row pos P w (align p.state) n s q f p b.pool b.live = old row pos P w (align p.state) n s q f p b.pool b.live in
+        let l : T (is_live q.state) = reserve-live row P (align p.state) n q (served row P (align p.state) n q w f) in
         let d : start row q ≡ start row p → ⊥ =
         λ e. k.other (sym (place_unique row pos k.place q k.formed (sym k.pool) (e ∙ sym (stays_start row p k.place k.stays)))) in
         let (r, e, i) = discard-keeps row pos (pool_of q) p q refl l d in
@@ -61,18 +60,18 @@ module _ (row : ℕ) (pos : 0 < row) (P : Pool) (w : T (well_formed P)) (u : row
           value = refl;
           is = live_at row _ (start_of (handle row q)) r e (subst (λ x. T (is_live x)) (sym i.state) l)
               (stays_start row q r i ∙ sym (start_cleared row u q));
-          same = ap align i.state ∙ reserve-align row P j (align p.state) n q w f;
+          same = ap align i.state ∙ reserve-align row P (align p.state) n q w f;
         }
 
   -- where it is not refused
-  in_place_aligns : (resize_in_place row P who h n).answer.number ≡ 0 → Keeps row P h (resize_in_place row P who h n)
+  in_place_aligns : (resize_in_place row P h n).answer.number ≡ 0 → Keeps row P h (resize_in_place row P h n)
   in_place_aligns =
-      on_in_place row pos P (λ l. l.answer.number ≡ 0 → Keeps row P h l) (λ r z. absurd (refuses r z)) w who h n
+      on_in_place row pos P (λ l. l.answer.number ≡ 0 → Keeps row P h l) (λ r z. absurd (refuses r z)) w h n
       (λ p b _ _. in_place p b) (λ p b z. absurd (refuses NotInPlace z))
 
-  move_aligns : (move row P who h n).answer.number ≡ 0 → Keeps row P h (move row P who h n)
+  move_aligns : (move row P h n).answer.number ≡ 0 → Keeps row P h (move row P h n)
   move_aligns =
-      on_move row pos P (λ l. l.answer.number ≡ 0 → Keeps row P h l) (λ r z. absurd (refuses r z)) w who h n
+      on_move row pos P (λ l. l.answer.number ≡ 0 → Keeps row P h l) (λ r z. absurd (refuses r z)) w h n
       (λ p b z. absurd (refuses NoRoom z)) (λ p q b s f _. moved p b s q f)
 
 module _ (row : ℕ) (pos : 0 < row) (F : Form) (L : FormLaws row F) (a : List ℕ) (t : F.Kept) where
@@ -89,20 +88,18 @@ module _ (row : ℕ) (pos : 0 < row) (F : Form) (L : FormLaws row F) (a : List �
   }
 
   -- by what holds of its plan on a pool that stands
-  aligns : (who : ℕ) (r : Request) (h : ℕ) → (call_by row F a t (queued who r)).answer.number ≡ 0
-      → (T (well_formed (F.view t)) → row % 16 ≡ 0 → (plan_for row (F.view t) who r).answer.number ≡ 0 → Keeps row (F.view t) h (plan_for row (F.view t) who r))
-      → KeepsBoundary row F a t (queued who r) h
-  unfolding plan
-  aligns who r h z k =
-      let y : AcceptedFor row pos F L a t who r = accepted_for row pos F L a t who r z in
+  aligns : (c : Call) (h : ℕ) → Asks c → (call_by row F a t c).answer.number ≡ 0
+      → (T (well_formed (F.view t)) → row % 16 ≡ 0 → (plan row (F.view t) c).answer.number ≡ 0 → Keeps row (F.view t) h (plan row (F.view t) c))
+      → KeepsBoundary row F a t c h
+  aligns c h i z k =
+      let y : Accepted row pos F L a t c = accepted row pos F L a t c i z in
       let s : Stands row (length a) (F.view t) = (L.only (length a) t y.sound-tables).0 in
-      let e : plan row (F.view t) (queued who r) ≡ plan_for row (F.view t) who r = choose-true (ltb who queues) _ _ (lt-ltb who queues y.some-queue) in
-      keeps_boundary (queued who r) h (accepted row pos F L a t (queued who r) tt z)
-      (subst (Keeps row (F.view t) h) (sym e) (k s.formed (whole_units row (length a) s.lawful) y.done))
+      keeps_boundary c h y
+      (k s.formed (whole_units row (length a) s.lawful) (ap (λ (r : Outcome F.Kept). r.answer.number) (sym y.left) ∙ z))
 
 pub sizes_keep_alignment : (row : ℕ) → 0 < row → (F : Form) → FormLaws row F → SizesKeepAlignment row F
-unfolding plan_for
-sizes_keep_alignment row pos F L a t c h (sizes_in_place {who = who} {n = n}) z =
-    aligns row pos F L a t who (resizes_in_place h n) h z (λ w u. in_place_aligns row pos (F.view t) w u who h n)
-sizes_keep_alignment row pos F L a t c h (sizes-move {who = who} {n = n}) z =
-    aligns row pos F L a t who (moves h n) h z (λ w u. move_aligns row pos (F.view t) w u who h n)
+unfolding plan
+sizes_keep_alignment row pos F L a t c h (sizes_in_place {n = n}) z =
+    aligns row pos F L a t c h tt z (λ w u. in_place_aligns row pos (F.view t) w u h n)
+sizes_keep_alignment row pos F L a t c h (sizes-move {n = n}) z =
+    aligns row pos F L a t c h tt z (λ w u. move_aligns row pos (F.view t) w u h n)

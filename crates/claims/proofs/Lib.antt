@@ -21,11 +21,9 @@ pub mod Steps
 pub mod Requested
 pub mod Demand3
 pub mod History
-pub mod Queues
 pub mod Stale
 pub mod Record
 pub mod Lists
-pub mod Apart
 pub mod Alike
 pub mod Traces
 pub mod Flips

@@ -8,22 +8,22 @@ use Rattle.mem.proofs.Laws.{put-length}
 use Rattle.classes.specs.Classes.{size_limit}
 use Rattle.classes.specs.Alignments.{ordinary}
 use Rattle.model.specs.declared.Refusal.TheVariants.{NoRoom, TooLong}
-use Rattle.model.specs.State.{Pool, Place, queues, disp, size, pool_of, slot_number, rows, owned, handle}
+use Rattle.model.specs.State.{Pool, Place, disp, size, pool_of, slot_number, rows, owned, handle}
 use Rattle.model.specs.Blocks.{frame}
 use Rattle.model.specs.Answers.{Answer, done, list_done, refusal}
 use Rattle.model.specs.Proposals.{entries, cap_right, size_right, accepts, plannable, full_caps, planned}
 use Rattle.model.specs.Plans.{Plan, reserve, enframe, grant_at, grant_as, placed, placed_by, reserve_all, pool_after, grant_all_at, grant_list}
-use Rattle.model.specs.Plans.{grants, grants_list, queued, plan_for}
+use Rattle.model.specs.Plans.{grants, grants_list, plan}
 use Rattle.model.specs.Tables.{arena_right}
 use Rattle.model.specs.Calls.{Form, FormLaws, Outcome, applied, carried_by, call_by, write, written}
 use Rattle.model.proofs.Fresh.{whole_units}
 use Rattle.model.proofs.Reserve.{plain, Granted, reserve_formed}
-use Rattle.model.proofs.Calls.{call-queued, same_room, carried_whole}
+use Rattle.model.proofs.Calls.{call-sound, same_room, carried_whole}
 use Rattle.model.proofs.Lists.{small, small-first, small_rest, accepts-small, places-counted, on_list}
 use Rattle.model.proofs.Proposals.{planned_accepted, accepts-plannable, planned_fewest}
 use Rattle.claims.specs.Lists.{Plannable, Proposal, ChecksExactly, PlansAsSaid, granting, AsGrants, ListsAsGrants, ListsExactly}
 use Rattle.claims.proofs.Cases.{refuses}
-use Rattle.claims.proofs.Demand2.{AcceptedFor, accepted_for}
+use Rattle.claims.proofs.Demand2.{Accepted, accepted}
 
 -- ---- the check
 
@@ -106,59 +106,59 @@ none-eight : (vs : List ℕ) → T (any eight (map (λ h. done (h ∷ [])) vs)) 
 none-eight [] t = t
 none-eight (v ∷ vs) t = none-eight vs t
 
-module _ (row : ℕ) (F : Form) (who : ℕ) (o : who < queues) where
+module _ (row : ℕ) (F : Form) where
   -- what grants one after the other come to from a pool P, by the places that they take
   abbrev Granting : Pool → List ℕ → F.Kept → List ℕ → Option (List Place) → Type 0
-  Granting P a t ns none = T (any eight (granting row F who a t ns).answers)
+  Granting P a t ns none = T (any eight (granting row F a t ns).answers)
   Granting P a t ns (some qs) =
-      ((granting row F who a t ns).answers ≡ map (λ h. done (h ∷ [])) (map (handle row) qs))
-      × ((granting row F who a t ns).arena ≡ written a (map (enframe row) qs)) × ((granting row F who a t ns).kept ≡ F.encode (pool_after P qs))
+      ((granting row F a t ns).answers ≡ map (λ h. done (h ∷ [])) (map (handle row) qs))
+      × ((granting row F a t ns).arena ≡ written a (map (enframe row) qs)) × ((granting row F a t ns).kept ≡ F.encode (pool_after P qs))
 
   module _ (a : List ℕ) (t : F.Kept) (n : ℕ) (s : F.sound (length a) t ≡ true) (h : n < size_limit) where
-    granted-call : (p : Option Place) → reserve row (F.view t) who ordinary n ≡ p
-        → call_by row F a t (queued who (grants n)) ≡ carried_by row F a t (grant_at row (F.view t) p)
-    unfolding plan_for grant_as
-    granted-call p e =
-        call-queued row F a t s who (grants n) o
+    granted-call : (o : Option Place) → reserve row (F.view t) ordinary n ≡ o
+        → call_by row F a t (grants n) ≡ carried_by row F a t (grant_at row (F.view t) o)
+    unfolding plan grant_as
+    granted-call o e =
+        call-sound row F a t s (grants n) tt
         ∙ ap (carried_by row F a t) (choose-false (leb size_limit n) _ _ (lt-leb size_limit n h) ∙ ap (grant_at row (F.view t)) e)
 
-    taken-call : (q : Place) → reserve row (F.view t) who ordinary n ≡ some q
-        → call_by row F a t (queued who (grants n)) ≡ applied F a (grant_at row (F.view t) (some q))
+    taken-call : (q : Place) → reserve row (F.view t) ordinary n ≡ some q
+        → call_by row F a t (grants n) ≡ applied F a (grant_at row (F.view t) (some q))
     taken-call q e = granted-call (some q) e ∙ carried_whole row F a t (grant_at row (F.view t) (some q)) refl
 
-    full_call : reserve row (F.view t) who ordinary n ≡ none → (call_by row F a t (queued who (grants n))).answer ≡ refusal NoRoom
+    full_call : reserve row (F.view t) ordinary n ≡ none → (call_by row F a t (grants n)).answer ≡ refusal NoRoom
     full_call e = ap (λ (r : Outcome F.Kept). r.answer) (granted-call none e ∙ carried_whole row F a t (grant_at row (F.view t) none) refl)
 
   module _ (pos : 0 < row) (L : FormLaws row F) where
     grantings : (P : Pool) (a : List ℕ) (t : F.Kept) (ns : List ℕ) → F.view t ≡ P → F.sound (length a) t ≡ true → T (small ns)
-        → Granting P a t ns (reserve_all row P who ns)
+        → Granting P a t ns (reserve_all row P ns)
     unfolding granting reserve_all enframe
     grantings P a t [] v s h = (refl, refl, sym (same_room row F a t s L) ∙ ap F.encode v)
-    grantings P a t (n ∷ ns) v s h = go (reserve row P who ordinary n) refl (λ Q b u. grantings Q b u ns)
+    grantings P a t (n ∷ ns) v s h = go (reserve row P ordinary n) refl (λ Q b u. grantings Q b u ns)
       where
         small_n : n < size_limit
         small_n = small-first n ns h
 
         Later : Type 0
         Later = (Q : Pool) (b : List ℕ) (u : F.Kept) → F.view u ≡ Q → F.sound (length b) u ≡ true → T (small ns)
-            → Granting Q b u ns (reserve_all row Q who ns)
+            → Granting Q b u ns (reserve_all row Q ns)
 
-        lift : (q : Place) → call_by row F a t (queued who (grants n)) ≡ applied F a (grant_at row (F.view t) (some q))
+        lift : (q : Place) → call_by row F a t (grants n) ≡ applied F a (grant_at row (F.view t) (some q))
             → (o : Option (List Place)) → Granting (pool_of q) (write a (enframe row q)) (F.encode (pool_of q)) ns o
             → Granting P a t (n ∷ ns) (placed q o)
         lift q c none k =
-            subst (λ (r : Outcome F.Kept). T (eight r.answer || any eight (granting row F who r.arena r.kept ns).answers)) (sym c) k
+            subst (λ (r : Outcome F.Kept). T (eight r.answer || any eight (granting row F r.arena r.kept ns).answers)) (sym c) k
         lift q c (some qs) k = (
-          ap (λ (r : Outcome F.Kept). r.answer ∷ (granting row F who r.arena r.kept ns).answers) c ∙ ap (λ l. done (handle row q ∷ []) ∷ l) k.0,
-          ap (λ (r : Outcome F.Kept). (granting row F who r.arena r.kept ns).arena) c ∙ k.1,
-          ap (λ (r : Outcome F.Kept). (granting row F who r.arena r.kept ns).kept) c ∙ k.2,
+          ap (λ (r : Outcome F.Kept). r.answer ∷ (granting row F r.arena r.kept ns).answers) c ∙ ap (λ l. done (handle row q ∷ []) ∷ l) k.0,
+          ap (λ (r : Outcome F.Kept). (granting row F r.arena r.kept ns).arena) c ∙ k.1,
+          ap (λ (r : Outcome F.Kept). (granting row F r.arena r.kept ns).kept) c ∙ k.2,
         )
 
-        next : (q : Place) → reserve row P who ordinary n ≡ some q → Later → Granting P a t (n ∷ ns) (placed q (reserve_all row (pool_of q) who ns))
+        next : (q : Place) → reserve row P ordinary n ≡ some q → Later → Granting P a t (n ∷ ns) (placed q (reserve_all row (pool_of q) ns))
         next q e k =
             let f = (L.only (length a) t (true-T (F.sound (length a) t) s)).0 in
-            let r : reserve row (F.view t) who ordinary n ≡ some q = ap (λ P. reserve row P who ordinary n) v ∙ e in
-            let g : Granted row (F.view t) who ordinary n q = reserve_formed row (F.view t) who ordinary n q f.formed (plain o small_n) r in
+            let r : reserve row (F.view t) ordinary n ≡ some q = ap (λ P. reserve row P ordinary n) v ∙ e in
+            let g : Granted row (F.view t) ordinary n q = reserve_formed row (F.view t) ordinary n q f.formed (plain small_n) r in
             let b : List ℕ = write a (enframe row q) in
             let l : length b ≡ length a = put-length (owned row q) (frame q.cls (slot_number q) (disp q.state) (size q.state)) a in
             let m : length b ≡ row * rows row (pool_of q) = l ∙ f.long ∙ ap (λ k. row * k) (sym g.long) in
@@ -170,64 +170,59 @@ module _ (row : ℕ) (F : Form) (who : ℕ) (o : who < queues) where
               formed = g.formed;
               bounds = g.bounds (whole_units row (length a) f.lawful) f.bounds;
             }) in
-            lift q (taken-call a t n s small_n q r) (reserve_all row (pool_of q) who ns)
+            lift q (taken-call a t n s small_n q r) (reserve_all row (pool_of q) ns)
             (k (pool_of q) b (F.encode (pool_of q)) (L.says (pool_of q) g.formed) (T_true _ u) (small_rest n ns h))
 
-        go : (o : Option Place) → reserve row P who ordinary n ≡ o → Later → Granting P a t (n ∷ ns) (placed_by o (λ q. reserve_all row (pool_of q) who ns))
+        go : (o : Option Place) → reserve row P ordinary n ≡ o → Later → Granting P a t (n ∷ ns) (placed_by o (λ q. reserve_all row (pool_of q) ns))
         go none e k =
-            let o : Outcome F.Kept = call_by row F a t (queued who (grants n)) in
-            subst (λ (r : Answer). T (eight r || any eight (granting row F who o.arena o.kept ns).answers))
-            (sym (full_call a t n s small_n (ap (λ P. reserve row P who ordinary n) v ∙ e))) tt
+            let o : Outcome F.Kept = call_by row F a t (grants n) in
+            subst (λ (r : Answer). T (eight r || any eight (granting row F o.arena o.kept ns).answers))
+            (sym (full_call a t n s small_n (ap (λ P. reserve row P ordinary n) v ∙ e))) tt
         go (some q) e k = next q e k
 
-module _ (row : ℕ) (F : Form) (pos : 0 < row) (L : FormLaws row F) where
-  pub lists_as_grants : ListsAsGrants row F
-  unfolding plan_for
-  lists_as_grants a t who total cap places ns z =
-      let y : AcceptedFor row pos F L a t who (grants_list total cap places ns) = accepted_for row pos F L a t who (grants_list total cap places ns) z in
-      let M : Plan → Type 0 = λ p. p.answer.number ≡ 0 → AsGrants row F ns (applied F a p) (granting row F who a t ns) in
-      subst (λ (r : Outcome F.Kept). AsGrants row F ns r (granting row F who a t ns)) (sym y.left)
-      (on_list row M (F.view t) who total cap places ns (λ r e. absurd (refuses r e))
-      (λ qs h e _.
-      let s = T_true (F.sound (length a) t) y.sound-tables in
-      let g = subst (Granting row F who y.some-queue (F.view t) a t ns) e (grantings row F who y.some-queue pos L (F.view t) a t ns refl s h) in
-      let w = (L.only (length a) t y.sound-tables).0.formed in
-      record {
-        entries = ap (λ k. k ∷ []) (places-counted row who y.some-queue (F.view t) ns qs w h e);
-        handles = g.0;
-        arena = sym g.1;
-        kept = sym g.2;
-      })
-      y.done)
+    pub lists_as_grants : ListsAsGrants row F
+    unfolding plan
+    lists_as_grants a t total cap places ns z =
+        let c = grants_list total cap places ns in
+        let y : Accepted row pos F L a t c = accepted row pos F L a t c tt z in
+        let M : Plan → Type 0 = λ p. p.answer.number ≡ 0 → AsGrants row F ns (applied F a p) (granting row F a t ns) in
+        subst (λ (r : Outcome F.Kept). AsGrants row F ns r (granting row F a t ns)) (sym y.left)
+        (on_list row M (F.view t) total cap places ns (λ r e. absurd (refuses r e))
+        (λ qs h e _.
+        let s = T_true (F.sound (length a) t) y.sound-tables in
+        let g = subst (Granting (F.view t) a t ns) e (grantings (F.view t) a t ns refl s h) in
+        let w = (L.only (length a) t y.sound-tables).0.formed in
+        record {
+          entries = ap (λ k. k ∷ []) (places-counted row (F.view t) ns qs w h e);
+          handles = g.0;
+          arena = sym g.1;
+          kept = sym g.2;
+        })
+        (ap (λ (r : Outcome F.Kept). r.answer.number) (sym y.left) ∙ z))
 
-  pub lists_exactly : ListsExactly row F
-  unfolding plan_for grant_list entries
-  lists_exactly a t who total cap places ns s q l k = by_places (reserve_all row P who ns) refl
-    where
-      P : Pool
-      P = F.view t
+    pub lists_exactly : ListsExactly row F
+    unfolding plan grant_list entries
+    lists_exactly a t total cap places ns s l k = by_places (reserve_all row P ns) refl
+      where
+        P : Pool
+        P = F.view t
 
-      o : who < queues
-      o = omega (arith, q)
+        whole : (o : Option (List Place)) → reserve_all row P ns ≡ o
+            → call_by row F a t (grants_list total cap places ns) ≡ carried_by row F a t (grant_all_at row P o)
+        whole o e =
+            call-sound row F a t (T_true (F.sound (length a) t) s) (grants_list total cap places ns) tt
+            ∙ ap (carried_by row F a t)
+            (choose-true (plannable total cap && leb entries places) _ _
+            (T_true _ (and_both (plannable total cap) (leb entries places) (accepts-plannable total cap ns k) (le→leb entries places l)))
+            ∙ choose-true (accepts total cap ns) _ _ (T_true (accepts total cap ns) k) ∙ ap (grant_all_at row P) e)
 
-      whole : (x : Option (List Place)) → reserve_all row P who ns ≡ x
-          → call_by row F a t (queued who (grants_list total cap places ns)) ≡ carried_by row F a t (grant_all_at row P x)
-      whole x e =
-          call-queued row F a t (T_true (F.sound (length a) t) s) who (grants_list total cap places ns) o
-          ∙ ap (carried_by row F a t)
-          (choose-true (plannable total cap && leb entries places) _ _
-          (T_true _ (and_both (plannable total cap) (leb entries places) (accepts-plannable total cap ns k) (le→leb entries places l)))
-          ∙ choose-true (accepts total cap ns) _ _ (T_true (accepts total cap ns) k) ∙ ap (grant_all_at row P) e)
-
-      by_places : (x : Option (List Place)) → reserve_all row P who ns ≡ x
-          → ((call_by row F a t (queued who (grants_list total cap places ns))).answer.number ≡ 8) ↔ T (any eight (granting row F who a t ns).answers)
-      by_places none e =
-          let n = ap (λ (r : Outcome F.Kept). r.answer.number) (whole none e ∙ carried_whole row F a t (grant_all_at row P none) refl) in
-          let g = subst (Granting row F who o P a t ns) e
-          (grantings row F who o pos L P a t ns refl (T_true (F.sound (length a) t) s) (accepts-small total cap ns k)) in
-          ((λ _. g), λ _. n)
-      by_places (some qs) e =
-          let n = ap (λ (r : Outcome F.Kept). r.answer.number) (whole (some qs) e ∙ carried_whole row F a t (grant_all_at row P (some qs)) refl) in
-          let g = subst (Granting row F who o P a t ns) e
-          (grantings row F who o pos L P a t ns refl (T_true (F.sound (length a) t) s) (accepts-small total cap ns k)) in
-          ((λ x. absurd (omega (arith, n, x))), λ x. absurd (none-eight (map (handle row) qs) (subst (λ l. T (any eight l)) g.0 x)))
+        by_places : (o : Option (List Place)) → reserve_all row P ns ≡ o
+            → ((call_by row F a t (grants_list total cap places ns)).answer.number ≡ 8) ↔ T (any eight (granting row F a t ns).answers)
+        by_places none e =
+            let n = ap (λ (r : Outcome F.Kept). r.answer.number) (whole none e ∙ carried_whole row F a t (grant_all_at row P none) refl) in
+            let g = subst (Granting P a t ns) e (grantings P a t ns refl (T_true (F.sound (length a) t) s) (accepts-small total cap ns k)) in
+            ((λ _. g), λ _. n)
+        by_places (some qs) e =
+            let n = ap (λ (r : Outcome F.Kept). r.answer.number) (whole (some qs) e ∙ carried_whole row F a t (grant_all_at row P (some qs)) refl) in
+            let g = subst (Granting P a t ns) e (grantings P a t ns refl (T_true (F.sound (length a) t) s) (accepts-small total cap ns k)) in
+            ((λ x. absurd (omega (arith, n, x))), λ x. absurd (none-eight (map (handle row) qs) (subst (λ l. T (any eight l)) g.0 x)))

@@ -47,8 +47,8 @@ module _ (total cap places : ℕ) where
 
 -- ---- no room
 
-module _ (row who : ℕ) where
-  meets_here : 0 < row → (P : Pool) (n : ℕ) (ns : List ℕ) → reserve row P who ordinary n ≡ none → Meets row P who (n ∷ ns)
+module _ (row : ℕ) where
+  meets_here : 0 < row → (P : Pool) (n : ℕ) (ns : List ℕ) → reserve row P ordinary n ≡ none → Meets row P (n ∷ ns)
   unfolding reserve_all
   meets_here pos P n ns e = record {
     earlier = [];
@@ -57,10 +57,10 @@ module _ (row who : ℕ) where
     split = refl;
     places = [];
     granted-before = refl;
-    no_place = reserve-none row pos P who ordinary n e;
+    no_place = reserve-none row pos P ordinary n e;
   }
 
-  meets_later : (P : Pool) (n : ℕ) (ns : List ℕ) (q : Place) → reserve row P who ordinary n ≡ some q → Meets row (pool_of q) who ns → Meets row P who (n ∷ ns)
+  meets_later : (P : Pool) (n : ℕ) (ns : List ℕ) (q : Place) → reserve row P ordinary n ≡ some q → Meets row (pool_of q) ns → Meets row P (n ∷ ns)
   unfolding reserve_all
   meets_later P n ns q e m = record {
     earlier = n ∷ m.earlier;
@@ -68,53 +68,53 @@ module _ (row who : ℕ) where
     later = m.later;
     split = ap (λ l. n ∷ l) m.split;
     places = q ∷ m.places;
-    granted-before = ap (λ o. placed_by o (λ q. reserve_all row (pool_of q) who m.earlier)) e ∙ ap (placed q) m.granted-before;
+    granted-before = ap (λ o. placed_by o (λ q. reserve_all row (pool_of q) m.earlier)) e ∙ ap (placed q) m.granted-before;
     no_place = m.no_place;
   }
 
   -- a list that is refused meets it
-  pub meets : 0 < row → (P : Pool) (ns : List ℕ) → reserve_all row P who ns ≡ none → Meets row P who ns
+  pub meets : 0 < row → (P : Pool) (ns : List ℕ) → reserve_all row P ns ≡ none → Meets row P ns
   unfolding reserve_all
   meets pos P [] e = let z : ◌≡◌ {A = ℕ} 0 1 = cc in absurd (omega arith)
-  meets pos P (n ∷ ns) e = go (reserve row P who ordinary n) refl e (λ Q. meets pos Q ns)
+  meets pos P (n ∷ ns) e = go (reserve row P ordinary n) refl e (λ Q. meets pos Q ns)
     where
       rest : (q : Place) (o : Option (List Place)) → placed q o ≡ none → o ≡ none
       rest q none e = refl
       rest q (some qs) e = let z : ◌≡◌ {A = ℕ} 0 1 = cc in absurd (omega arith)
 
-      go : (o : Option Place) → reserve row P who ordinary n ≡ o → placed_by o (λ q. reserve_all row (pool_of q) who ns) ≡ none
-          → ((Q : Pool) → reserve_all row Q who ns ≡ none → Meets row Q who ns) → Meets row P who (n ∷ ns)
+      go : (o : Option Place) → reserve row P ordinary n ≡ o → placed_by o (λ q. reserve_all row (pool_of q) ns) ≡ none
+          → ((Q : Pool) → reserve_all row Q ns ≡ none → Meets row Q ns) → Meets row P (n ∷ ns)
       go none r e k = meets_here pos P n ns r
-      go (some q) r e k = meets_later P n ns q r (k (pool_of q) (rest q (reserve_all row (pool_of q) who ns) e))
+      go (some q) r e k = meets_later P n ns q r (k (pool_of q) (rest q (reserve_all row (pool_of q) ns) e))
 
   -- one that is granted does not
-  met : (P : Pool) (ms : List ℕ) (n : ℕ) (later : List ℕ) (ps qs : List Place) → reserve_all row P who ms ≡ some ps → NoPlace row (pool_after P ps) (class_of n)
-      → reserve_all row P who (ms ++ (n ∷ later)) ≡ some qs → ⊥
+  met : (P : Pool) (ms : List ℕ) (n : ℕ) (later : List ℕ) (ps qs : List Place) → reserve_all row P ms ≡ some ps → NoPlace row (pool_after P ps) (class_of n)
+      → reserve_all row P (ms ++ (n ∷ later)) ≡ some qs → ⊥
   unfolding reserve_all
-  met P [] n later [] qs e h f = go (reserve row P who ordinary n) refl f
+  met P [] n later [] qs e h f = go (reserve row P ordinary n) refl f
     where
-      go : (o : Option Place) → reserve row P who ordinary n ≡ o → placed_by o (λ q. reserve_all row (pool_of q) who later) ≡ some qs → ⊥
+      go : (o : Option Place) → reserve row P ordinary n ≡ o → placed_by o (λ q. reserve_all row (pool_of q) later) ≡ some qs → ⊥
       go none r f = let z : ◌≡◌ {A = ℕ} 0 1 = cc in omega arith
-      go (some q) r f = reserve-some row P who ordinary n q r h
+      go (some q) r f = reserve-some row P ordinary n q r h
   met P [] n later (p ∷ ps) qs e h f = let z : ◌≡◌ {A = ℕ} 0 1 = cc in omega arith
-  met P (m ∷ ms) n later ps qs e h f = go (reserve row P who ordinary m) e f (λ Q. met Q ms n later)
+  met P (m ∷ ms) n later ps qs e h f = go (reserve row P ordinary m) e f (λ Q. met Q ms n later)
     where
       Later : Type 0
-      Later = (Q : Pool) (ps qs : List Place) → reserve_all row Q who ms ≡ some ps → NoPlace row (pool_after Q ps) (class_of n)
-          → reserve_all row Q who (ms ++ (n ∷ later)) ≡ some qs → ⊥
+      Later = (Q : Pool) (ps qs : List Place) → reserve_all row Q ms ≡ some ps → NoPlace row (pool_after Q ps) (class_of n)
+          → reserve_all row Q (ms ++ (n ∷ later)) ≡ some qs → ⊥
 
-      rest : (q : Place) (o : Option (List Place)) → reserve_all row (pool_of q) who ms ≡ o → placed q o ≡ some ps
-          → (u : Option (List Place)) → reserve_all row (pool_of q) who (ms ++ (n ∷ later)) ≡ u → placed q u ≡ some qs → Later → ⊥
+      rest : (q : Place) (o : Option (List Place)) → reserve_all row (pool_of q) ms ≡ o → placed q o ≡ some ps
+          → (u : Option (List Place)) → reserve_all row (pool_of q) (ms ++ (n ∷ later)) ≡ u → placed q u ≡ some qs → Later → ⊥
       rest q none x e u y f k = let z : ◌≡◌ {A = ℕ} 0 1 = cc in omega arith
       rest q (some rs) x e none y f k = let z : ◌≡◌ {A = ℕ} 0 1 = cc in omega arith
       rest q (some rs) x e (some us) y f k =
           let z : ps ≡ q ∷ rs = cc in k (pool_of q) rs us x (subst (λ l. NoPlace row (pool_after P l) (class_of n)) z h) y
 
-      go : (o : Option Place) → placed_by o (λ q. reserve_all row (pool_of q) who ms) ≡ some ps
-          → placed_by o (λ q. reserve_all row (pool_of q) who (ms ++ (n ∷ later))) ≡ some qs → Later → ⊥
+      go : (o : Option Place) → placed_by o (λ q. reserve_all row (pool_of q) ms) ≡ some ps
+          → placed_by o (λ q. reserve_all row (pool_of q) (ms ++ (n ∷ later))) ≡ some qs → Later → ⊥
       go none e f k = let z : ◌≡◌ {A = ℕ} 0 1 = cc in omega arith
-      go (some q) e f k = rest q (reserve_all row (pool_of q) who ms) refl e (reserve_all row (pool_of q) who (ms ++ (n ∷ later))) refl f k
+      go (some q) e f k = rest q (reserve_all row (pool_of q) ms) refl e (reserve_all row (pool_of q) (ms ++ (n ∷ later))) refl f k
 
-  pub meets_none : (P : Pool) (ns : List ℕ) (qs : List Place) → reserve_all row P who ns ≡ some qs → Meets row P who ns → ⊥
+  pub meets_none : (P : Pool) (ns : List ℕ) (qs : List Place) → reserve_all row P ns ≡ some qs → Meets row P ns → ⊥
   meets_none P ns qs e m =
-      met P m.earlier m.size m.later m.places qs m.granted-before m.no_place (ap (reserve_all row P who) (sym m.split) ∙ e)
+      met P m.earlier m.size m.later m.places qs m.granted-before m.no_place (ap (reserve_all row P) (sym m.split) ∙ e)

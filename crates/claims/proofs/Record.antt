@@ -6,7 +6,7 @@ use Rattle.model.specs.Tables.{sound}
 use Rattle.model.specs.Calls.{KeptBytes, Result, engine, sound_kept, set_up, call, call_by}
 use Rattle.model.proofs.Fresh.{fresh-totals, set_up-done}
 use Rattle.model.proofs.Kept.{kept_right, kept_sound, kept_totals, engine_lawful}
-use Rattle.claims.specs.History.{every_queue, opening, books_after}
+use Rattle.claims.specs.History.{opening, books_after}
 use Rattle.claims.specs.Record.{SoundExactly, RecordsFresh, ReportsRecord, HistoryRecorded, KeepsRecord}
 use Rattle.claims.proofs.Demand2.{set_up_accepted, leaves-sound}
 use Rattle.claims.proofs.AsSaid.{reports_as_said}
@@ -30,7 +30,7 @@ reports-record row a t s =
 
 pub history_recorded : (row : ℕ) → 0 < row → HistoryRecorded row
 history_recorded row pos a t cs b h e =
-    let r : KeptBytes = (books_after row (engine row) every_queue opening (set_up row a t).kept cs).kept in
+    let r : KeptBytes = (books_after row (engine row) opening (set_up row a t).kept cs).kept in
     reports-record row b r (subst (λ n. T (sound_kept row n r)) (sym e) (history_sound row pos (engine row) (engine_lawful row pos) a t cs h))
 
 pub keeps-record : (row : ℕ) → 0 < row → KeepsRecord row

@@ -8,13 +8,12 @@ use Rattle.mem.proofs.Tests.{T_true, true-T, and_both, choose_case, choose-true,
 use Rattle.mem.proofs.Laws.{put-length, put-before, put-past, part-put, part-written, part_length, part_among, part-part, get_d_part, zeros-length, zeros-add}
 use Rattle.mem.proofs.Laws.{zeros-put, eq→same}
 use Rattle.classes.specs.Classes.{slot_bytes, size_limit}
-use Rattle.classes.specs.Alignments.{align_of, code_of, enlarged}
-use Rattle.model.specs.declared.Refusal.TheVariants.{NotInPlace, NoRoom, WrongQueue}
+use Rattle.classes.specs.Alignments.{align_of, code_of, enlarged, Askable}
+use Rattle.model.specs.declared.Refusal.TheVariants.{NotInPlace, NoRoom}
 use Rattle.model.specs.declared.Damage.TheVariants.{Intact}
-use Rattle.model.specs.State.{Pool, Place, disp, size, align, queue, queues, well_formed, aligned, start_of, pool_of, slot_number, rows, owned, start, handle}
+use Rattle.model.specs.State.{Pool, Place, disp, size, align, well_formed, aligned, start_of, pool_of, slot_number, rows, owned, start, handle}
 use Rattle.model.specs.Blocks.{reserved, header, guard, first_spare, spare, header_right, guard_right, damage_in, damage, frame}
-use Rattle.model.specs.Plans.{Plan, Request, grants_aligned, releases, resizes_in_place, moves, queued, plan_for, lookup, new_size, on_handle, on_handle_for, release_at, release}
-use Rattle.model.specs.Plans.{Askable}
+use Rattle.model.specs.Plans.{Plan, Call, grants_aligned, releases, resizes_in_place, moves, plan, lookup, new_size, on_handle, on_handle_for, release_at, release}
 use Rattle.model.specs.Plans.{discard, fits_in_place, resize_at, move_to, move_at, in_place_at, resize_in_place, move, refused_on}
 use Rattle.model.specs.Plans.{reserve, grant_at, grant_as, grant_aligned, enframe}
 use Rattle.model.specs.Tables.{view, arena_right}
@@ -24,7 +23,7 @@ use Rattle.model.proofs.Blocks.{header-length, guard-fits, spare-length, spare_g
 use Rattle.model.proofs.Lookup.{Fits, fits, disp_inside, owned_inside, Owns, outside_group}
 use Rattle.model.proofs.Reserve.{Granted, reserve_formed, reserve-size, served}
 use Rattle.model.proofs.Formed.{resize_at_formed, resizable}
-use Rattle.model.proofs.Calls.{call-queued, carried_whole}
+use Rattle.model.proofs.Calls.{Asks, call-sound, carried_whole}
 use Rattle.model.proofs.Moves.{Old, old, old_released, old_apart, slot_owned, stays_start}
 use Rattle.claims.specs.Demand1.{Reason, when, NotServed, NoRoomToMove, StaysInPlace, header_due, guard_due, new_size_reasons, unsound_reason, reasons}
 use Rattle.claims.specs.Demand2 as demand2
@@ -34,7 +33,7 @@ use Rattle.claims.proofs.Cases.{release_parts, reserve-live}
 use Rattle.claims.proofs.Codes.{code_align}
 use Rattle.claims.proofs.StaysInPlace.{in_place_serves}
 use Rattle.claims.proofs.Demand1.{demand1, starts_found, size_large}
-use Rattle.claims.proofs.Demand2.{AcceptedFor, accepted_for, NoneDue, none-due, found_intact}
+use Rattle.claims.proofs.Demand2.{Accepted, accepted, NoneDue, none-due, found_intact}
 use Rattle.claims.proofs.AsSaid.{released_as_said, on_intact, place_formed}
 use Rattle.claims.proofs.Frames.{guard_or_none}
 use Rattle.claims.proofs.Stays.{live_at}
@@ -42,7 +41,7 @@ use Rattle.claims.proofs.Stays.{live_at}
 -- ---- resize in place
 
 module _ (row : ℕ) (pos : 0 < row) (a : List ℕ) (n : ℕ) (p : Place) (w : T (well_formed (pool_of p))) (l : length a ≡ row * rows row (pool_of p))
-    (asked : Askable (queue p.state) (align p.state) n) (t : T (fits_in_place p n)) where
+    (asked : Askable (align p.state) n) (t : T (fits_in_place p n)) where
   abbrev c : ℕ
   c = p.cls
 
@@ -144,10 +143,10 @@ module _ (row : ℕ) (pos : 0 < row) (a : List ℕ) (n : ℕ) (p : Place) (w : T
       bare : (x s h o k n r m : ℕ) → h ≤ r → r ≤ s → k ≤ n → o + n + r ≡ x + s → m ≡ n - k + (r - h) → x + (s - h) ≡ o + k + m
       bare x s h o k n r m j b i e f = omega arith
 
-  in_place : (F : Form) → FormLaws row F → (u : F.Kept) (who h : ℕ) → demand2.Intact row a (F.view u) who h p
-      → (z : Outcome F.Kept) → z ≡ applied F a (resize_at row p n) → InPlace row F a u who h n p z
+  in_place : (F : Form) → FormLaws row F → (u : F.Kept) (h : ℕ) → demand2.Intact row a (F.view u) h p
+      → (z : Outcome F.Kept) → z ≡ applied F a (resize_at row p n) → InPlace row F a u h n p z
   unfolding resize_at
-  in_place F L u who h b z e =
+  in_place F L u h b z e =
       let x : z.arena ≡ reframed = ap (λ (r : Outcome F.Kept). r.arena) e in
       let y : F.view z.kept ≡ pool_of (sized p n) =
       ap (λ (r : Outcome F.Kept). F.view r.kept) e
@@ -170,7 +169,6 @@ module _ (row : ℕ) (pos : 0 < row) (a : List ℕ) (n : ℕ) (p : Place) (w : T
           present = b.present;
           header = subst (λ b. T (header_right c (slot_number p) d n (part (owned row p) (slot_bytes c) b))) (sym x) header_there;
           guard = subst (λ b. T (guard_right c d n (part (owned row p) (slot_bytes c) b))) (sym x) guard_there;
-          own = b.own;
         };
         others = λ i.
             ⊎_elim
@@ -184,45 +182,39 @@ module _ (row : ℕ) (pos : 0 < row) (a : List ℕ) (n : ℕ) (p : Place) (w : T
 
 -- the old block p and the new block q, which has its alignment, in an arena as long as the pool
 module _ (row : ℕ) (pos : 0 < row) (P : Pool) (w : T (well_formed P)) (a : List ℕ) (long : length a ≡ row * rows row P) (n : ℕ) (p : Place)
-    (asked : Askable (queue p.state) (align p.state) n) (q : Place) (found : reserve row P (queue p.state) (align p.state) n ≡ some q)
-    (who h : ℕ) (i : demand2.Intact row a P who h p) where
+    (asked : Askable (align p.state) n) (q : Place) (found : reserve row P (align p.state) n ≡ some q)
+    (h : ℕ) (i : demand2.Intact row a P h p) where
   abbrev code : ℕ
   code = align p.state
-
-  abbrev own : ℕ
-  own = queue p.state
-
-  some-queue : who < queues
-  some-queue = subst (λ j. j < queues) i.own asked.some-queue
 
   there : pool_of p ≡ P
   there = i.live.here.slotted.pool
 
   formed_p : T (well_formed (pool_of p))
-  formed_p = place_formed row pos P w a who h p i
+  formed_p = place_formed row pos P w a h p i
 
-  made : Granted row P own code n q
-  made = reserve_formed row P own code n q w asked found
+  made : Granted row P code n q
+  made = reserve_formed row P code n q w asked found
 
-  beside : Old row pos P w own code n asked q found p there i.live.live
-  beside = old row pos P w own code n asked q found p there i.live.live
+  beside : Old row pos P w code n asked q found p there i.live.live
+  beside = old row pos P w code n asked q found p there i.live.live
 
   discarded_old : discard row (pool_of q) p ≡ release_at row beside.place
   unfolding beside
-  discarded_old = old_released row pos P w own code n asked q found p there i.live.live
+  discarded_old = old_released row pos P w code n asked q found p there i.live.live
 
   -- by the handle that it has, it is released the same
-  released_old : release row (pool_of q) who h ≡ release_at row beside.place
+  released_old : release row (pool_of q) h ≡ release_at row beside.place
   unfolding release
   released_old =
       let o : Place = beside.place in
       let s : start row o ≡ start_of h = stays_start row p o beside.stays ∙ i.live.here.starts in
-      on_present row pos (pool_of q) who h (release_at row) o
+      on_present row pos (pool_of q) h (release_at row) o
       (starts_found row pos (pool_of q) (start_of h) o made.formed (live_at row (pool_of q) (start_of h) o beside.pool beside.live s).here)
-      beside.live (stays_handle row p o beside.stays ∙ i.present) (ap queue beside.stays.state ∙ i.own)
+      beside.live (stays_handle row p o beside.stays ∙ i.present)
 
   apart : (owned row p + slot_bytes p.cls ≤ owned row q) ⊎ (owned row q + slot_bytes q.cls ≤ owned row p)
-  apart = old_apart row pos P w own code n asked q found p there i.live.live
+  apart = old_apart row pos P w code n asked q found p there i.live.live
 
   inside_p : 16 * disp p.state + size p.state + 4 ≤ slot_bytes p.cls
   inside_p = let f : Fits p = fits p formed_p in disp_inside p.cls p.state f.class f.state
@@ -232,7 +224,7 @@ module _ (row : ℕ) (pos : 0 < row) (P : Pool) (w : T (well_formed P)) (a : Lis
 
   -- as many bytes as are copied
   short : (stay p n ≤ size p.state) × (stay p n ≤ size q.state)
-  short = (omega arith, omega (arith, reserve-size row P own code n q w found))
+  short = (omega arith, omega (arith, reserve-size row P code n q w found))
 
   -- the new block laid out, and the bytes copied into it
   abbrev framed : List ℕ
@@ -295,8 +287,8 @@ module _ (row : ℕ) (pos : 0 < row) (P : Pool) (w : T (well_formed P)) (a : Lis
   module _ (F : Form) (L : FormLaws row F) where
     -- the release over the copy
     release-done : T (arena_right row (length a)) → T (aligned row P)
-        → call_by row F copy (F.encode (pool_of q)) (queued who (releases h)) ≡ applied F copy (release_at row beside.place)
-    unfolding plan_for
+        → call_by row F copy (F.encode (pool_of q)) (releases h) ≡ applied F copy (release_at row beside.place)
+    unfolding plan
     release-done m b =
         let u : F.Kept = F.encode (pool_of q) in
         let x : T (F.sound (length copy) u) =
@@ -306,9 +298,9 @@ module _ (row : ℕ) (pos : 0 < row) (P : Pool) (w : T (well_formed P)) (a : Lis
           formed = made.formed;
           bounds = made.bounds (whole_units row (length a) m) b;
         }) in
-        call-queued row F copy u (T_true (F.sound (length copy) u) x) who (releases h) some-queue
+        call-sound row F copy u (T_true (F.sound (length copy) u) x) (releases h) tt
         ∙ ap (carried_by row F copy u)
-        (ap (λ Q. release row Q who h) (L.says (pool_of q) made.formed) ∙ released_old)
+        (ap (λ Q. release row Q h) (L.says (pool_of q) made.formed) ∙ released_old)
         ∙ carried_whole row F copy u (release_at row beside.place) (ap (damaged row copy) (release_parts row beside.place).0 ∙ old_whole)
 
     -- no byte of the new block is cleared by it
@@ -321,23 +313,23 @@ module _ (row : ℕ) (pos : 0 < row) (P : Pool) (w : T (well_formed P)) (a : Lis
     new_kept r (inr g) j o =
         g.bytes.others j
         (outside_group row pos beside.place q j beside.formed (sym beside.pool) (λ e. beside.other (sym e))
-        (reserve-live row P own code n q (served row P own code n q w found)) o g.none-live)
+        (reserve-live row P code n q (served row P code n q w found)) o g.none-live)
 
     -- the grant, the copy and the release make the move
     moved : (t : F.Kept) → P ≡ F.view t → (g z : Outcome F.Kept) → g ≡ applied F a (grant_at row P (some q)) → T (arena_right row (length a))
-        → T (aligned row P) → z ≡ applied F a (move_to row P p n (some q)) → MovedBy row F a t who h n p g z
+        → T (aligned row P) → z ≡ applied F a (move_to row P p n (some q)) → MovedBy row F a t h n p g z
     unfolding enframe
     moved t says g z e m b l =
-        let r : Outcome F.Kept = call_by row F copy (F.encode (pool_of q)) (queued who (releases h)) in
+        let r : Outcome F.Kept = call_by row F copy (F.encode (pool_of q)) (releases h) in
         let x : r ≡ applied F copy (release_at row beside.place) = release-done m b in
         let v : start_of (handle row q) ≡ start row q = start_cleared row (whole_units row (length a) m) q in
         let G : Outcome F.Kept = applied F a (grant_at row P (some q)) in
         let y : z.arena ≡ r.arena =
         ap (λ (r : Outcome F.Kept). r.arena) l ∙ ap (λ (d : Plan). written copy d.changes) discarded_old
         ∙ sym (ap (λ (r : Outcome F.Kept). r.arena) x) in
-        subst (λ (g : Outcome F.Kept). MovedBy row F a t who h n p g z) (sym e)
-        (subst (λ s. Moved row F a t who h n p G (handle row q) (put s first laid) z) (sym v) (record {
-          block = subst (λ P. demand2.Intact row a P who h p) says i;
+        subst (λ (g : Outcome F.Kept). MovedBy row F a t h n p g z) (sym e)
+        (subst (λ s. Moved row F a t h n p G (handle row q) (put s first laid) z) (sym v) (record {
+          block = subst (λ P. demand2.Intact row a P h p) says i;
           granted = refl;
           answer = ap (λ (r : Outcome F.Kept). r.answer) l;
           released = ap (λ (r : Outcome F.Kept). r.answer.number) x ∙ ap (λ r. r.number) (release_parts row beside.place).1;
@@ -354,14 +346,14 @@ module _ (row : ℕ) (pos : 0 < row) (P : Pool) (w : T (well_formed P)) (a : Lis
 -- ---- every accepted call
 
 -- a grant of a code's bytes is one with that code
-aligned_as : (row : ℕ) (P : Pool) (who k n : ℕ) → 1 ≤ k → k ≤ 9 → grant_aligned row P who n (align_of k) ≡ grant_as row P who k n
+aligned_as : (row : ℕ) (P : Pool) (k n : ℕ) → 1 ≤ k → k ≤ 9 → grant_aligned row P n (align_of k) ≡ grant_as row P k n
 unfolding grant_aligned
-aligned_as row P who k n s l =
+aligned_as row P k n s l =
     let e : code_of (align_of k) ≡ k = code_align k s l in
-    choose-true (ltb 0 (code_of (align_of k))) _ _ (lt-ltb 0 (code_of (align_of k)) (omega (arith, e))) ∙ ap (λ j. grant_as row P who j n) e
+    choose-true (ltb 0 (code_of (align_of k))) _ _ (lt-ltb 0 (code_of (align_of k)) (omega (arith, e))) ∙ ap (λ j. grant_as row P j n) e
 
 module _ (row : ℕ) (pos : 0 < row) (F : Form) (L : FormLaws row F) (a : List ℕ) (t : F.Kept) (sound : T (F.sound (length a) t)) (n : ℕ) (p : Place)
-    (asked : Askable (queue p.state) (align p.state) n) where
+    (asked : Askable (align p.state) n) where
   abbrev P : Pool
   P = F.view t
 
@@ -369,89 +361,86 @@ module _ (row : ℕ) (pos : 0 < row) (F : Form) (L : FormLaws row F) (a : List �
   s = (L.only (length a) t sound).0
 
   -- the grant of a move
-  abbrev asks : Request
+  abbrev asks : Call
   asks = grants_aligned n (align_of (align p.state))
 
-  grant-done : (q : Place) → reserve row P (queue p.state) (align p.state) n ≡ some q
-      → call_by row F a t (queued (queue p.state) asks) ≡ applied F a (grant_at row P (some q))
-  unfolding plan_for grant_as
+  grant-done : (q : Place) → reserve row P (align p.state) n ≡ some q → call_by row F a t asks ≡ applied F a (grant_at row P (some q))
+  unfolding plan grant_as
   grant-done q e =
       let k : ℕ = align p.state in
-      let who : ℕ = queue p.state in
-      call-queued row F a t (T_true (F.sound (length a) t) sound) who asks asked.some-queue
-      ∙ ap (carried_by row F a t) (aligned_as row P who k n asked.some_code asked.last_code
-      ∙ choose-false (leb size_limit (enlarged k n)) _ (grant_at row P (reserve row P who k n)) (lt-leb size_limit (enlarged k n) asked.small)
+      call-sound row F a t (T_true (F.sound (length a) t) sound) asks tt
+      ∙ ap (carried_by row F a t) (aligned_as row P k n asked.some_code asked.last_code
+      ∙ choose-false (leb size_limit (enlarged k n)) _ (grant_at row P (reserve row P k n)) (lt-leb size_limit (enlarged k n) asked.small)
       ∙ ap (grant_at row P) e)
       ∙ carried_whole row F a t (grant_at row P (some q)) refl
 
   -- a call that was done, of the block p
-  in_place-done : (who h : ℕ) → demand2.Intact row a P who h p → (z : Outcome F.Kept) → z.answer.number ≡ 0
-      → z ≡ applied F a (in_place_at row P n p) → InPlace row F a t who h n p z
+  in_place-done : (h : ℕ) → demand2.Intact row a P h p → (z : Outcome F.Kept) → z.answer.number ≡ 0
+      → z ≡ applied F a (in_place_at row P n p) → InPlace row F a t h n p z
   unfolding in_place_at
-  in_place-done who h i z d =
-      choose_case (λ (r : Plan). z ≡ applied F a r → InPlace row F a t who h n p z) (fits_in_place p n) (resize_at row p n) (refused_on NotInPlace P p)
-      (λ e. in_place row pos a n p (place_formed row pos P s.formed a who h p i)
-      (s.long ∙ ap (λ Q. row * rows row Q) (sym i.live.here.slotted.pool)) asked (true-T (fits_in_place p n) e) F L t who h i z)
+  in_place-done h i z d =
+      choose_case (λ (r : Plan). z ≡ applied F a r → InPlace row F a t h n p z) (fits_in_place p n) (resize_at row p n) (refused_on NotInPlace P p)
+      (λ e. in_place row pos a n p (place_formed row pos P s.formed a h p i)
+      (s.long ∙ ap (λ Q. row * rows row Q) (sym i.live.here.slotted.pool)) asked (true-T (fits_in_place p n) e) F L t h i z)
       (λ e l. absurd (omega (arith, d, ap (λ (r : Outcome F.Kept). r.answer.number) l)))
 
-  move-done : (who h : ℕ) → demand2.Intact row a P who h p → (z : Outcome F.Kept) → z.answer.number ≡ 0
-      → z ≡ applied F a (move_at row P n p) → MovedBy row F a t who h n p (call_by row F a t (queued who asks)) z
+  move-done : (h : ℕ) → demand2.Intact row a P h p → (z : Outcome F.Kept) → z.answer.number ≡ 0
+      → z ≡ applied F a (move_at row P n p) → MovedBy row F a t h n p (call_by row F a t asks) z
   unfolding move_at
-  move-done who h i z d = go (reserve row P (queue p.state) (align p.state) n) refl
+  move-done h i z d = go (reserve row P (align p.state) n) refl
     where
-      go : (r : Option Place) → reserve row P (queue p.state) (align p.state) n ≡ r → z ≡ applied F a (move_to row P p n r)
-          → MovedBy row F a t who h n p (call_by row F a t (queued who asks)) z
+      go : (r : Option Place) → reserve row P (align p.state) n ≡ r → z ≡ applied F a (move_to row P p n r)
+          → MovedBy row F a t h n p (call_by row F a t asks) z
       go none f l = absurd (omega (arith, d, ap (λ (r : Outcome F.Kept). r.answer.number) l))
       go (some q) f l =
-          moved row pos P s.formed a s.long n p asked q f who h i F L t refl (call_by row F a t (queued who asks)) z
-          (ap (λ j. call_by row F a t (queued j asks)) (sym i.own) ∙ grant-done q f) s.lawful s.bounds l
+          moved row pos P s.formed a s.long n p asked q f h i F L t refl (call_by row F a t asks) z (grant-done q f) s.lawful s.bounds l
 
 -- the block of an accepted call that gives it n bytes, and that its plan for the block is carried out
-module _ (row : ℕ) (pos : 0 < row) (F : Form) (L : FormLaws row F) (a : List ℕ) (t : F.Kept) (who h n : ℕ) (f : Place → Plan) where
-  record SizedBy (c : Request) : Type 0 where
+module _ (row : ℕ) (pos : 0 < row) (F : Form) (L : FormLaws row F) (a : List ℕ) (t : F.Kept) (h n : ℕ) (f : Place → Plan) where
+  record SizedBy (c : Call) : Type 0 where
     sound-tables : T (F.sound (length a) t)
     place : Place
-    block : demand2.Intact row a (F.view t) who h place
-    asked : Askable (queue place.state) (align place.state) n
-    left : call_by row F a t (queued who c) ≡ applied F a (f place)
+    block : demand2.Intact row a (F.view t) h place
+    asked : Askable (align place.state) n
+    left : call_by row F a t c ≡ applied F a (f place)
 
-  sized_by : (c : Request) (r : Reason) → NoneDue (unsound_reason row F a t ∷ when WrongQueue (7 < who) ∷ new_size_reasons row a (F.view t) who h n r)
-      → plan_for row (F.view t) who c ≡ on_handle_for row (F.view t) who h n f → (call_by row F a t (queued who c)).answer.number ≡ 0 → SizedBy c
+  sized_by : (c : Call) → Asks c → (r : Reason) → NoneDue (unsound_reason row F a t ∷ new_size_reasons row a (F.view t) h n r)
+      → plan row (F.view t) c ≡ on_handle_for row (F.view t) h n f → (call_by row F a t c).answer.number ≡ 0 → SizedBy c
   unfolding on_handle_for
-  sized_by c r (_, (_, (n₃, m))) e z =
+  sized_by c k r (_, (n₃, m)) e z =
       let o : ℕ = start_of h in
-      let y : AcceptedFor row pos F L a t who c = accepted_for row pos F L a t who c z in
+      let y : Accepted row pos F L a t c = accepted row pos F L a t c k z in
       let P : Pool = F.view t in
       let w : T (well_formed P) = (L.only (length a) t y.sound-tables).0.formed in
       let x : ℕ = new_size (lookup row P o) n in
       let s : x < size_limit = not_large x (λ g. n₃ ((size_large row pos P h n w).0 g)) in
-      let (p, i) = found_intact row pos F L a t y.sound-tables who h (r ∷ []) m in
+      let (p, i) = found_intact row pos F L a t y.sound-tables h (r ∷ []) m in
       record {
         sound-tables = y.sound-tables;
         place = p;
         block = i;
         asked = resizable row pos P o n w p (starts_found row pos P o p w i.live.here) i.live.here.slotted.pool i.live.live s;
         left = y.left
-            ∙ ap (applied F a) (e ∙ choose-false (leb size_limit x) _ (on_handle row P who h f) (lt-leb size_limit x s) ∙ on_intact row pos P w a who h p i f);
+            ∙ ap (applied F a) (e ∙ choose-false (leb size_limit x) _ (on_handle row P h f) (lt-leb size_limit x s) ∙ on_intact row pos P w a h p i f);
       }
     where
       not_large : (x : ℕ) → (size_limit ≤ x → ⊥) → x < size_limit
       not_large x f = omega (arith, f)
 
 pub in_place_as_said : (row : ℕ) → 0 < row → (F : Form) → FormLaws row F → InPlaceAsSaid row F
-unfolding plan_for resize_in_place
-in_place_as_said row pos F L a t who h n z =
-    let c : Request = resizes_in_place h n in
-    let y : SizedBy row pos F L a t who h n (in_place_at row (F.view t) n) c =
-    sized_by row pos F L a t who h n (in_place_at row (F.view t) n) c (when NotInPlace (NotServed row (F.view t) h n))
-    (none-due (reasons row F a t (queued who c)) _ (demand1 row pos F L a t (queued who c)).number z) refl z in
-    (y.place, in_place-done row pos F L a t y.sound-tables n y.place y.asked who h y.block (call_by row F a t (queued who c)) z y.left)
+unfolding plan resize_in_place
+in_place_as_said row pos F L a t h n z =
+    let c : Call = resizes_in_place h n in
+    let y : SizedBy row pos F L a t h n (in_place_at row (F.view t) n) c =
+    sized_by row pos F L a t h n (in_place_at row (F.view t) n) c tt (when NotInPlace (NotServed row (F.view t) h n))
+    (none-due (reasons row F a t c) _ (demand1 row pos F L a t c).number z) refl z in
+    (y.place, in_place-done row pos F L a t y.sound-tables n y.place y.asked h y.block (call_by row F a t c) z y.left)
 
 pub moves_as_said : (row : ℕ) → 0 < row → (F : Form) → FormLaws row F → MovesAsSaid row F
-unfolding plan_for move
-moves_as_said row pos F L a t who h n z =
-    let c : Request = moves h n in
-    let y : SizedBy row pos F L a t who h n (move_at row (F.view t) n) c =
-    sized_by row pos F L a t who h n (move_at row (F.view t) n) c (when NoRoom (NoRoomToMove row (F.view t) h n))
-    (none-due (reasons row F a t (queued who c)) _ (demand1 row pos F L a t (queued who c)).number z) refl z in
-    (y.place, move-done row pos F L a t y.sound-tables n y.place y.asked who h y.block (call_by row F a t (queued who c)) z y.left)
+unfolding plan move
+moves_as_said row pos F L a t h n z =
+    let c : Call = moves h n in
+    let y : SizedBy row pos F L a t h n (move_at row (F.view t) n) c =
+    sized_by row pos F L a t h n (move_at row (F.view t) n) c tt (when NoRoom (NoRoomToMove row (F.view t) h n))
+    (none-due (reasons row F a t c) _ (demand1 row pos F L a t c).number z) refl z in
+    (y.place, move-done row pos F L a t y.sound-tables n y.place y.asked h y.block (call_by row F a t c) z y.left)

@@ -5,14 +5,13 @@ use Rattle.mem.specs.Lists.{any}
 use Rattle.mem.proofs.Tests.{choose_case, true-T}
 use Rattle.mem.proofs.Splits.{splits}
 use Rattle.classes.specs.Classes.{rows_of}
-use Rattle.classes.specs.Alignments.{ordinary, code_of}
+use Rattle.classes.specs.Alignments.{ordinary, code_of, Askable}
 use Rattle.classes.proofs.Laws.{rows_pos}
 use Rattle.model.specs.declared.Slot.{Slot}
-use Rattle.model.specs.State.{Pool, Place, queues, queue, is_live, align, well_formed, pool_of, become, rows, SameSlot}
-use Rattle.model.specs.Plans.{Plan, reserve, reserve_all, pool_after, vacant, release_at, release, resize_at, move_to, Askable}
-use Rattle.model.specs.Plans.{measure, measure_at, report, report_queue, fresh_pool, plan_for, plan}
-use Rattle.model.specs.Plans.{Request, grants, grants_aligned, releases, resizes_in_place, moves, measures, grants_list, reports_queue}
-use Rattle.model.specs.Plans.{Call, sets_up, reports, queued}
+use Rattle.model.specs.State.{Pool, Place, is_live, align, well_formed, pool_of, become, rows, SameSlot}
+use Rattle.model.specs.Plans.{Plan, reserve, reserve_all, pool_after, vacant, release_at, release, resize_at, move_to}
+use Rattle.model.specs.Plans.{measure, measure_at, report, fresh_pool, plan}
+use Rattle.model.specs.Plans.{Call, sets_up, grants, grants_aligned, releases, resizes_in_place, moves, measures, reports, grants_list}
 use Rattle.model.proofs.Rooms.{rows_append}
 use Rattle.model.proofs.Fresh.{fresh-rows}
 use Rattle.model.proofs.Lookup.{group_of, fits, one_or_other}
@@ -22,7 +21,7 @@ use Rattle.model.proofs.Lists.{small, by_grants, on_list}
 use Rattle.model.proofs.Formed.{any_middle, vacant-sound, become_formed}
 use Rattle.model.proofs.Calls.{Asks}
 use Rattle.claims.specs.Stale.{Grants, grants_one, grants_by_alignment, grants_moved, grants_by_list, NotGranted, Steps}
-use Rattle.claims.proofs.Cases.{Named, on_queue, on_named, on_grant, on_aligned, on_in_place, on_move}
+use Rattle.claims.proofs.Cases.{Named, on_named, on_grant, on_aligned, on_in_place, on_move}
 use Rattle.claims.proofs.Stays.{KeptIn, become-keeps}
 
 module _ (row : ℕ) (pos : 0 < row) where
@@ -136,75 +135,60 @@ module _ (row : ℕ) (pos : 0 < row) where
         steps-after c k p'.state q.state g (subst (NotGranted p'.state) (ap (λ p. p.state) (sym z)) (refl, refl, λ z. z))
 
     -- a move: a grant, and the old block is given back
-    move-steps : (who h n : ℕ) (o g : Place) → Named row P who h o → Askable (queue o.state) (align o.state) n
-        → reserve row P (queue o.state) (align o.state) n ≡ some g → Fate (queued who (moves h n)) (move_to row P o n (some g))
-    move-steps who h n o g b s f _ q i u =
-        let j : ℕ = queue o.state in
-        let (p', a, v, go) = reserve_goes row P j (align o.state) n g w f p e in
-        let y : Old row pos P w j (align o.state) n s g f o b.pool b.live = old row pos P w j (align o.state) n s g f o b.pool b.live in
+    move-steps : (h n : ℕ) (o g : Place) → Named row P h o → Askable (align o.state) n → reserve row P (align o.state) n ≡ some g
+        → Fate (moves h n) (move_to row P o n (some g))
+    move-steps h n o g b s f _ q i u =
+        let (p', a, v, go) = reserve_goes row P (align o.state) n g w f p e in
+        let y : Old row pos P w (align o.state) n s g f o b.pool b.live = old row pos P w (align o.state) n s g f o b.pool b.live in
         let d : pool_of q ≡ (release_at row y.place).pool =
-        i ∙ ap (λ (r : Plan). r.pool) (old_released row pos P w j (align o.state) n s g f o b.pool b.live) in
-        steps-after (queued who (moves h n)) grants_moved p'.state q.state go ((given_back y.place y.formed y.live q d).others p' (a ∙ sym y.pool)
+        i ∙ ap (λ (r : Plan). r.pool) (old_released row pos P w (align o.state) n s g f o b.pool b.live) in
+        steps-after (moves h n) grants_moved p'.state q.state go ((given_back y.place y.formed y.live q d).others p' (a ∙ sym y.pool)
         (slot_after row p' p q (slot_back row p p' v) u))
 
     -- in place another slot changes, or this one keeps its count
-    in_place-steps : (who h n : ℕ) (o : Place) → Named row P who h o → Fate (queued who (resizes_in_place h n)) (resize_at row o n)
+    in_place-steps : (h n : ℕ) (o : Place) → Named row P h o → Fate (resizes_in_place h n) (resize_at row o n)
     unfolding resize_at
-    in_place-steps who h n o b v q i u =
-        became o _ (Steps (queued who (resizes_in_place h n))) (subst (λ Q. T (well_formed Q)) (sym b.pool) w) v (inl (refl, refl, λ _. b.live))
+    in_place-steps h n o b v q i u =
+        became o _ (Steps (resizes_in_place h n)) (subst (λ Q. T (well_formed Q)) (sym b.pool) w) v (inl (refl, refl, λ _. b.live))
         (λ y. inl (refl, refl, λ z. z)) p q (e ∙ sym b.pool) i u
 
-    release-steps : (who h : ℕ) (o : Place) → Named row P who h o → Fate (queued who (releases h)) (release_at row o)
-    release-steps who h o b _ q i u =
+    release-steps : (h : ℕ) (o : Place) → Named row P h o → Fate (releases h) (release_at row o)
+    release-steps h o b _ q i u =
         inl ((given_back o (subst (λ Q. T (well_formed Q)) (sym b.pool) w) b.live q i).others p (e ∙ sym b.pool) u)
 
   -- grants, one after the other
-  list_goes : (who : ℕ) → who < queues → (P : Pool) (ns : List ℕ) (qs : List Place) → T (well_formed P) → T (small ns) → reserve_all row P who ns ≡ some qs → (p : Place) → pool_of p ≡ P
+  list_goes : (P : Pool) (ns : List ℕ) (qs : List Place) → T (well_formed P) → T (small ns) → reserve_all row P ns ≡ some qs → (p : Place) → pool_of p ≡ P
       → GoesIn row (pool_after P qs) p
-  list_goes who o =
-      by_grants row who o (λ P ns qs. (p : Place) → pool_of p ≡ P → GoesIn row (pool_after P qs) p)
+  list_goes =
+      by_grants row (λ P ns qs. (p : Place) → pool_of p ≡ P → GoesIn row (pool_after P qs) p)
       (λ P p e. (p, e, record { first = refl; cls = refl; number = refl }, inl (as_was p.state)))
       (λ P n ns q qs w h r k p e.
-      let (p', a, s, g) = reserve_goes row P who ordinary n q w r p e in
+      let (p', a, s, g) = reserve_goes row P ordinary n q w r p e in
       let (p'', b, u, i) = k p' a in
       (p'', b, slot_after row p p' p'' s u, goes_twice p.state p'.state p''.state g i))
 
-  -- a slot of the pool in the pool that a request's plan leaves, refused or not
-  asked-steps : (P : Pool) (w : T (well_formed P)) (p : Place) (e : pool_of p ≡ P) (who : ℕ) → who < queues → (r : Request)
-      → Fate P w p e (queued who r) (plan_for row P who r)
-  unfolding plan_for release measure report_queue
-  asked-steps P w p e who o (grants n) =
-      let c : Call = queued who (grants n) in
-      on_grant row pos P (Fate P w p e c) (λ _ _. as_it_was P w p e c) who ordinary n o (lit≤ tt) (lit≤ tt)
-      (λ g _ f v. goes_steps P w p e c grants_one (pool_of g) v (reserve_goes row P who ordinary n g w f p e))
-  asked-steps P w p e who o (grants_aligned n b) =
-      let c : Call = queued who (grants_aligned n b) in
-      on_aligned row pos P (Fate P w p e c) (λ _ _. as_it_was P w p e c) who n b o
-      (λ g _ f v. goes_steps P w p e c grants_by_alignment (pool_of g) v (reserve_goes row P who (code_of b) n g w f p e))
-  asked-steps P w p e who o (releases h) =
-      let c : Call = queued who (releases h) in
-      on_named row pos P (Fate P w p e c) (λ _ _. as_it_was P w p e c) who h (release_at row) (release-steps P w p e who h)
-  asked-steps P w p e who o (resizes_in_place h n) =
-      let c : Call = queued who (resizes_in_place h n) in
-      on_in_place row pos P (Fate P w p e c) (λ _ _. as_it_was P w p e c) w who h n (λ o b _. in_place-steps P w p e who h n o b)
-      (λ _ _ _. as_it_was P w p e c)
-  asked-steps P w p e who o (moves h n) =
-      let c : Call = queued who (moves h n) in
-      on_move row pos P (Fate P w p e c) (λ _ _. as_it_was P w p e c) w who h n (λ _ _ _. as_it_was P w p e c)
-      (λ o g b s f. move-steps P w p e who h n o g b s f)
-  asked-steps P w p e who o (measures h) =
-      let c : Call = queued who (measures h) in
-      on_named row pos P (Fate P w p e c) (λ _ _. as_it_was P w p e c) who h (measure_at row P) (λ _ _ _. as_it_was P w p e c)
-  asked-steps P w p e who o (grants_list total cap places ns) =
-      let c : Call = queued who (grants_list total cap places ns) in
-      on_list row (Fate P w p e c) P who total cap places ns (λ _ _. as_it_was P w p e c)
-      (λ qs h f v. goes_steps P w p e c grants_by_list (pool_after P qs) v (list_goes who o P ns qs w h f p e))
-  asked-steps P w p e who o reports_queue = λ _. as_it_was P w p e (queued who reports_queue)
-
-  -- and a call's
+  -- a slot of the pool in the pool that a call's plan leaves, refused or not
   pub plan-steps : (P : Pool) (w : T (well_formed P)) (p : Place) (e : pool_of p ≡ P) (c : Call) → Asks c → Fate P w p e c (plan row P c)
-  unfolding plan report
+  unfolding plan release measure report
   plan-steps P w p e sets_up k = absurd k
+  plan-steps P w p e (grants n) k =
+      on_grant row pos P (Fate P w p e (grants n)) (λ _ _. as_it_was P w p e (grants n)) ordinary n (lit≤ tt) (lit≤ tt)
+      (λ g _ f v. goes_steps P w p e (grants n) grants_one (pool_of g) v (reserve_goes row P ordinary n g w f p e))
+  plan-steps P w p e (grants_aligned n b) k =
+      on_aligned row pos P (Fate P w p e (grants_aligned n b)) (λ _ _. as_it_was P w p e (grants_aligned n b)) n b
+      (λ g _ f v. goes_steps P w p e (grants_aligned n b) grants_by_alignment (pool_of g) v (reserve_goes row P (code_of b) n g w f p e))
+  plan-steps P w p e (releases h) k =
+      on_named row pos P (Fate P w p e (releases h)) (λ _ _. as_it_was P w p e (releases h)) h (release_at row) (release-steps P w p e h)
+  plan-steps P w p e (resizes_in_place h n) k =
+      let c : Call = resizes_in_place h n in
+      on_in_place row pos P (Fate P w p e c) (λ _ _. as_it_was P w p e c) w h n (λ o b _. in_place-steps P w p e h n o b) (λ _ _ _. as_it_was P w p e c)
+  plan-steps P w p e (moves h n) k =
+      let c : Call = moves h n in
+      on_move row pos P (Fate P w p e c) (λ _ _. as_it_was P w p e c) w h n (λ _ _ _. as_it_was P w p e c) (λ o g b s f. move-steps P w p e h n o g b s f)
+  plan-steps P w p e (measures h) k =
+      on_named row pos P (Fate P w p e (measures h)) (λ _ _. as_it_was P w p e (measures h)) h (measure_at row P) (λ _ _ _. as_it_was P w p e (measures h))
   plan-steps P w p e reports k = λ _. as_it_was P w p e reports
-  plan-steps P w p e (queued who r) k =
-      on_queue row P (Fate P w p e (queued who r)) who r (λ _. as_it_was P w p e (queued who r)) (λ o. asked-steps P w p e who o r)
+  plan-steps P w p e (grants_list total cap places ns) k =
+      let c : Call = grants_list total cap places ns in
+      on_list row (Fate P w p e c) P total cap places ns (λ _ _. as_it_was P w p e c)
+      (λ qs h f v. goes_steps P w p e c grants_by_list (pool_after P qs) v (list_goes P ns qs w h f p e))

@@ -12,7 +12,7 @@ use Rattle.classes.specs.Alignments.{align_of, enlarged}
 use Rattle.model.specs.declared.Slot.{Slot}
 use Rattle.model.specs.declared.Slot.TheVariants.{Fresh, Idle, Live}
 use Rattle.model.specs.State.{Span, Pool, Place, free, group, is_ready, is_waiting, is_live, granted, count, disp, size, align, slot_sound, span_sound, well_formed}
-use Rattle.model.specs.State.{queues, queue, aligned_slot, slots_aligned, aligned_from, aligned, pool_of, rows, beginning}
+use Rattle.model.specs.State.{aligned_slot, slots_aligned, aligned_from, aligned, pool_of, rows, beginning}
 use Rattle.model.specs.Tables.{Layout, arena_right, room_bytes, encode_by, view_by, sound_by}
 use Rattle.model.specs.Calls.{Form, FormLaws, Outcome, set_up_right_by, call_by}
 use Rattle.model.proofs.Fresh.{set_up_lawful, set_up-done}
@@ -85,7 +85,7 @@ never_granted (Live a) n = absurd n
 
 -- what the test asks of a live slot but its displacement, and back
 abbrev Lives : ℕ → Slot → Type 0
-Lives c x = (1 ≤ align x) × (align x ≤ 9) × (enlarged (align x) (size x) < 131052) × T (own_class c (enlarged (align x) (size x))) × (queue x < queues)
+Lives c x = (1 ≤ align x) × (align x ≤ 9) × (enlarged (align x) (size x) < 131052) × T (own_class c (enlarged (align x) (size x)))
 
 live_facts : (c : ℕ) (x : Slot) → T (is_live x) → T (slot_sound c x) → Lives c x
 unfolding slot_sound size_limit
@@ -96,7 +96,6 @@ live_facts c (Live a) l t = (
   leb→le a.align 9 (search (and_left, and_right)),
   ltb→lt (enlarged a.align a.size) 131052 (search (and_left, and_right)),
   search (and_left, and_right),
-  ltb→lt a.queue queues (search (and_left, and_right)),
 )
 
 facts_sound : (c : ℕ) (x : Slot) → count x < 256 → 16 * disp x + size x ≤ slot_bytes c - 4 → (T (is_live x) → Lives c x) → T (slot_sound c x)
@@ -104,13 +103,12 @@ unfolding slot_sound size_limit
 facts_sound c Fresh u f l = tt
 facts_sound c (Idle r k d) u f l = and_both (ltb k 256) _ (lt→ltb k 256 u) (le→leb (16 * d) (slot_bytes c - 4) (omega arith))
 facts_sound c (Live a) u f l =
-    let (one, nine, small, own, in-range) = l tt in
+    let (one, nine, small, own) = l tt in
     let t₁ : T (ltb a.count 256) = lt→ltb a.count 256 u in
     let t₂ : T (leb (16 * a.disp + a.size) (slot_bytes c - 4)) = le→leb (16 * a.disp + a.size) (slot_bytes c - 4) f in
     let t₃ : T (leb 1 a.align) = le→leb 1 a.align one in
     let t₄ : T (leb a.align 9) = le→leb a.align 9 nine in
     let t₅ : T (ltb (enlarged a.align a.size) 131052) = lt→ltb (enlarged a.align a.size) 131052 small in
-    let t₆ : T (ltb a.queue queues) = lt→ltb a.queue queues in-range in
     search and_both
 
 -- a live slot that begins at b, as a number
@@ -143,7 +141,7 @@ module _ (row : ℕ) (p : Place) where
     one = one_of_three x;
     uses = count_small c x f.state;
     live = λ l.
-        let (one, nine, small, own, in-range) = live_facts c x l f.state in
+        let (one, nine, small, own) = live_facts c x l f.state in
         let e : enlarged (align x) (size x) ≡ size x + (align_of (align x) - 16) = enlarged-align (align x) (size x) one in
         record {
           once = live-granted x l;
@@ -152,7 +150,6 @@ module _ (row : ℕ) (p : Place) where
           small = subst (λ m. m < 131052) e small;
           near = subst (Near c) e ((own_near c (enlarged (align x) (size x))).0 own);
           boundary = live-aligned (beginning row p) x l b;
-          owner = omega (arith, in-range);
         };
     idle = λ _ _. omega (arith, inside);
     never = never_granted x;
@@ -167,13 +164,8 @@ module _ (row : ℕ) (p : Place) where
       (λ l.
       let v : LiveRules row p = r.live l in
       let (one, nine) = v.code in
-      let e : enlarged (align x) (size x) ≡ size x + (align_of (align x) - 16) = enlarged-align (align x) (size x) one in (
-        one,
-        nine,
-        subst (λ m. m < 131052) (sym e) v.small,
-        (own_near c (enlarged (align x) (size x))).1 (subst (Near c) (sym e) v.near),
-        omega (arith, v.owner),
-      ))
+      let e : enlarged (align x) (size x) ≡ size x + (align_of (align x) - 16) = enlarged-align (align x) (size x) one in
+      (one, nine, subst (λ m. m < 131052) (sym e) v.small, (own_near c (enlarged (align x) (size x))).1 (subst (Near c) (sym e) v.near)))
 
   slot_aligned : SlotRules row p → T (aligned_slot (beginning row p) x)
   slot_aligned r = live_boundary (beginning row p) x (λ l. (r.live l).boundary)

@@ -5,9 +5,8 @@ use Rattle.mem.proofs.Prelude.{arith, T, eqb, eqb-true, eqb-false, length}
 use Rattle.classes.specs.Classes.{slot_bytes}
 use Rattle.classes.proofs.Laws.{bytes-units}
 use Rattle.model.specs.declared.Slot.{Slot}
-use Rattle.model.specs.State.{Pool, Place, is_live, count, disp, size, align, queue, well_formed, use_bits, start_of, pool_of, start, SameSlot, handle}
-use Rattle.model.specs.Plans.{Plan, release_at, release, move, fresh_pool, plan_for, plan, vacant, Call, sets_up, releases, moves}
-use Rattle.model.specs.declared.Refusal.TheVariants.{WrongQueue}
+use Rattle.model.specs.State.{Pool, Place, is_live, count, disp, size, align, well_formed, use_bits, start_of, pool_of, start, SameSlot, handle}
+use Rattle.model.specs.Plans.{Plan, release_at, release, fresh_pool, plan, vacant, Call, sets_up, moves}
 use Rattle.model.specs.Calls.{Form, FormLaws, Outcome, call_by}
 use Rattle.model.proofs.Fresh.{whole_units, fresh_formed}
 use Rattle.model.proofs.Tables.{count_small}
@@ -22,7 +21,7 @@ use Rattle.claims.specs.Alignment.{sizes_in_place, sizes-move}
 use Rattle.claims.specs.Stale.{Uses, uses_release, uses_sized, uses_measure, Ends, ends_release, ends_move}
 use Rattle.claims.specs.Stale.{Steps, StartsCleared, CountsStep, Remains, RemainsAll, after, StaleRefused}
 use Rattle.model.proofs.Handles.{start_cleared}
-use Rattle.claims.proofs.Cases.{refuses, by_call, Named, on_queue, on_named, on_move}
+use Rattle.claims.proofs.Cases.{refuses, by_call, Named, on_named, on_move}
 use Rattle.claims.proofs.Demand1.{demand1}
 use Rattle.claims.proofs.Demand2.{Accepted, accepted, measures_exactly}
 use Rattle.claims.proofs.AsSaid.{sets_up_as_said, releases_as_said}
@@ -83,54 +82,51 @@ module _ (row : ℕ) (pos : 0 < row) (F : Form) (L : FormLaws row F) where
     EndedBy r = r.answer.number ≡ 0 → (q : Place) → pool_of q ≡ r.pool → SameSlot row p q → Idles q
 
     -- the block that the handle names
-    the_block : (who : ℕ) (o : Place) → Named row P who h o → o ≡ p
-    the_block who o b = place_unique row pos p o (subst (λ Q. T (well_formed Q)) (sym e) w) (b.pool ∙ sym e) (b.starts ∙ sym starts)
+    the_block : (o : Place) → Named row P h o → o ≡ p
+    the_block o b = place_unique row pos p o (subst (λ Q. T (well_formed Q)) (sym e) w) (b.pool ∙ sym e) (b.starts ∙ sym starts)
 
     waits : (o q : Place) → count o.state ≡ count p.state → q.state ≡ vacant o → Idles q
     waits o q k z = (ap count z ∙ k, λ l. subst (λ x. T (is_live x)) z l)
 
-    release_ends : (who : ℕ) (o : Place) → Named row P who h o → (q : Place) → pool_of q ≡ (release_at row o).pool → SameSlot row p q → Idles q
-    release_ends who o b q f s =
-        let z : o ≡ p = the_block who o b in
+    release_ends : (o : Place) → Named row P h o → (q : Place) → pool_of q ≡ (release_at row o).pool → SameSlot row p q → Idles q
+    release_ends o b q f s =
+        let z : o ≡ p = the_block o b in
         waits o q (ap (λ p. count p.state) z)
         ((given_back row pos o (subst (λ Q. T (well_formed Q)) (sym b.pool) w) b.live q f).own (subst (λ p. SameSlot row p q) (sym z) s))
 
-    move_ends : (who n : ℕ) → EndedBy (move row P who h n)
-    move_ends who n =
-        on_move row pos P EndedBy (λ r z. absurd (refuses r z)) w who h n (λ o b z. absurd (omega arith))
+    move_ends : (n : ℕ) → EndedBy (plan row P (moves h n))
+    unfolding plan
+    move_ends n =
+        on_move row pos P EndedBy (λ r z. absurd (refuses r z)) w h n (λ o b z. absurd (omega arith))
         (λ o g b s f _ q i u.
-        let z : o ≡ p = the_block who o b in
-        let j : ℕ = queue o.state in
-        let y : Old row pos P w j (align o.state) n s g f o b.pool b.live = old row pos P w j (align o.state) n s g f o b.pool b.live in
+        let z : o ≡ p = the_block o b in
+        let y : Old row pos P w (align o.state) n s g f o b.pool b.live = old row pos P w (align o.state) n s g f o b.pool b.live in
         waits y.place q (ap count y.stays.state ∙ ap (λ p. count p.state) z)
         ((given_back row pos y.place y.formed y.live q
-        (i ∙ ap (λ (r : Plan). r.pool) (old_released row pos P w j (align o.state) n s g f o b.pool b.live))).own
+        (i ∙ ap (λ (r : Plan). r.pool) (old_released row pos P w (align o.state) n s g f o b.pool b.live))).own
         (slot_after row y.place o q (slot_back row o y.place y.stays.slot) (subst (λ p. SameSlot row p q) (sym z) u))))
 
     plan_ends : (c : Call) → Ends c h → EndedBy (plan row P c)
-    unfolding plan_for release
-    plan_ends c (ends_release {who = who}) =
-        on_queue row P EndedBy who (releases h) (λ z. absurd (refuses WrongQueue z))
-        (λ _. on_named row pos P EndedBy (λ r z. absurd (refuses r z)) who h (release_at row) (λ o b _. release_ends who o b))
-    plan_ends c (ends_move {who = who} {n = n}) = on_queue row P EndedBy who (moves h n) (λ z. absurd (refuses WrongQueue z)) (λ _. move_ends who n)
+    unfolding plan release
+    plan_ends c ends_release = on_named row pos P EndedBy (λ r z. absurd (refuses r z)) h (release_at row) (λ o b _. release_ends o b)
+    plan_ends c (ends_move {n = n}) = move_ends n
 
   -- the slot of a block in the tables that a call leaves which ends it
-  call_ends : (a : List ℕ) (t : F.Kept) (who h : ℕ) (p : Place) → Intact row a (F.view t) who h p → (c : Call) → (call_by row F a t c).answer.number ≡ 0
+  call_ends : (a : List ℕ) (t : F.Kept) (h : ℕ) (p : Place) → Intact row a (F.view t) h p → (c : Call) → (call_by row F a t c).answer.number ≡ 0
       → Ends c h → (q : Place) → pool_of q ≡ F.view (call_by row F a t c).kept → SameSlot row p q
       → (count q.state ≡ count p.state) × (T (is_live q.state) → ⊥)
-  call_ends a t who h p i c z d q f s =
+  call_ends a t h p i c z d q f s =
       let y : Accepted row pos F L a t c = accepted row pos F L a t c (ends_asks c d) z in
       plan_ends (F.view t) (sound_formed row pos F L a t y.sound-tables) h p i.live.here.slotted.pool i.live.here.starts c d
       (ap (λ (r : Outcome F.Kept). r.answer.number) (sym y.left) ∙ z) q (f ∙ accepted_pool row pos F L a t c y) s
 
   -- a call that is done on a handle has found its block
   call_finds : (b : List ℕ) (t : F.Kept) (h : ℕ) (c : Call) → Uses c h → (call_by row F b t c).answer.number ≡ 0
-      → (who : ℕ) × (p : Place) × Intact row b (F.view t) who h p
-  call_finds b t h c (uses_release {who = who}) z = let (p, r) = releases_as_said row pos F L b t who h z in (who, p, r.block)
-  call_finds b t h c (uses_sized (sizes_in_place {who = who} {n = n})) z = let (p, r) = in_place_as_said row pos F L b t who h n z in (who, p, r.block)
-  call_finds b t h c (uses_sized (sizes-move {who = who} {n = n})) z = let (p, r) = moves_as_said row pos F L b t who h n z in (who, p, r.block)
-  call_finds b t h c (uses_measure {who = who}) z =
-      let (p, i) = (measures_exactly row pos F L b t who h (accepted row pos F L b t c tt z).sound-tables).0.0 z in (who, p, i)
+      → (p : Place) × Intact row b (F.view t) h p
+  call_finds b t h c uses_release z = let (p, r) = releases_as_said row pos F L b t h z in (p, r.block)
+  call_finds b t h c (uses_sized (sizes_in_place {n = n})) z = let (p, r) = in_place_as_said row pos F L b t h n z in (p, r.block)
+  call_finds b t h c (uses_sized (sizes-move {n = n})) z = let (p, r) = moves_as_said row pos F L b t h n z in (p, r.block)
+  call_finds b t h c uses_measure z = (measures_exactly row pos F L b t h (accepted row pos F L b t c tt z).sound-tables).0.0 z
 
 -- ---- how often a slot was granted since
 
@@ -188,11 +184,11 @@ remains_first row F p t (c ∷ cs) r = r.0
 
 pub stale-refused : (row : ℕ) → 0 < row → (F : Form) → FormLaws row F → StaleRefused row F
 unfolding RemainsAll after
-stale-refused row pos F L a t who h p ends i z n cs all b c u y =
+stale-refused row pos F L a t h p ends i z n cs all b c u y =
     let k : ℕ = count p.state in
     let t₁ : F.Kept = (call_by row F a t ends).kept in
     let r : Remains row F p t₁ = remains_first row F p t₁ cs all in
-    let d = call_ends row pos F L a t who h p i ends z n r.now r.there r.slot in
+    let d = call_ends row pos F L a t h p i ends z n r.now r.there r.slot in
     go cs t₁ (call_formed row pos F L a t ends first) r.now r.there r.slot
     (record { times = 0; counts = d.0 ∙ omega (arith, byte); few = omega arith; again = λ l. absurd (d.1 l) }) all y
   where
@@ -210,7 +206,7 @@ stale-refused row pos F L a t who h p ends i z n cs all b c u y =
     go : (cs : List Asked) (t : F.Kept) → T (well_formed (F.view t)) → (q : Place) → pool_of q ≡ F.view t → SameSlot row p q
         → Since (count p.state) q.state → RemainsAll row F p t cs → (call_by row F b (after row F t cs) c).answer.number ≡ 0 → ⊥
     go [] t w q e s m all y =
-        let (_, r, x) = call_finds row pos F L b t h c u y in
+        let (r, x) = call_finds row pos F L b t h c u y in
         since_refused row pos (F.view t) w h p q r formed i.live.here.starts i.present e s m
         x.live.here.slotted.pool x.live.live x.live.here.starts x.present
     go (x ∷ cs) t w q e s m (_, all) y =

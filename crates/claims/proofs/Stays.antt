@@ -7,11 +7,10 @@ use Rattle.mem.proofs.Splits.{Before, Within, Behind, splits}
 use Rattle.classes.specs.Classes.{rows_of}
 use Rattle.classes.specs.Alignments.{ordinary, code_of}
 use Rattle.model.specs.declared.Slot.{Slot}
-use Rattle.model.specs.State.{Pool, Place, group, is_live, align, queues, queue, well_formed, start_of, pool_of, become, rows, start, handle}
+use Rattle.model.specs.State.{Pool, Place, group, is_live, align, well_formed, start_of, pool_of, become, rows, start, handle}
 use Rattle.model.specs.Plans.{Plan, reserve, reserve_all, pool_after, vacant, release_at, release, discard}
-use Rattle.model.specs.Plans.{resize_at, move_to, resize_in_place, move, measure_at, measure, report, report_queue, fresh_pool, plan_for, plan}
-use Rattle.model.specs.Plans.{Request, grants, grants_aligned, releases, resizes_in_place, moves, measures, grants_list, reports_queue}
-use Rattle.model.specs.Plans.{Call, sets_up, reports, queued}
+use Rattle.model.specs.Plans.{resize_at, move_to, resize_in_place, move, measure_at, measure, report, fresh_pool, plan}
+use Rattle.model.specs.Plans.{Call, sets_up, grants, grants_aligned, releases, resizes_in_place, moves, measures, reports, grants_list}
 use Rattle.model.specs.Calls.{Form, FormLaws, Outcome, call_by}
 use Rattle.model.proofs.Fresh.{fresh-rows}
 use Rattle.model.proofs.Calls.{Asks}
@@ -23,7 +22,7 @@ use Rattle.model.proofs.Formed.{on_block_lem, plan_formed}
 use Rattle.claims.specs.Demand1.{LiveAt}
 use Rattle.claims.specs.Alignment.{sizes_in_place, sizes-move, Names, names_all, names_release, names_sized, OthersStay}
 use Rattle.model.proofs.Handles.{stays_handle}
-use Rattle.claims.proofs.Cases.{by_call, on_queue, on_named, on_grant, on_aligned, on_in_place, on_move}
+use Rattle.claims.proofs.Cases.{by_call, on_named, on_grant, on_aligned, on_in_place, on_move}
 use Rattle.claims.proofs.Demand2.{Accepted, accepted}
 
 -- an element of a list of one
@@ -163,11 +162,10 @@ module _ (row : ℕ) where
         on_block_lem row pos (λ (r : Plan). KeptIn r.pool q) P (start row o) (release_at row) (as_it_is P q e) (as_it_is P q e)
         (λ p f i _. given_back p q (e ∙ sym i) l (λ z. other (z ∙ (lookup_found row pos P (start row o) p f).2)))
 
-    release-keeps : (P : Pool) (who h : ℕ) (q : Place) → pool_of q ≡ P → T (is_live q.state) → (start row q ≡ start_of h → ⊥)
-        → KeptIn (release row P who h).pool q
+    release-keeps : (P : Pool) (h : ℕ) (q : Place) → pool_of q ≡ P → T (is_live q.state) → (start row q ≡ start_of h → ⊥) → KeptIn (release row P h).pool q
     unfolding release
-    release-keeps P who h q e l other =
-        on_named row pos P (λ (r : Plan). KeptIn r.pool q) (λ _. as_it_is P q e) who h (release_at row)
+    release-keeps P h q e l other =
+        on_named row pos P (λ (r : Plan). KeptIn r.pool q) (λ _. as_it_is P q e) h (release_at row)
         (λ p b. given_back p q (e ∙ sym b.pool) l (λ z. other (z ∙ b.starts)))
 
     module _ (P : Pool) (w : T (well_formed P)) (p : Place) (e : pool_of p ≡ P) (l : T (is_live p.state)) where
@@ -176,62 +174,53 @@ module _ (row : ℕ) where
       Keeps r = KeptIn r.pool p
 
       -- a move is a grant, then a release of the old block
-      move-keeps : (old q : Place) (n : ℕ) → (start row p ≡ start row old → ⊥) → reserve row P (queue old.state) (align old.state) n ≡ some q
+      move-keeps : (old q : Place) (n : ℕ) → (start row p ≡ start row old → ⊥) → reserve row P (align old.state) n ≡ some q
           → Keeps (move_to row P old n (some q))
       move-keeps old q n other f =
-          let (p', a, s) = reserve-keeps row P (queue old.state) (align old.state) n q w f p e l in
+          let (p', a, s) = reserve-keeps row P (align old.state) n q w f p e l in
           let (p'', b, u) =
           discard-keeps (pool_of q) old p' a (subst (λ x. T (is_live x)) (sym s.state) l) (λ z. other (sym (stays_start row p p' s) ∙ z)) in
           (p'', b, stays_twice p p' p'' s u)
 
       -- in place another slot changes
-      in_place-keeps : (who h n : ℕ) → (start row p ≡ start_of h → ⊥) → Keeps (resize_in_place row P who h n)
+      in_place-keeps : (h n : ℕ) → (start row p ≡ start_of h → ⊥) → Keeps (resize_in_place row P h n)
       unfolding resize_at
-      in_place-keeps who h n other =
-          on_in_place row pos P Keeps (λ _. as_it_is P p e) w who h n
+      in_place-keeps h n other =
+          on_in_place row pos P Keeps (λ _. as_it_is P p e) w h n
           (λ old b _. become-keeps old _ p (e ∙ sym b.pool) (λ z. other (ap (start row) z ∙ b.starts))) (λ _ _. as_it_is P p e)
 
       -- another block moves
-      moves-keeps : (who h n : ℕ) → (start row p ≡ start_of h → ⊥) → Keeps (move row P who h n)
-      moves-keeps who h n other =
-          on_move row pos P Keeps (λ _. as_it_is P p e) w who h n (λ _ _. as_it_is P p e) (λ old q b _ f. move-keeps old q n (λ z. other (z ∙ b.starts)) f)
+      moves-keeps : (h n : ℕ) → (start row p ≡ start_of h → ⊥) → Keeps (move row P h n)
+      moves-keeps h n other =
+          on_move row pos P Keeps (λ _. as_it_is P p e) w h n (λ _ _. as_it_is P p e) (λ old q b _ f. move-keeps old q n (λ z. other (z ∙ b.starts)) f)
 
     -- grants, one after the other
-    list-keeps : (who : ℕ) → who < queues → (P : Pool) (ns : List ℕ) (qs : List Place) → T (well_formed P) → T (small ns) → reserve_all row P who ns ≡ some qs → (p : Place) → pool_of p ≡ P
+    list-keeps : (P : Pool) (ns : List ℕ) (qs : List Place) → T (well_formed P) → T (small ns) → reserve_all row P ns ≡ some qs → (p : Place) → pool_of p ≡ P
         → T (is_live p.state) → KeptIn (pool_after P qs) p
-    list-keeps who b =
-        by_grants row who b (λ P ns qs. (p : Place) → pool_of p ≡ P → T (is_live p.state) → KeptIn (pool_after P qs) p) (λ P p e l. as_it_is P p e)
+    list-keeps =
+        by_grants row (λ P ns qs. (p : Place) → pool_of p ≡ P → T (is_live p.state) → KeptIn (pool_after P qs) p) (λ P p e l. as_it_is P p e)
         (λ P n ns q qs w h r k p e l.
-        let (p', a, s) = reserve-keeps row P who ordinary n q w r p e l in
-        let (p'', i, u) = k p' a (subst (λ x. T (is_live x)) (sym s.state) l) in
-        (p'', i, stays_twice p p' p'' s u))
+        let (p', a, s) = reserve-keeps row P ordinary n q w r p e l in
+        let (p'', b, u) = k p' a (subst (λ x. T (is_live x)) (sym s.state) l) in
+        (p'', b, stays_twice p p' p'' s u))
 
-    -- a live block that a request does not name is in the pool that its plan leaves, refused or not
-    asked-keeps : (P : Pool) → T (well_formed P) → (p : Place) → pool_of p ≡ P → T (is_live p.state) → (who : ℕ) → who < queues → (r : Request)
-        → (Names (queued who r) (start row p) → ⊥) → KeptIn (plan_for row P who r).pool p
-    unfolding plan_for measure report_queue
-    asked-keeps P w p e l who o (grants n) other =
-        on_grant row pos P (Keeps P w p e l) (λ _. as_it_is P p e) who ordinary n o (lit≤ tt) (lit≤ tt)
-        (λ q _ f. reserve-keeps row P who ordinary n q w f p e l)
-    asked-keeps P w p e l who o (grants_aligned n b) other =
-        on_aligned row pos P (Keeps P w p e l) (λ _. as_it_is P p e) who n b o (λ q _ f. reserve-keeps row P who (code_of b) n q w f p e l)
-    asked-keeps P w p e l who o (releases h) other = release-keeps P who h p e l (λ z. other (names_release (sym z)))
-    asked-keeps P w p e l who o (resizes_in_place h n) other = in_place-keeps P w p e l who h n (λ z. other (names_sized sizes_in_place (sym z)))
-    asked-keeps P w p e l who o (moves h n) other = moves-keeps P w p e l who h n (λ z. other (names_sized sizes-move (sym z)))
-    asked-keeps P w p e l who o (measures h) other =
-        on_named row pos P (Keeps P w p e l) (λ _. as_it_is P p e) who h (measure_at row P) (λ _ _. as_it_is P p e)
-    asked-keeps P w p e l who o (grants_list total cap places ns) other =
-        on_list row (Keeps P w p e l) P who total cap places ns (λ _. as_it_is P p e) (λ qs h f. list-keeps who o P ns qs w h f p e l)
-    asked-keeps P w p e l who o reports_queue other = as_it_is P p e
-
-    -- and so of any call
+    -- a live block that a call does not name is in the pool that its plan leaves, refused or not
     pub plan-keeps : (P : Pool) → T (well_formed P) → (p : Place) → pool_of p ≡ P → T (is_live p.state) → (c : Call) → (Names c (start row p) → ⊥)
         → KeptIn (plan row P c).pool p
-    unfolding plan report
+    unfolding plan measure report
     plan-keeps P w p e l sets_up other = absurd (other names_all)
+    plan-keeps P w p e l (grants n) other =
+        on_grant row pos P (Keeps P w p e l) (λ _. as_it_is P p e) ordinary n (lit≤ tt) (lit≤ tt) (λ q _ f. reserve-keeps row P ordinary n q w f p e l)
+    plan-keeps P w p e l (grants_aligned n b) other =
+        on_aligned row pos P (Keeps P w p e l) (λ _. as_it_is P p e) n b (λ q _ f. reserve-keeps row P (code_of b) n q w f p e l)
+    plan-keeps P w p e l (releases h) other = release-keeps P h p e l (λ z. other (names_release (sym z)))
+    plan-keeps P w p e l (resizes_in_place h n) other = in_place-keeps P w p e l h n (λ z. other (names_sized sizes_in_place (sym z)))
+    plan-keeps P w p e l (moves h n) other = moves-keeps P w p e l h n (λ z. other (names_sized sizes-move (sym z)))
+    plan-keeps P w p e l (measures h) other =
+        on_named row pos P (Keeps P w p e l) (λ _. as_it_is P p e) h (measure_at row P) (λ _ _. as_it_is P p e)
     plan-keeps P w p e l reports other = as_it_is P p e
-    plan-keeps P w p e l (queued who r) other =
-        on_queue row P (Keeps P w p e l) who r (as_it_is P p e) (λ o. asked-keeps P w p e l who o r other)
+    plan-keeps P w p e l (grants_list total cap places ns) other =
+        on_list row (Keeps P w p e l) P total cap places ns (λ _. as_it_is P p e) (λ qs h f. list-keeps P ns qs w h f p e l)
 
 -- ---- tables
 

@@ -8,22 +8,20 @@ use Rattle.mem.specs.Bytes.{zeros, put, part}
 use Rattle.mem.proofs.Tests.{and_left, and_both, every-right, every_append, choose_case}
 use Rattle.mem.proofs.Laws.{zeros-length, zeros-none, zero-put, zeros-put, put_all, put-past}
 use Rattle.classes.specs.Classes.{slot_bytes, class_of, slots_of, rows_of}
-use Rattle.classes.specs.Alignments.{ordinary, code_of, enlarged}
+use Rattle.classes.specs.Alignments.{ordinary, code_of, enlarged, Askable}
 use Rattle.classes.proofs.Laws.{rows_hold}
 use Rattle.model.specs.declared.Slot.{Slot}
 use Rattle.model.specs.declared.Slot.TheVariants.{Fresh, Idle, Live}
 use Rattle.model.specs.declared.Refusal.{Refusal}
-use Rattle.model.specs.declared.Refusal.TheVariants.{NotInPlace, NoRoom, WrongQueue}
+use Rattle.model.specs.declared.Refusal.TheVariants.{NotInPlace, NoRoom}
 use Rattle.model.specs.declared.Damage.TheVariants.{Intact}
 use Rattle.model.specs.State.{Pool, Place, group, is_live, disp, size, align, slot_sound, well_formed, start_of, pool_of, become, slot_number, rows, base, start}
-use Rattle.model.specs.State.{queues, queue, owned, handle}
+use Rattle.model.specs.State.{owned, handle}
 use Rattle.model.specs.Blocks.{reserved, header, spare}
 use Rattle.model.specs.Answers.{done}
 use Rattle.model.specs.Plans.{Plan, refused, refused_on, turn_ready, refill, grant_in, reserve, enframe, vacant, release_at, release, discard, fits_in_place, resize_at}
-use Rattle.model.specs.Plans.{Askable, plan_for, report_queue}
 use Rattle.model.specs.Plans.{move_to, measure_at, measure, report, fresh_pool}
-use Rattle.model.specs.Plans.{Request, grants, grants_aligned, releases, resizes_in_place, moves, measures, grants_list, reports_queue}
-use Rattle.model.specs.Plans.{Call, sets_up, reports, queued}
+use Rattle.model.specs.Plans.{Call, sets_up, grants, grants_aligned, releases, resizes_in_place, moves, measures, reports, grants_list}
 use Rattle.model.specs.Plans.{plan, grant_at, reserve_all, pool_after}
 use Rattle.model.proofs.Lists.{small, by_grants, on_list}
 use Rattle.model.specs.Calls.{write, written, damaged}
@@ -33,10 +31,10 @@ use Rattle.model.proofs.Formed.{on_block_lem, become-fits, vacant-sound}
 use Rattle.claims.specs.Demand1.{LiveAt}
 use Rattle.claims.specs.Demand3.{Gains, gains_grant, gains_aligned, gains_in_place, gains_move, gains_list, given, Cleared}
 use Rattle.model.proofs.Handles.{start_cleared}
-use Rattle.claims.proofs.Cases.{release_parts, Named, on_queue, on_named, on_grant, on_aligned, on_in_place, on_move, reserve-live, taken-same, refuses}
+use Rattle.claims.proofs.Cases.{release_parts, Named, on_named, on_grant, on_aligned, on_in_place, on_move, reserve-live, taken-same, refuses}
 use Rattle.claims.proofs.Gathers.{framed, list_clears}
 use Rattle.claims.proofs.Cells.{due, slot_cells, slots_cells, pad, span_cells, cells, cells-append, cells-length, group-length, fresh_pool-cells, zeros-due}
-use Rattle.claims.proofs.Cells.{due-zeros, Agrees, agrees_length, agrees_due, agrees_over, agrees_frame, undamaged, slot_written, copied, sized_agrees}
+use Rattle.claims.proofs.Cells.{due-zeros, Agrees, agrees_length, agrees_due, agrees_over, agrees_frame, undamaged, slot_written, copied, resized}
 
 -- ---- slots that become ready, and new groups, change no cell
 
@@ -66,30 +64,30 @@ module _ (row : ℕ) (pos : 0 < row) where
 
   -- ---- grant
 
-  module _ (P : Pool) (who k n : ℕ) (q : Place) (w : T (well_formed P)) (h : Askable who k n) (r : reserve row P who k n ≡ some q) where
+  module _ (P : Pool) (k n : ℕ) (q : Place) (w : T (well_formed P)) (h : Askable k n) (r : reserve row P k n ≡ some q) where
     -- framed in an arena that agrees, it leaves one that agrees
     reserve_agrees : (a : List ℕ) → Agrees (cells row P) a → Agrees (cells row (pool_of q)) (write a (enframe row q))
     unfolding grant_in enframe
     reserve_agrees a g =
-        let v : Served row P who k n q = served row P who k n q w r in
+        let v : Served row P k n q = served row P k n q w r in
         let c : ℕ = class_of (enlarged k n) in
         let x : Slot = v.taken.old in
-        let f : Fits q = fits q (reserve_formed row P who k n q w h r).formed in
+        let f : Fits q = fits q (reserve_formed row P k n q w h r).formed in
         let t : T (every (slot_sound c) (q.lower ++ (x ∷ q.upper))) =
         subst (λ ss. T (every (slot_sound c) ss)) v.taken.slots (refill-sound c v.at.slots v.ground.sound) in
         let u : T (slot_sound c x) = and_left (slot_sound c x) (every (slot_sound c) q.upper) (every-right (slot_sound c) q.lower (x ∷ q.upper) t) in
         let y : T (slot_sound q.cls x) = subst (λ i. T (slot_sound i x)) (sym (ap (λ p. p.cls) v.place)) u in
         let e : cells row (pool_of (become q x)) ≡ cells row P =
-        taken-same row (cells row) (λ X c ss Y. simp (cells-append, refill-cells)) (λ X c Y. simp (cells-append, new_cells, fresh_pool-cells)) P who k n q v in
+        taken-same row (cells row) (λ X c ss Y. simp (cells-append, refill-cells)) (λ X c Y. simp (cells-append, new_cells, fresh_pool-cells)) P k n q v in
         slot_written row pos (become q x) (become-fits q x f y) a q.state _ f.state
-        (agrees_frame q.cls (slot_number q) q.state (reserve-live row P who k n q v)) (subst (λ l. Agrees l a) (sym e) g)
+        (agrees_frame q.cls (slot_number q) q.state (reserve-live row P k n q v)) (subst (λ l. Agrees l a) (sym e) g)
 
   -- a list of grants
-  list_agrees : (who : ℕ) → who < queues → (P : Pool) (ns : List ℕ) (qs : List Place) → T (well_formed P) → T (small ns) → reserve_all row P who ns ≡ some qs
+  list_agrees : (P : Pool) (ns : List ℕ) (qs : List Place) → T (well_formed P) → T (small ns) → reserve_all row P ns ≡ some qs
       → (a : List ℕ) → Agrees (cells row P) a → Agrees (cells row (pool_after P qs)) (written a (map (enframe row) qs))
-  list_agrees who b =
-      by_grants row who b (λ P ns qs. (a : List ℕ) → Agrees (cells row P) a → Agrees (cells row (pool_after P qs)) (written a (map (enframe row) qs)))
-      (λ P a g. g) (λ P n ns q qs w h r k a g. k (write a (enframe row q)) (reserve_agrees P who ordinary n q w (plain b h) r a g))
+  list_agrees =
+      by_grants row (λ P ns qs. (a : List ℕ) → Agrees (cells row P) a → Agrees (cells row (pool_after P qs)) (written a (map (enframe row) qs)))
+      (λ P a g. g) (λ P n ns q qs w h r k a g. k (write a (enframe row q)) (reserve_agrees P ordinary n q w (plain h) r a g))
 
   -- ---- release
 
@@ -153,49 +151,49 @@ module _ (row : ℕ) (pos : 0 < row) where
     refused_kept c r = record { agrees = g; whole = refl; cleared = λ z. absurd (refuses r z) }
 
     -- a live block of the pool
-    block_fits : (p : Place) (who h : ℕ) → Named row P who h p → Fits p
-    block_fits p who h b = fits p (subst (λ Q. T (well_formed Q)) (sym b.pool) w)
+    block_fits : (p : Place) (h : ℕ) → Named row P h p → Fits p
+    block_fits p h b = fits p (subst (λ Q. T (well_formed Q)) (sym b.pool) w)
 
-    block_agrees : (p : Place) (who h : ℕ) → Named row P who h p → Agrees (cells row (pool_of p)) a
-    block_agrees p who h b = subst (λ Q. Agrees (cells row Q) a) (sym b.pool) g
+    block_agrees : (p : Place) (h : ℕ) → Named row P h p → Agrees (cells row (pool_of p)) a
+    block_agrees p h b = subst (λ Q. Agrees (cells row Q) a) (sym b.pool) g
 
-    block_whole : (p : Place) (who h : ℕ) → Named row P who h p → damaged row a (some p) ≡ Intact
-    block_whole p who h b = undamaged row pos p (block_fits p who h b) a b.live (block_agrees p who h b)
+    block_whole : (p : Place) (h : ℕ) → Named row P h p → damaged row a (some p) ≡ Intact
+    block_whole p h b = undamaged row pos p (block_fits p h b) a b.live (block_agrees p h b)
 
-    release_kept : (who h : ℕ) → Kept P (queued who (releases h)) a (release row P who h)
+    release_kept : (h : ℕ) → Kept P (releases h) a (release row P h)
     unfolding release Cleared
-    release_kept who h =
-        on_named row pos P (Kept P (queued who (releases h)) a) (refused_kept (queued who (releases h))) who h (release_at row)
+    release_kept h =
+        on_named row pos P (Kept P (releases h) a) (refused_kept (releases h)) h (release_at row)
         (λ p b. record {
-          agrees = released p a (block_fits p who h b) b.live (block_agrees p who h b);
-          whole = ap (damaged row a) (release_parts row p).0 ∙ block_whole p who h b;
+          agrees = released p a (block_fits p h b) b.live (block_agrees p h b);
+          whole = ap (damaged row a) (release_parts row p).0 ∙ block_whole p h b;
           cleared = λ z i g. elim g [ ];
         })
 
     -- a refusal that names its block
-    refused_on_kept : (c : Call) (r : Refusal) (p : Place) (who h : ℕ) → Named row P who h p → Kept P c a (refused_on r P p)
+    refused_on_kept : (c : Call) (r : Refusal) (p : Place) (h : ℕ) → Named row P h p → Kept P c a (refused_on r P p)
     unfolding Cleared
-    refused_on_kept c r p who h b = record { agrees = g; whole = block_whole p who h b; cleared = λ z. absurd (refuses r z) }
+    refused_on_kept c r p h b = record { agrees = g; whole = block_whole p h b; cleared = λ z. absurd (refuses r z) }
 
     -- the block that a call names is the live one at the start of its handle
-    named_only : (p q : Place) (who h : ℕ) → Named row P who h p → LiveAt row P (start_of h) q → q ≡ p
-    named_only p q who h b l =
+    named_only : (p q : Place) (h : ℕ) → Named row P h p → LiveAt row P (start_of h) q → q ≡ p
+    named_only p q h b l =
         place_unique row pos p q (subst (λ Q. T (well_formed Q)) (sym b.pool) w) (l.here.slotted.pool ∙ sym b.pool) (l.here.starts ∙ sym b.starts)
 
-    in_place_kept : (p : Place) (who h n : ℕ) → Named row P who h p → T (fits_in_place p n) → Kept P (queued who (resizes_in_place h n)) a (resize_at row p n)
+    in_place_kept : (p : Place) (h n : ℕ) → Named row P h p → T (fits_in_place p n) → Kept P (resizes_in_place h n) a (resize_at row p n)
     unfolding resize_at fits_in_place Cleared
-    in_place_kept p who h n b t =
-        let f : Fits p = block_fits p who h b in
+    in_place_kept p h n b t =
+        let f : Fits p = block_fits p h b in
         let l : n ≤ slot_bytes p.cls - 4 - 16 * disp p.state = leb→le _ _ (and_left (leb n (slot_bytes p.cls - 4 - 16 * disp p.state)) _ t) in
         let k : ℕ = min (size p.state) n in
         let x : List ℕ = put (start row p - 4) (header p.cls (slot_number p) (disp p.state) n) a in
         record {
-          agrees = sized_agrees row pos p f b.live a n (omega (arith, disp_inside p.cls p.state f.class f.state)) (block_agrees p who h b);
-          whole = block_whole p who h b;
+          agrees = resized row pos p f b.live a n (omega (arith, disp_inside p.cls p.state f.class f.state)) (block_agrees p h b);
+          whole = block_whole p h b;
           cleared = λ z i g.
               let (from, to) : (start row p + size p.state ≤ i) × (i < start row p + n) = elim g [
                 | gains_in_place q l f t ↦
-                    subst (λ (q : Place). (start row q + size q.state ≤ i) × (i < start row q + n)) (named_only p q who h b l) (f, t)
+                    subst (λ (q : Place). (start row q + size q.state ≤ i) × (i < start row q + n)) (named_only p q h b l) (f, t)
               ] in
               zeros-put (start row p + k) [] (n - k) (spare (reserved p.cls (disp p.state) n)) x i (omega (arith, from)) (omega (arith, to));
         }
@@ -209,28 +207,27 @@ module _ (row : ℕ) (pos : 0 < row) where
   -- in an arena of whole units, where a handle tells the start
   module _ (u : row % 16 ≡ 0) (P : Pool) (w : T (well_formed P)) (a : List ℕ) (g : Agrees (cells row P) a) where
     -- "a grant of n is made while the old block is live, that many bytes are copied, then the old is released"
-    moved_kept : (p q : Place) (who h n : ℕ) → Named row P who h p → Askable (queue p.state) (align p.state) n
-        → reserve row P (queue p.state) (align p.state) n ≡ some q → Kept P (queued who (moves h n)) a (move_to row P p n (some q))
+    moved_kept : (p q : Place) (h n : ℕ) → Named row P h p → Askable (align p.state) n → reserve row P (align p.state) n ≡ some q
+        → Kept P (moves h n) a (move_to row P p n (some q))
     unfolding Cleared
-    moved_kept p q who h n b s r =
-        let o : ℕ = queue p.state in
+    moved_kept p q h n b s r =
         let m : ℕ = align p.state in
         let k : ℕ = min (size p.state) n in
         let x : List ℕ = write a (enframe row q) in
         let bs : List ℕ = part (start row p) k x in
-        let z : size q.state ≡ n = reserve-size row P o m n q w r in
+        let z : size q.state ≡ n = reserve-size row P m n q w r in
         let j : length bs ≤ k = omega (arith, length-take k (drop (start row p) x)) in
-        let w' : T (well_formed (pool_of q)) = (reserve_formed row P o m n q w s r).formed in
+        let w' : T (well_formed (pool_of q)) = (reserve_formed row P m n q w s r).formed in
         let y : Agrees (cells row (pool_of q)) (put (start row q) bs x) =
-        copied row pos q (fits q w') (reserve-live row P o m n q (served row P o m n q w r)) x bs (omega arith) (reserve_agrees P o m n q w s r a g) in
+        copied row pos q (fits q w') (reserve-live row P m n q (served row P m n q w r)) x bs (omega arith) (reserve_agrees P m n q w s r a g) in
         record {
           agrees = discarded (pool_of q) p (put (start row q) bs x) w' y;
-          whole = block_whole P w a g p who h b;
+          whole = block_whole P w a g p h b;
           cleared = λ _ i y'.
               let (from, to) : (start row q + size p.state ≤ i) × (i < start row q + n) =
               subst (λ v. (v + size p.state ≤ i) × (i < v + n)) (start_cleared row u q) (elim y' [
-                | gains_move x l f t ↦
-                    subst (λ (o : Place). (start_of (handle row q) + size o.state ≤ i) × (i < start_of (handle row q) + n)) (named_only P w a g p x who h b l)
+                | gains_move o l f t ↦
+                    subst (λ (o : Place). (start_of (handle row q) + size o.state ≤ i) × (i < start_of (handle row q) + n)) (named_only P w a g p o h b l)
                     (f, t)
               ]) in
               discard-zero (pool_of q) p (put (start row q) bs x) i
@@ -238,60 +235,50 @@ module _ (row : ℕ) (pos : 0 < row) where
         }
 
     -- a call that grants a block, whose bytes it gains
-    granted_kept : (c : Call) (who k n : ℕ) (q : Place) → Askable who k n → reserve row P who k n ≡ some q
+    granted_kept : (c : Call) (k n : ℕ) (q : Place) → Askable k n → reserve row P k n ≡ some q
         → ((i : ℕ) → Gains row P c (done (handle row q ∷ [])) i → (start_of (handle row q) ≤ i) × (i < start_of (handle row q) + n))
         → Kept P c a (grant_at row P (some q))
     unfolding Cleared
-    granted_kept c who k n q h e gains = record {
-      agrees = reserve_agrees P who k n q w h e a g;
+    granted_kept c k n q h e gains = record {
+      agrees = reserve_agrees P k n q w h e a g;
       whole = refl;
       cleared = λ z i x.
           let (from, to) = subst (λ v. (v ≤ i) × (i < v + n)) (start_cleared row u q) (gains i x) in
-          framed row q a i from (omega (arith, to, reserve-size row P who k n q w e));
+          framed row q a i from (omega (arith, to, reserve-size row P k n q w e));
     }
 
-    -- what a queue that there is asks for
-    asked_kept : (who : ℕ) → who < queues → (r : Request) → Kept P (queued who r) a (plan_for row P who r)
-    unfolding plan_for measure report_queue Cleared
-    asked_kept who o (grants n) =
-        let c : Call = queued who (grants n) in
-        on_grant row pos P (Kept P c a) (refused_kept P w a g c) who ordinary n o (lit≤ tt) (lit≤ tt)
-        (λ q h e. granted_kept c who ordinary n q h e (λ i x. elim x [ gains_grant f t ↦ (f, t) ]))
-    asked_kept who o (grants_aligned n b) =
-        let c : Call = queued who (grants_aligned n b) in
-        on_aligned row pos P (Kept P c a) (refused_kept P w a g c) who n b o
-        (λ q h e. granted_kept c who (code_of b) n q h e (λ i x. elim x [ gains_aligned f t ↦ (f, t) ]))
-    asked_kept who o (releases h) = release_kept P w a g who h
-    asked_kept who o (resizes_in_place h n) =
-        let c : Call = queued who (resizes_in_place h n) in
-        on_in_place row pos P (Kept P c a) (refused_kept P w a g c) w who h n (λ p b t. in_place_kept P w a g p who h n b t)
-        (λ p b. refused_on_kept P w a g c NotInPlace p who h b)
-    asked_kept who o (moves h n) =
-        let c : Call = queued who (moves h n) in
-        on_move row pos P (Kept P c a) (refused_kept P w a g c) w who h n (λ p b. refused_on_kept P w a g c NoRoom p who h b)
-        (λ p q b s e. moved_kept p q who h n b s e)
-    asked_kept who o (measures h) =
-        on_named row pos P (Kept P (queued who (measures h)) a) (refused_kept P w a g (queued who (measures h))) who h (measure_at row P)
-        (λ p b. record { agrees = g; whole = block_whole P w a g p who h b; cleared = λ z i g. elim g [ ] })
-    asked_kept who o (grants_list total cap places ns) =
-        let c : Call = queued who (grants_list total cap places ns) in
-        on_list row (Kept P c a) P who total cap places ns (refused_kept P w a g c)
-        (λ qs h e. record {
-          agrees = list_agrees who o P ns qs w h e a g;
-          whole = refl;
-          cleared = λ z i x. list_clears row pos u P who ns qs o w h e a i (elim x
-              [ gains_list y ↦ y ]);
-        })
-    asked_kept who o reports_queue = record { agrees = g; whole = refl; cleared = λ z i g. elim g [ ] }
-
     pub plan_kept : (c : Call) → Kept P c a (plan row P c)
-    unfolding plan report Cleared
+    unfolding plan measure report Cleared
     plan_kept sets_up = record {
       agrees = subst (λ l. Agrees (cells row (fresh_pool (rows row P))) l) (sym (set_up-zero P w a g)) (fresh_agrees (rows row P));
       whole = refl;
       cleared = λ z i g. elim g [ ];
     }
+    plan_kept (grants n) =
+        on_grant row pos P (Kept P (grants n) a) (refused_kept P w a g (grants n)) ordinary n (lit≤ tt) (lit≤ tt)
+        (λ q h e. granted_kept (grants n) ordinary n q h e (λ i x. elim x [ gains_grant f t ↦ (f, t) ]))
+    plan_kept (grants_aligned n b) =
+        on_aligned row pos P (Kept P (grants_aligned n b) a) (refused_kept P w a g (grants_aligned n b)) n b
+        (λ q h e. granted_kept (grants_aligned n b) (code_of b) n q h e (λ i x. elim x [ gains_aligned f t ↦ (f, t) ]))
+    plan_kept (releases h) = release_kept P w a g h
+    plan_kept (resizes_in_place h n) =
+        let c : Call = resizes_in_place h n in
+        on_in_place row pos P (Kept P c a) (refused_kept P w a g c) w h n (λ p b t. in_place_kept P w a g p h n b t)
+        (λ p b. refused_on_kept P w a g c NotInPlace p h b)
+    plan_kept (moves h n) =
+        let c : Call = moves h n in
+        on_move row pos P (Kept P c a) (refused_kept P w a g c) w h n (λ p b. refused_on_kept P w a g c NoRoom p h b)
+        (λ p q b s e. moved_kept p q h n b s e)
+    plan_kept (measures h) =
+        on_named row pos P (Kept P (measures h) a) (refused_kept P w a g (measures h)) h (measure_at row P)
+        (λ p b. record { agrees = g; whole = block_whole P w a g p h b; cleared = λ z i g. elim g [ ] })
     plan_kept reports = record { agrees = g; whole = refl; cleared = λ z i g. elim g [ ] }
-    plan_kept (queued who r) =
-        on_queue row P (Kept P (queued who r) a) who r (record { agrees = g; whole = refl; cleared = λ z. absurd (refuses WrongQueue z) })
-        (λ o. asked_kept who o r)
+    plan_kept (grants_list total cap places ns) =
+        let c : Call = grants_list total cap places ns in
+        on_list row (Kept P c a) P total cap places ns (refused_kept P w a g c)
+        (λ qs h e. record {
+          agrees = list_agrees P ns qs w h e a g;
+          whole = refl;
+          cleared = λ z i x. list_clears row pos u P ns qs w h e a i (elim x
+              [ gains_list y ↦ y ]);
+        })

@@ -9,7 +9,7 @@ use Rattle.mem.proofs.Laws.{zeros-length, put-length, put-before, put-past}
 use Rattle.classes.specs.Classes.{row_bytes}
 use Rattle.model.specs.State.{Pool, well_formed, aligned}
 use Rattle.model.specs.Answers.{Answer}
-use Rattle.model.specs.Plans.{Plan, Call, grants, releases, resizes_in_place, moves, measures, reports, queued, plan}
+use Rattle.model.specs.Plans.{Plan, Call, grants, releases, resizes_in_place, moves, measures, reports, plan}
 use Rattle.model.specs.Tables.{arena_right, room_bytes}
 use Rattle.model.specs.Calls.{KeptBytes, kept_in, Result, engine, applied, call, call_by, written, set_up_right, set_up_right_by}
 use Rattle.model.proofs.Kept.{engine_lawful}
@@ -83,10 +83,10 @@ module _ (row : ℕ) (pos : 0 < row) (n : ℕ) (h : T (arena_right row n)) where
     -- every record; a store changes no byte that the tables fix
     acted : (x : Operation) → StoresRequested row P x → Follows row n (performed row a t x) (model_step row n P x)
     unfolding performed model_step
-    acted (grant q k) s = call_follows_plan (queued q (grants k))
-    acted (release q h) s = call_follows_plan (queued q (releases h))
-    acted (resize_in_place q h k) s = call_follows_plan (queued q (resizes_in_place h k))
-    acted (measure q h) s = call_follows_plan (queued q (measures h))
+    acted (grant k) s = call_follows_plan (grants k)
+    acted (release h) s = call_follows_plan (releases h)
+    acted (resize_in_place h k) s = call_follows_plan (resizes_in_place h k)
+    acted (measure h) s = call_follows_plan (measures h)
     acted (store o bs) s =
         let after : Holds row n P (put o bs a) t = record {
           formed = r.formed;
@@ -98,7 +98,7 @@ module _ (row : ℕ) (pos : 0 < row) (n : ℕ) (h : T (arena_right row n)) where
         rw r.long
         (choose-both (Follows row n) (leb (o + length bs) n) _ _ _ _ (record { tells = refl; holds = after }) (record { tells = refl; holds = r }))
     acted report s = call_follows_plan reports
-    acted (move q h k) s = call_follows_plan (queued q (moves h k))
+    acted (move h k) s = call_follows_plan (moves h k)
 
   -- ---- all records
 
@@ -108,11 +108,11 @@ module _ (row : ℕ) (pos : 0 < row) (n : ℕ) (h : T (arena_right row n)) where
 
   on_or_ends : (x : Operation) → GoesOn n x ⊎ Ends x
   unfolding performed model_step
-  on_or_ends (grant q k) = inl tt
-  on_or_ends (release q h) = inl tt
-  on_or_ends (resize_in_place q h k) = inl tt
-  on_or_ends (move q h k) = inl tt
-  on_or_ends (measure q h) = inl tt
+  on_or_ends (grant k) = inl tt
+  on_or_ends (release h) = inl tt
+  on_or_ends (resize_in_place h k) = inl tt
+  on_or_ends (move h k) = inl tt
+  on_or_ends (measure h) = inl tt
   on_or_ends (store o bs) = go (leb (o + length bs) n) refl
     where
       go : (b : Bool) → leb (o + length bs) n ≡ b → GoesOn n (store o bs) ⊎ Ends (store o bs)
@@ -157,13 +157,13 @@ module _ (row n : ℕ) where
 
   -- what is so of records that are the same to the model is so of a record without its bytes beside the record
   on_blank {ℓ} : (M : Item → Item → Type ℓ) → ((x y : Operation) → Like x y → M (does x) (does y)) → M Item.bad Item.bad → (x : Item) → M (blank x) x
-  on_blank M f b (does (grant q k)) = f _ _ (itself (grant q k))
-  on_blank M f b (does (release q h)) = f _ _ (itself (release q h))
-  on_blank M f b (does (resize_in_place q h k)) = f _ _ (itself (resize_in_place q h k))
-  on_blank M f b (does (measure q h)) = f _ _ (itself (measure q h))
+  on_blank M f b (does (grant k)) = f _ _ (itself (grant k))
+  on_blank M f b (does (release h)) = f _ _ (itself (release h))
+  on_blank M f b (does (resize_in_place h k)) = f _ _ (itself (resize_in_place h k))
+  on_blank M f b (does (measure h)) = f _ _ (itself (measure h))
   on_blank M f b (does (store o bs)) = f _ _ (store_like o (zeros (length bs)) bs (zeros-length (length bs)))
   on_blank M f b (does report) = f _ _ (itself report)
-  on_blank M f b (does (move q h k)) = f _ _ (itself (move q h k))
+  on_blank M f b (does (move h k)) = f _ _ (itself (move h k))
   on_blank M f b Item.bad = b
 
   -- neither the model's lines nor where the stores lie depend on those bytes

@@ -2,19 +2,19 @@
 -- alignment asked for (`GrantedAligned`), every accepted resize in place and move keeps it, and no other call changes the block.
 use Rattle.std.specs.Prelude.{ℕ, ◌≡◌, List, [], ◌∷◌}
 use Rattle.model.specs.State.{Place, align, start_of, handle}
-use Rattle.model.specs.Plans.{releases, resizes_in_place, moves, Call, sets_up, queued}
+use Rattle.model.specs.Plans.{Call, sets_up, releases, resizes_in_place, moves}
 use Rattle.model.specs.Calls.{Form, call_by}
 use Rattle.claims.specs.Demand1.{LiveAt}
 
 -- the calls that give the block of a handle another size
 pub data Sizes : Call → ℕ → Type 0 where
-  sizes_in_place : {who h n : ℕ} → Sizes (queued who (resizes_in_place h n)) h
-  sizes-move : {who h n : ℕ} → Sizes (queued who (moves h n)) h
+  sizes_in_place : {h n : ℕ} → Sizes (resizes_in_place h n) h
+  sizes-move : {h n : ℕ} → Sizes (moves h n) h
 
 -- a call that ends the block at a start, or changes it: a set up ends every block
 pub data Names : Call → ℕ → Type 0 where
   names_all : {o : ℕ} → Names sets_up o
-  names_release : {who h o : ℕ} → start_of h ≡ o → Names (queued who (releases h)) o
+  names_release : {h o : ℕ} → start_of h ≡ o → Names (releases h) o
   names_sized : {c : Call} {h o : ℕ} → Sizes c h → start_of h ≡ o → Names c o
 
 module _ (row : ℕ) (F : Form) where

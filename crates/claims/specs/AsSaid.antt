@@ -6,10 +6,9 @@ use Rattle.mem.specs.Bytes.{low, part}
 use Rattle.classes.specs.Classes.{units_of, slot_bytes, class_of, rows_of}
 use Rattle.classes.specs.Alignments.{align_of}
 use Rattle.model.specs.declared.Slot.TheVariants.{Idle, Live}
-use Rattle.model.specs.State.{Pool, Place, is_live, count, disp, size, align, queue, start_of, pool_of, become, slot_number, base, beginning, owned, start}
-use Rattle.model.specs.Answers.{done, listed, queue_listed}
-use Rattle.model.specs.Plans.{copies, grants_aligned, releases, resizes_in_place, moves, measures, reports_queue, Call, sets_up, reports, queued, fresh_pool}
-use Rattle.model.specs.Plans.{totals, queue_totals, plan}
+use Rattle.model.specs.State.{Pool, Place, is_live, count, disp, size, align, start_of, pool_of, become, slot_number, base, beginning, owned, start}
+use Rattle.model.specs.Answers.{done, listed}
+use Rattle.model.specs.Plans.{copies, Call, sets_up, grants_aligned, releases, resizes_in_place, moves, measures, reports, fresh_pool, totals, plan}
 use Rattle.model.specs.Calls.{Form, Outcome, write, applied, call_by}
 use Rattle.claims.specs.Demand1.{Near, StaysInPlace, StartsAt, header_due, guard_due}
 use Rattle.claims.specs.Demand2.{Intact, reserved_of}
@@ -24,9 +23,9 @@ pub record ZeroedOnly (a b : List ℕ) (from k : ℕ) : Type 0 where
 abbrev pub ServesOrdinary : Type 0
 ServesOrdinary = (c d n : ℕ) → c < 48 → n ≤ slot_bytes c - 4 - 16 * d → Near c n ↔ (c ≤ suc (class_of n))
 
--- the block with another size: "Count and start change only by such a grant." It keeps its alignment and its queue.
+-- the block with another size: "Count and start change only by such a grant." It keeps its alignment.
 abbrev pub sized : Place → ℕ → Place
-sized p n = become p (Live (record { count = count p.state; disp = disp p.state; size = n; align = align p.state; queue = queue p.state }))
+sized p n = become p (Live (record { count = count p.state; disp = disp p.state; size = n; align = align p.state }))
 
 -- as many bytes as stay: "the lesser of old and new n"
 abbrev pub stay : Place → ℕ → ℕ
@@ -89,19 +88,13 @@ module _ (row : ℕ) where
 
     -- over any bytes, refused or not
     pub record ReadsOnly : Type 0 where
-      pub measured : (a : List ℕ) (t : F.Kept) (who h : ℕ) → Unchanged a t (queued who (measures h))
+      pub measured : (a : List ℕ) (t : F.Kept) (h : ℕ) → Unchanged a t (measures h)
       pub reported : (a : List ℕ) (t : F.Kept) → Unchanged a t reports
-      pub queue-reported : (a : List ℕ) (t : F.Kept) (who : ℕ) → Unchanged a t (queued who reports_queue)
 
     -- "Report gives, in this order: live blocks, their requested bytes, rows held, rows free, ready slots, waiting slots"
     abbrev pub ReportsAsSaid : Type 0
     ReportsAsSaid = (a : List ℕ) (t : F.Kept) → T (F.sound (length a) t)
         → (call_by row F a t reports).answer ≡ done (listed (totals row (F.view t)))
-
-    -- 02 §10: "A report per queue .. gives the live blocks that record it and their requested bytes"
-    abbrev pub QueueReportsAsSaid : Type 0
-    QueueReportsAsSaid = (a : List ℕ) (t : F.Kept) (who : ℕ) → T (F.sound (length a) t) → who ≤ 7
-        → (call_by row F a t (queued who reports_queue)).answer ≡ done (queue_listed (queue_totals row (F.view t) who))
 
     -- RELEASE
 
@@ -117,18 +110,18 @@ module _ (row : ℕ) where
       pub pool : F.view r.kept ≡ p.before ++ (fresh_pool (rows_of row p.cls) ++ p.after)
       pub bytes : ZeroedOnly a r.arena (base row p) (row * rows_of row p.cls)
 
-    pub record Released (a : List ℕ) (t : F.Kept) (who h : ℕ) (p : Place) : Type 0 where
-      pub block : Intact row a (F.view t) who h p
-      pub value : (call_by row F a t (queued who (releases h))).answer.values ≡ 0 ∷ []
-      pub left : Waits a p (call_by row F a t (queued who (releases h))) ⊎ Goes a p (call_by row F a t (queued who (releases h)))
+    pub record Released (a : List ℕ) (t : F.Kept) (h : ℕ) (p : Place) : Type 0 where
+      pub block : Intact row a (F.view t) h p
+      pub value : (call_by row F a t (releases h)).answer.values ≡ 0 ∷ []
+      pub left : Waits a p (call_by row F a t (releases h)) ⊎ Goes a p (call_by row F a t (releases h))
 
     abbrev pub ReleasesAsSaid : Type 0
-    ReleasesAsSaid = (a : List ℕ) (t : F.Kept) (who h : ℕ) → (call_by row F a t (queued who (releases h))).answer.number ≡ 0 → (p : Place) × Released a t who h p
+    ReleasesAsSaid = (a : List ℕ) (t : F.Kept) (h : ℕ) → (call_by row F a t (releases h)).answer.number ≡ 0 → (p : Place) × Released a t h p
 
     -- RESIZE IN PLACE
 
-    pub record InPlace (a : List ℕ) (t : F.Kept) (who h n : ℕ) (p : Place) (r : Outcome F.Kept) : Type 0 where
-      pub block : Intact row a (F.view t) who h p
+    pub record InPlace (a : List ℕ) (t : F.Kept) (h n : ℕ) (p : Place) (r : Outcome F.Kept) : Type 0 where
+      pub block : Intact row a (F.view t) h p
       pub serves : StaysInPlace p n
       -- 02 §7: "Resize in place keeps the handle."
       pub value : r.answer.values ≡ h ∷ []
@@ -140,35 +133,33 @@ module _ (row : ℕ) where
       pub zero : (i : ℕ) → start row p + stay p n ≤ i → i < owned row p + slot_bytes p.cls
           → (reserved_of (sized p n) < 5) ⊎ (i + 4 < owned row p + slot_bytes p.cls) → get_or r.arena i 0 ≡ 0
       -- "header and guard are written anew"
-      pub due : Intact row r.arena (F.view r.kept) who h (sized p n)
+      pub due : Intact row r.arena (F.view r.kept) h (sized p n)
       -- no byte before the header or behind the block changes
       pub others : (i : ℕ) → (i + 4 < start row p) ⊎ (owned row p + slot_bytes p.cls ≤ i) → get_or r.arena i 0 ≡ get_or a i 0
 
     abbrev pub InPlaceAsSaid : Type 0
-    InPlaceAsSaid = (a : List ℕ) (t : F.Kept) (who h n : ℕ) → (call_by row F a t (queued who (resizes_in_place h n))).answer.number ≡ 0
-        → (p : Place) × InPlace a t who h n p (call_by row F a t (queued who (resizes_in_place h n)))
+    InPlaceAsSaid = (a : List ℕ) (t : F.Kept) (h n : ℕ) → (call_by row F a t (resizes_in_place h n)).answer.number ≡ 0
+        → (p : Place) × InPlace a t h n p (call_by row F a t (resizes_in_place h n))
 
     -- MOVE
 
     -- "a grant of n is made while the old block is live, that many bytes are copied, then the old is released". 02 §6: "Resize of an aligned block
-    -- keeps the boundary": the grant is one of the block's alignment, which for an ordinary block is a plain one, and of its queue. g is what it leaves, v the new
+    -- keeps the boundary": the grant is one of the block's alignment, which for an ordinary block is a plain one. g is what it leaves, v the new
     -- handle, b the arena after the copy
-    pub record Moved (a : List ℕ) (t : F.Kept) (who h n : ℕ) (p : Place) (g : Outcome F.Kept) (v : ℕ) (b : List ℕ) (r : Outcome F.Kept) : Type 0 where
-      pub block : Intact row a (F.view t) who h p
+    pub record Moved (a : List ℕ) (t : F.Kept) (h n : ℕ) (p : Place) (g : Outcome F.Kept) (v : ℕ) (b : List ℕ) (r : Outcome F.Kept) : Type 0 where
+      pub block : Intact row a (F.view t) h p
       pub granted : g.answer.number ≡ 0
       pub answer : r.answer ≡ g.answer
-      pub released : (call_by row F b g.kept (queued who (releases h))).answer.number ≡ 0
-      pub arena : r.arena ≡ (call_by row F b g.kept (queued who (releases h))).arena
-      pub kept : r.kept ≡ (call_by row F b g.kept (queued who (releases h))).kept
+      pub released : (call_by row F b g.kept (releases h)).answer.number ≡ 0
+      pub arena : r.arena ≡ (call_by row F b g.kept (releases h)).arena
+      pub kept : r.kept ≡ (call_by row F b g.kept (releases h)).kept
       -- 02 §9: "another that always moves": the block is at another place, and has the bytes that it had
       pub elsewhere : start_of v ≡ start row p → ⊥
       pub stays : (i : ℕ) → i < stay p n → get_or r.arena (start_of v + i) 0 ≡ get_or a (start row p + i) 0
 
-    abbrev pub MovedBy : List ℕ → F.Kept → (who h n : ℕ) → Place → Outcome F.Kept → Outcome F.Kept → Type 0
-    MovedBy a t who h n p g r =
-        let v = get_or g.answer.values 0 0 in Moved a t who h n p g v (write g.arena (copies (start row p) (start_of v) (stay p n))) r
+    abbrev pub MovedBy : List ℕ → F.Kept → ℕ → ℕ → Place → Outcome F.Kept → Outcome F.Kept → Type 0
+    MovedBy a t h n p g r = let v = get_or g.answer.values 0 0 in Moved a t h n p g v (write g.arena (copies (start row p) (start_of v) (stay p n))) r
 
     abbrev pub MovesAsSaid : Type 0
-    MovesAsSaid = (a : List ℕ) (t : F.Kept) (who h n : ℕ) → (call_by row F a t (queued who (moves h n))).answer.number ≡ 0
-        → (p : Place) × MovedBy a t who h n p (call_by row F a t (queued who (grants_aligned n (align_of (align p.state)))))
-        (call_by row F a t (queued who (moves h n)))
+    MovesAsSaid = (a : List ℕ) (t : F.Kept) (h n : ℕ) → (call_by row F a t (moves h n)).answer.number ≡ 0
+        → (p : Place) × MovedBy a t h n p (call_by row F a t (grants_aligned n (align_of (align p.state)))) (call_by row F a t (moves h n))

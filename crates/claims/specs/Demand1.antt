@@ -6,13 +6,13 @@ use Rattle.classes.specs.Classes.{slot_bytes, class_of, size_limit}
 use Rattle.classes.specs.Alignments.{align_of}
 use Rattle.model.specs.declared.Refusal.{Refusal}
 use Rattle.model.specs.declared.Refusal.TheVariants.{BadArena, Unsound, TooLarge, NoSuchBlock, AlreadyFree, Stale, HeaderDamaged, Overrun, NoRoom}
-use Rattle.model.specs.declared.Refusal.TheVariants.{NotInPlace, TooLong, BadProposal, BadAlignment, WrongQueue}
-use Rattle.model.specs.State.{Pool, Place, is_live, granted, disp, size, align, queue, start_of, pool_of, slot_number, start, handle}
+use Rattle.model.specs.declared.Refusal.TheVariants.{NotInPlace, TooLong, BadProposal, BadAlignment}
+use Rattle.model.specs.State.{Pool, Place, is_live, granted, disp, size, align, start_of, pool_of, slot_number, start, handle}
 use Rattle.model.specs.Blocks.{header_right, guard_right, owned_bytes}
 use Rattle.model.specs.Answers.{number_of}
 use Rattle.model.specs.Proposals.{entries, accepts}
-use Rattle.model.specs.Plans.{Request, grants, grants_aligned, releases, resizes_in_place, moves, measures, grants_list, reports_queue}
-use Rattle.model.specs.Plans.{Call, sets_up, reports, queued, reserve_all, pool_after, NoPlace}
+use Rattle.model.specs.Plans.{Call, sets_up, grants, grants_aligned, releases, resizes_in_place, moves, measures, reports, grants_list, reserve_all, pool_after}
+use Rattle.model.specs.Plans.{NoPlace}
 use Rattle.model.specs.Calls.{Form, call_by, set_up_right_by}
 
 -- a reason to refuse a call, and when it is due by itself
@@ -28,11 +28,10 @@ abbrev pub FirstDue : List Reason → ℕ → Type 0
 FirstDue [] k = k ≡ 0
 FirstDue (r ∷ rs) k = ((k ≡ number_of r.refusal) × r.due) ⊎ ((r.due → ⊥) × FirstDue rs k)
 
--- "With a refusal the value is 0 (from report, six zeros)"; 02 §10: from a queue's report "two zeros with a refusal"
+-- "With a refusal the value is 0 (from report, six zeros)"
 pub data RefusedValues : Call → List ℕ → Type 0 where
   six-zeros : RefusedValues reports (0 ∷ 0 ∷ 0 ∷ 0 ∷ 0 ∷ 0 ∷ [])
-  two_zeros : {who : ℕ} → RefusedValues (queued who reports_queue) (0 ∷ 0 ∷ [])
-  one_zero : {c : Call} → (c ≡ reports → ⊥) → ((who : ℕ) → c ≡ queued who reports_queue → ⊥) → RefusedValues c (0 ∷ [])
+  one_zero : {c : Call} → (c ≡ reports → ⊥) → RefusedValues c (0 ∷ [])
 
 -- 02 §3: "Answer 9, list too long, is given exactly if L exceeds 17 times the cap, or the cap is out of its range, or the lent list has
 -- fewer than 17 places"
@@ -78,18 +77,18 @@ module _ (row : ℕ) where
   guard_due a p = guard_right p.cls (disp p.state) (size p.state) (owned_bytes row a p)
 
   -- "granting the accepted sizes in order would meet it": the sizes before it are granted, and then there is no place for one
-  pub record Meets (P : Pool) (who : ℕ) (ns : List ℕ) : Type 0 where
+  pub record Meets (P : Pool) (ns : List ℕ) : Type 0 where
     pub earlier : List ℕ
     pub size : ℕ
     pub later : List ℕ
     pub split : ns ≡ earlier ++ (size ∷ later)
     pub places : List Place
-    pub granted-before : reserve_all row P who earlier ≡ some places
+    pub granted-before : reserve_all row P earlier ≡ some places
     pub no_place : NoPlace row (pool_after P places) (class_of size)
 
   -- the block that a handle names: "no such block: the offset is neither a live start nor covered by 5", "already free: it is the last start of a
   -- granted, not live slot of a present group"
-  module _ (a : List ℕ) (P : Pool) (who h : ℕ) where
+  module _ (a : List ℕ) (P : Pool) (h : ℕ) where
     abbrev pub no_such_block : Reason
     no_such_block = when NoSuchBlock ((p : Place) → StartsAt P (start_of h) p → ⊥)
 
@@ -100,10 +99,6 @@ module _ (row : ℕ) where
     abbrev pub stale : Reason
     stale = when Stale ((p : Place) × LiveAt P (start_of h) p × (handle row p ≡ h → ⊥))
 
-    -- 02 §10: wrong queue "for a live start with the right handle, if release, measure, in place or move names another queue (after 10, before 6)"
-    abbrev pub other_queue : Reason
-    other_queue = when WrongQueue ((p : Place) × LiveAt P (start_of h) p × (queue p.state ≡ who → ⊥))
-
     -- "live start, the 4 bytes before it are not those due", "header right, guard not that due"
     abbrev pub header_damaged : Reason
     header_damaged = when HeaderDamaged ((p : Place) × LiveAt P (start_of h) p × T (not (header_due a p)))
@@ -111,9 +106,9 @@ module _ (row : ℕ) where
     abbrev pub overrun : Reason
     overrun = when Overrun ((p : Place) × LiveAt P (start_of h) p × T (header_due a p) × T (not (guard_due a p)))
 
-    -- all six, in this order, before the reasons rs
+    -- all five, in this order, before the reasons rs
     abbrev pub block_reasons : List Reason → List Reason
-    block_reasons rs = no_such_block ∷ already_free ∷ stale ∷ other_queue ∷ header_damaged ∷ overrun ∷ rs
+    block_reasons rs = no_such_block ∷ already_free ∷ stale ∷ header_damaged ∷ overrun ∷ rs
 
   -- "too large: n is 131,052 or more", and no room for n
   abbrev pub size_reasons : Pool → (n : ℕ) → List Reason
@@ -132,40 +127,34 @@ module _ (row : ℕ) where
   abbrev pub NoRoomToMove : Pool → (h n : ℕ) → Type 0
   NoRoomToMove P h n = (p : Place) × LiveAt P (start_of h) p × NoPlace row P (class_of (n + (align_of (align p.state) - 16)))
 
-  -- 3, the six, and then r
-  abbrev pub new_size_reasons : List ℕ → Pool → (who h n : ℕ) → Reason → List Reason
-  new_size_reasons a P who h n r = when TooLarge (TooLargeAt P h n) ∷ block_reasons a P who h (r ∷ [])
+  -- 3, the five, and then r
+  abbrev pub new_size_reasons : List ℕ → Pool → (h n : ℕ) → Reason → List Reason
+  new_size_reasons a P h n r = when TooLarge (TooLargeAt P h n) ∷ block_reasons a P h (r ∷ [])
 
   -- 02 §3: "Answer 17, bad proposal, exactly if the check refuses it."
-  abbrev pub list_reasons : Pool → (who total cap places : ℕ) → List ℕ → List Reason
-  list_reasons P who total cap places ns =
-      when TooLong (TooLongList total cap places) ∷ when BadProposal (T (not (accepts total cap ns))) ∷ when NoRoom (Meets P who ns) ∷ []
-
-  -- "They are tested in this order, each where it applies: grant 2, 3, 8; release and measure 2, 4, 5, 6, 7; resize all of 2 to 8;
-  -- report 2." 02 §3: "Order: 2, 9, 17, 8." 02 §6: "answer 13, tested between 2 and 3"; "an enlarged size of 131,052 or more is 3", which is
-  -- n + align − 16, or n up to an alignment of 16. 02 §7: "Order: 2, 3, 4, 5, 10, 6, 7, 8", which 02 §9 has for a move, and for in place 11 "tested
-  -- after 7". What a queue asks for, without 2 and without the queue's own number
-  abbrev pub asked_reasons : List ℕ → Pool → (who : ℕ) → Request → List Reason
-  asked_reasons a P who (grants n) = size_reasons P n
-  asked_reasons a P who (grants_aligned n b) = when BadAlignment (NoAlignment b) ∷ size_reasons P (n + (b - 16))
-  asked_reasons a P who (releases h) = block_reasons a P who h []
-  asked_reasons a P who (resizes_in_place h n) = new_size_reasons a P who h n (when NotInPlace (NotServed P h n))
-  asked_reasons a P who (moves h n) = new_size_reasons a P who h n (when NoRoom (NoRoomToMove P h n))
-  asked_reasons a P who (measures h) = block_reasons a P who h []
-  asked_reasons a P who (grants_list total cap places ns) = list_reasons P who total cap places ns
-  asked_reasons a P who reports_queue = []
+  abbrev pub list_reasons : Pool → (total cap places : ℕ) → List ℕ → List Reason
+  list_reasons P total cap places ns =
+      when TooLong (TooLongList total cap places) ∷ when BadProposal (T (not (accepts total cap ns))) ∷ when NoRoom (Meets P ns) ∷ []
 
   module _ (F : Form) where
     -- "unsound: arena or table room length wrong, or a soundness rule is broken"
     abbrev pub unsound_reason : List ℕ → F.Kept → Reason
     unsound_reason a t = when Unsound (T (not (F.sound (length a) t)))
 
-    -- all reasons of a call, in their order. 02 §10: "Answer 12, wrong queue, is given exactly if the number exceeds 7 (right after 2, before 9 and 13, in
-    -- every call that takes one)"
+    -- "They are tested in this order, each where it applies: grant 2, 3, 8; release and measure 2, 4, 5, 6, 7; resize all of 2 to 8;
+    -- report 2." 02 §3: "Order: 2, 9, 17, 8." 02 §6: "answer 13, tested between 2 and 3"; "an enlarged size of 131,052 or more is 3", which is
+    -- n + align − 16, or n up to an alignment of 16. 02 §7: "Order: 2, 3, 4, 5, 10, 6, 7, 8", which 02 §9 has for a move, and for in place 11 "tested
+    -- after 7"
     abbrev pub reasons : List ℕ → F.Kept → Call → List Reason
     reasons a t sets_up = when BadArena (T (not (set_up_right_by row F a t))) ∷ []
+    reasons a t (grants n) = unsound_reason a t ∷ size_reasons (F.view t) n
+    reasons a t (grants_aligned n b) = unsound_reason a t ∷ when BadAlignment (NoAlignment b) ∷ size_reasons (F.view t) (n + (b - 16))
+    reasons a t (releases h) = unsound_reason a t ∷ block_reasons a (F.view t) h []
+    reasons a t (resizes_in_place h n) = unsound_reason a t ∷ new_size_reasons a (F.view t) h n (when NotInPlace (NotServed (F.view t) h n))
+    reasons a t (moves h n) = unsound_reason a t ∷ new_size_reasons a (F.view t) h n (when NoRoom (NoRoomToMove (F.view t) h n))
+    reasons a t (measures h) = unsound_reason a t ∷ block_reasons a (F.view t) h []
     reasons a t reports = unsound_reason a t ∷ []
-    reasons a t (queued who r) = unsound_reason a t ∷ when WrongQueue (7 < who) ∷ asked_reasons a (F.view t) who r
+    reasons a t (grants_list total cap places ns) = unsound_reason a t ∷ list_reasons (F.view t) total cap places ns
 
     -- DEMAND 1, of any bytes, any record and any call; 02 §3: "A refused list leaves arena, tables and lent list unchanged"; 02 §4: "a refusal
     -- keeps it", the record, which is lent with the tables

@@ -10,7 +10,7 @@ use mathlib.Core.List.{List, [], ◌∷◌, map}
 use Rattle.mem.specs.Lists.{any}
 use Rattle.model.specs.State.{Pool, Place, is_live, size, start_of, pool_of, places, start}
 use Rattle.model.specs.Answers.{Answer, done, listed}
-use Rattle.model.specs.Plans.{grants, grants_aligned, resizes_in_place, moves, grants_list, Call, sets_up, reports, queued}
+use Rattle.model.specs.Plans.{Call, sets_up, grants, grants_aligned, resizes_in_place, moves, reports, grants_list}
 use Rattle.model.specs.Plans.{plan, totals, fresh_pool}
 use Rattle.model.specs.Tables.{arena_right}
 use Rattle.model.specs.Calls.{Form, Stands, call_by}
@@ -95,13 +95,13 @@ module _ (row : ℕ) where
   GainsEach (v ∷ vs) (n ∷ ns) i = ((start_of v ≤ i) × (i < start_of v + n)) ⊎ GainsEach vs ns i
 
   pub data Gains (P : Pool) : Call → Answer → ℕ → Type 0 where
-    gains_grant : {who n : ℕ} {r : Answer} {i : ℕ} → given r ≤ i → i < given r + n → Gains P (queued who (grants n)) r i
-    gains_aligned : {who n b : ℕ} {r : Answer} {i : ℕ} → given r ≤ i → i < given r + n → Gains P (queued who (grants_aligned n b)) r i
-    gains_in_place : {who h n : ℕ} {r : Answer} {i : ℕ} (p : Place) → LiveAt row P (start_of h) p → start row p + size p.state ≤ i → i < start row p + n
-        → Gains P (queued who (resizes_in_place h n)) r i
-    gains_move : {who h n : ℕ} {r : Answer} {i : ℕ} (p : Place) → LiveAt row P (start_of h) p → given r + size p.state ≤ i → i < given r + n
-        → Gains P (queued who (moves h n)) r i
-    gains_list : {who total cap places : ℕ} {ns : List ℕ} {r : Answer} {i : ℕ} → GainsEach r.lent ns i → Gains P (queued who (grants_list total cap places ns)) r i
+    gains_grant : {n : ℕ} {r : Answer} {i : ℕ} → given r ≤ i → i < given r + n → Gains P (grants n) r i
+    gains_aligned : {n b : ℕ} {r : Answer} {i : ℕ} → given r ≤ i → i < given r + n → Gains P (grants_aligned n b) r i
+    gains_in_place : {h n : ℕ} {r : Answer} {i : ℕ} (p : Place) → LiveAt row P (start_of h) p → start row p + size p.state ≤ i → i < start row p + n
+        → Gains P (resizes_in_place h n) r i
+    gains_move : {h n : ℕ} {r : Answer} {i : ℕ} (p : Place) → LiveAt row P (start_of h) p → given r + size p.state ≤ i → i < given r + n
+        → Gains P (moves h n) r i
+    gains_list : {total cap places : ℕ} {ns : List ℕ} {r : Answer} {i : ℕ} → GainsEach r.lent ns i → Gains P (grants_list total cap places ns) r i
 
   -- they are zero when the call ends
   unfoldable pub Cleared : Pool → Call → Answer → List ℕ → Type 0

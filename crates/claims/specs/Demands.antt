@@ -17,15 +17,14 @@ use Rattle.claims.specs.Bench.{TooLargeAnywhere}
 use Rattle.claims.specs.Demand1.{Demand1}
 use Rattle.claims.specs.Demand2.{ReleasesExactly, MeasuresExactly, InPlaceExactly, GrantsExactly, AlignedExactly, GrantsAsSaid, AlignedAsSaid}
 use Rattle.claims.specs.Demand2.{AlignedOrdinary, NeverShared, LeavesSound}
-use Rattle.claims.specs.AsSaid.{ServesOrdinary, NeverAtZero, HeadersAsSaid, GuardsAsSaid, SetsUpAsSaid, ReadsOnly, ReportsAsSaid, QueueReportsAsSaid, ReleasesAsSaid}
+use Rattle.claims.specs.AsSaid.{ServesOrdinary, NeverAtZero, HeadersAsSaid, GuardsAsSaid, SetsUpAsSaid, ReadsOnly, ReportsAsSaid, ReleasesAsSaid}
 use Rattle.claims.specs.AsSaid.{SetsUpAsPlanned, InPlaceAsSaid, MovesAsSaid}
 use Rattle.claims.specs.Soundness.{ArenasAsSaid, SetsUpExactly, SoundByRules}
 use Rattle.claims.specs.Alignment.{SizesKeepAlignment, OthersStay}
 use Rattle.claims.specs.Stale.{StartsCleared, CountsStep, StaleRefused}
 use Rattle.claims.specs.Demand3.{SteersNothing, StoresAdmitted, StoresOnly, ModelStands}
 use Rattle.claims.specs.Lists.{ChecksExactly, PlansAsSaid, ListsAsGrants, ListsExactly}
-use Rattle.claims.specs.History.{History, QueueHistory}
-use Rattle.claims.specs.Queues.{QueuesSum, QueuesApart}
+use Rattle.claims.specs.History.{History}
 use Rattle.claims.specs.Record.{SoundExactly, RecordsFresh, ReportsRecord, HistoryRecorded, KeepsRecord, FlipsRefused}
 use Rattle.claims.specs.Alike.{TwoEngines, StoresAnywhere}
 use Rattle.claims.specs.Traces.{PastAsksNothing, LinesModelled, StoresSteerNothing, ReplaySteersNothing}
@@ -49,7 +48,6 @@ pub record MeetsDemands (row : ℕ) (F : Form) : Type 0 where
   pub in_place_as_said : InPlaceAsSaid row F
   pub moves_as_said : MovesAsSaid row F
   pub reports_as_said : ReportsAsSaid row F
-  pub queue-reports_as_said : QueueReportsAsSaid row F
   pub reads_only : ReadsOnly row F
   pub headers_as_said : HeadersAsSaid row F
   pub guards_as_said : GuardsAsSaid row F
@@ -70,10 +68,6 @@ pub record MeetsDemands (row : ℕ) (F : Form) : Type 0 where
   pub steers_nothing : SteersNothing row F
   -- the history of report
   pub history : History row F
-  -- queues: each has a history of its own, their reports sum to the pool's, and a call for one leaves the blocks of all others
-  pub queue_history : QueueHistory row F
-  pub queues-sum : QueuesSum row F
-  pub queues_apart : QueuesApart row F
 
 pub record Demands (row : ℕ) : Type 0 where
   -- THE THREE DEMANDS, of both engines

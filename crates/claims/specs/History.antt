@@ -1,12 +1,11 @@
--- The history of report, of the pool and of each queue: "Counted from the last set up that was done, with any calls since and the tables always lent as the last call
+-- The history of report: "Counted from the last set up that was done, with any calls since and the tables always lent as the last call
 -- left them, live blocks equals accepted grants less accepted releases; requested bytes is the sum of the latest sizes of blocks
 -- granted and not released; rows held plus rows free is the arena's rows."
-use Rattle.std.specs.Prelude.{ℕ, suc, ◌+◌, ◌/◌, ◌≤◌, ◌≡◌, Bool, true, List, [], ◌∷◌, T, eqb, length, get_or}
+use Rattle.std.specs.Prelude.{ℕ, suc, ◌+◌, ◌/◌, ◌≡◌, List, [], ◌∷◌, T, eqb, length, get_or}
 use Rattle.mem.specs.Lists.{choose, sum}
 use Rattle.model.specs.declared.Totals.{Totals}
 use Rattle.model.specs.Answers.{Answer, done, listed}
-use Rattle.model.specs.Plans.{Request, grants, grants_aligned, releases, resizes_in_place, moves, measures, grants_list, reports_queue}
-use Rattle.model.specs.Plans.{Call, sets_up, reports, queued}
+use Rattle.model.specs.Plans.{Call, sets_up, grants, grants_aligned, releases, resizes_in_place, moves, measures, reports, grants_list}
 use Rattle.model.specs.Calls.{Form, call_by, set_up_by, set_up_right_by}
 
 -- a call over whatever arena bytes
@@ -47,33 +46,21 @@ entered_each l (v ∷ vs) (n ∷ ns) = entered_each (entered_grant l v n) vs ns
 abbrev pub entered_size : Ledger → (handle new n : ℕ) → Ledger
 entered_size l h v n = record { granted = l.granted; released = l.released; blocks = record { handle = v; size = n } ∷ without h l.blocks }
 
--- the ledger after an accepted request that was answered r
-abbrev pub asked : Ledger → Request → Answer → Ledger
-asked l (grants n) r = entered_grant l (get_or r.values 0 0) n
-asked l (grants_aligned n b) r = entered_grant l (get_or r.values 0 0) n
-asked l (releases h) r = record { granted = l.granted; released = suc l.released; blocks = without h l.blocks }
-asked l (resizes_in_place h n) r = entered_size l h h n
-asked l (moves h n) r = entered_size l h (get_or r.values 0 0) n
-asked l (measures h) r = l
-asked l (grants_list total cap places ns) r = entered_each l r.lent ns
-asked l reports_queue r = l
-
--- and after any accepted call, where the requests of some queues are entered
-abbrev pub entered : (ℕ → Bool) → Ledger → Call → Answer → Ledger
-entered some l sets_up r = opening
-entered some l reports r = l
-entered some l (queued who c) r = let e = asked l c r in choose (some who) e l
-
--- all queues, and one
-abbrev pub every_queue : ℕ → Bool
-every_queue who = true
-
-abbrev pub only : ℕ → ℕ → Bool
-only q who = eqb who q
+-- the ledger after an accepted call that answered r
+abbrev pub entered : Ledger → Call → Answer → Ledger
+entered l sets_up r = opening
+entered l (grants n) r = entered_grant l (get_or r.values 0 0) n
+entered l (grants_aligned n b) r = entered_grant l (get_or r.values 0 0) n
+entered l (releases h) r = record { granted = l.granted; released = suc l.released; blocks = without h l.blocks }
+entered l (resizes_in_place h n) r = entered_size l h h n
+entered l (moves h n) r = entered_size l h (get_or r.values 0 0) n
+entered l (measures h) r = l
+entered l reports r = l
+entered l (grants_list total cap places ns) r = entered_each l r.lent ns
 
 -- "a refused call" counts nothing
-abbrev pub booked : (ℕ → Bool) → Ledger → Call → Answer → Ledger
-booked some l c r = let e = entered some l c r in choose (eqb r.number 0) e l
+abbrev pub booked : Ledger → Call → Answer → Ledger
+booked l c r = let e = entered l c r in choose (eqb r.number 0) e l
 
 -- the ledger, and what is lent for the tables after calls; it is always lent as the last call left it
 pub record Books (R : Type 0) : Type 0 where
@@ -87,11 +74,9 @@ pub record Balances (row : ℕ) (l : Ledger) (s : Totals) (n : ℕ) : Type 0 whe
   pub rows : s.held + s.free ≡ n / row
 
 module _ (row : ℕ) (F : Form) where
-  -- the books of some queues after calls
-  unfoldable pub books_after : (ℕ → Bool) → Ledger → F.Kept → List Asked → Books F.Kept
-  books_after some l t [] = record { ledger = l; kept = t }
-  books_after some l t (c ∷ cs) =
-      let r = call_by row F c.arena t c.asks in books_after some (booked some l c.asks r.answer) r.kept cs
+  unfoldable pub books_after : Ledger → F.Kept → List Asked → Books F.Kept
+  books_after l t [] = record { ledger = l; kept = t }
+  books_after l t (c ∷ cs) = let r = call_by row F c.arena t c.asks in books_after (booked l c.asks r.answer) r.kept cs
 
   -- what report answers over an arena b and the tables that calls left: it is done, and its values are totals that keep the rules
   pub record ReportTells (b : List ℕ) (k : Books F.Kept) (n : ℕ) : Type 0 where
@@ -102,18 +87,4 @@ module _ (row : ℕ) (F : Form) where
   -- HISTORY: from an accepted set up, for every list of calls over any arena at each, and then a report over any arena of the pool's length
   abbrev pub History : Type 0
   History = (a : List ℕ) (t : F.Kept) (cs : List Asked) (b : List ℕ) → T (set_up_right_by row F a t) → length b ≡ length a
-      → ReportTells b (books_after every_queue opening (set_up_by row F a t).kept cs) (length a)
-
-  -- 02 §10: what the report of queue q answers over an arena b and the tables that calls left: live blocks, and requested bytes, that keep the rules
-  -- with the accepted requests of queue q alone
-  pub record QueueTells (q : ℕ) (b : List ℕ) (k : Books F.Kept) : Type 0 where
-    pub blocks : ℕ
-    pub bytes : ℕ
-    pub given : (call_by row F b k.kept (queued q reports_queue)).answer ≡ done (blocks ∷ bytes ∷ [])
-    pub granted-less_released : blocks + k.ledger.released ≡ k.ledger.granted
-    pub latest_sizes : bytes ≡ sum (λ e. e.size) k.ledger.blocks
-
-  -- THE HISTORY OF EACH QUEUE, 0 to 7
-  abbrev pub QueueHistory : Type 0
-  QueueHistory = (q : ℕ) → q ≤ 7 → (a : List ℕ) (t : F.Kept) (cs : List Asked) (b : List ℕ) → T (set_up_right_by row F a t) → length b ≡ length a
-      → QueueTells q b (books_after (only q) opening (set_up_by row F a t).kept cs)
+      → ReportTells b (books_after opening (set_up_by row F a t).kept cs) (length a)

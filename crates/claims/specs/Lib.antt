@@ -8,7 +8,6 @@ pub mod Alignment
 pub mod Demand3
 pub mod Lists
 pub mod History
-pub mod Queues
 pub mod Record
 pub mod Alike
 pub mod Traces

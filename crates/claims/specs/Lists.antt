@@ -3,7 +3,7 @@ use Rattle.std.specs.Prelude.{ℕ, ◌*◌, ◌≤◌, ◌<◌, ◌≡◌, ◌�
 use Rattle.mem.specs.Lists.{any, sum}
 use Rattle.model.specs.Answers.{done}
 use Rattle.model.specs.Proposals.{accepts, planned}
-use Rattle.model.specs.Plans.{grants, grants_list, queued}
+use Rattle.model.specs.Plans.{grants, grants_list}
 use Rattle.model.specs.Calls.{Form, Outcome, call_by}
 use Rattle.claims.specs.Demand3.{Ended}
 
@@ -41,11 +41,11 @@ PlansAsSaid = (total cap : ℕ) → PlansAccepted total cap
 
 module _ (row : ℕ) (F : Form) where
   -- the same grants one after another: the answers, and the arena, the room and the record that they leave
-  unfoldable pub granting : (who : ℕ) → List ℕ → F.Kept → List ℕ → Ended F.Kept
-  granting who a t [] = record { answers = []; arena = a; kept = t }
-  granting who a t (n ∷ ns) =
-      let r = call_by row F a t (queued who (grants n)) in
-      let g = granting who r.arena r.kept ns in
+  unfoldable pub granting : List ℕ → F.Kept → List ℕ → Ended F.Kept
+  granting a t [] = record { answers = []; arena = a; kept = t }
+  granting a t (n ∷ ns) =
+      let r = call_by row F a t (grants n) in
+      let g = granting r.arena r.kept ns in
       record { answers = r.answer ∷ g.answers; arena = g.arena; kept = g.kept }
 
   -- "grants its sizes in order, writes the starts to the front of a lent list .. and gives the number of entries": a list that is done
@@ -57,11 +57,11 @@ module _ (row : ℕ) (F : Form) where
     pub kept : r.kept ≡ g.kept
 
   abbrev pub ListsAsGrants : Type 0
-  ListsAsGrants = (a : List ℕ) (t : F.Kept) (who total cap places : ℕ) (ns : List ℕ) → (call_by row F a t (queued who (grants_list total cap places ns))).answer.number ≡ 0
-      → AsGrants ns (call_by row F a t (queued who (grants_list total cap places ns))) (granting who a t ns)
+  ListsAsGrants = (a : List ℕ) (t : F.Kept) (total cap places : ℕ) (ns : List ℕ) → (call_by row F a t (grants_list total cap places ns)).answer.number ≡ 0
+      → AsGrants ns (call_by row F a t (grants_list total cap places ns)) (granting a t ns)
 
   -- "answer 8 exactly if granting the accepted sizes in order would meet it"
   abbrev pub ListsExactly : Type 0
-  ListsExactly = (a : List ℕ) (t : F.Kept) (who total cap places : ℕ) (ns : List ℕ)
-      → T (F.sound (length a) t) → who ≤ 7 → 17 ≤ places → T (accepts total cap ns)
-      → ((call_by row F a t (queued who (grants_list total cap places ns))).answer.number ≡ 8) ↔ T (any (λ r. eqb r.number 8) (granting who a t ns).answers)
+  ListsExactly = (a : List ℕ) (t : F.Kept) (total cap places : ℕ) (ns : List ℕ)
+      → T (F.sound (length a) t) → 17 ≤ places → T (accepts total cap ns)
+      → ((call_by row F a t (grants_list total cap places ns)).answer.number ≡ 8) ↔ T (any (λ r. eqb r.number 8) (granting a t ns).answers)

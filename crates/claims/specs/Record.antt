@@ -6,7 +6,7 @@ use Rattle.model.specs.Answers.{done, listed}
 use Rattle.model.specs.Plans.{Call, sets_up, reports, totals}
 use Rattle.model.specs.Tables.{row_at, ready_at, slots_at, slot_record_bytes, size_at, most_slots, view, sound}
 use Rattle.model.specs.Calls.{KeptBytes, kept_in, engine, sound_kept, set_up, set_up_right, call}
-use Rattle.claims.specs.History.{Asked, opening, every_queue, books_after}
+use Rattle.claims.specs.History.{Asked, opening, books_after}
 
 -- a byte with bit b the other way: 2^b more where the bit is 0, less where it is 1
 unfoldable pub flip : ℕ → ℕ → ℕ
@@ -40,7 +40,7 @@ module _ (row : ℕ) where
   -- the history is the record's: it holds the totals that report gives after whatever calls
   abbrev pub HistoryRecorded : Type 0
   HistoryRecorded = (a : List ℕ) (t : KeptBytes) (cs : List Asked) (b : List ℕ) → T (set_up_right row a t) → length b ≡ length a
-      → let r = (books_after row (engine row) every_queue opening (set_up row a t).kept cs).kept in (call row b r reports).answer ≡ done (listed r.totals)
+      → let r = (books_after row (engine row) opening (set_up row a t).kept cs).kept in (call row b r reports).answer ≡ done (listed r.totals)
 
   -- a call that is done leaves the totals of the tables that it leaves
   abbrev pub KeepsRecord : Type 0

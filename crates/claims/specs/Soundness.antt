@@ -6,7 +6,7 @@ use Rattle.mem.specs.Bytes.{bit}
 use Rattle.classes.specs.Classes.{slot_bytes, slots_of, rows_of}
 use Rattle.classes.specs.Alignments.{align_of}
 use Rattle.model.specs.declared.Slot.{Slot}
-use Rattle.model.specs.State.{Pool, Place, group, is_ready, is_waiting, is_live, granted, count, disp, size, align, queue, pool_of, rows, start}
+use Rattle.model.specs.State.{Pool, Place, group, is_ready, is_waiting, is_live, granted, count, disp, size, align, pool_of, rows, start}
 use Rattle.model.specs.Plans.{sets_up}
 use Rattle.model.specs.Tables.{Layout, arena_right, encode_by, view_by, sound_by}
 use Rattle.model.specs.Calls.{Form, call_by}
@@ -49,8 +49,6 @@ module _ (row : ℕ) where
     pub small : size p.state + (align_of (align p.state) - 16) < 131052
     pub near : Near p.cls (size p.state + (align_of (align p.state) - 16))
     pub boundary : start row p % align_of (align p.state) ≡ 0
-    -- 02 §10: "soundness demands it in range", 0 to 7
-    pub owner : queue p.state ≤ 7
 
   pub record SlotRules (p : Place) : Type 0 where
     -- "each slot is in exactly one of the three conditions"

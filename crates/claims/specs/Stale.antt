@@ -4,7 +4,7 @@
 use Rattle.std.specs.Prelude.{ℕ, ◌+◌, ◌-◌, ◌%◌, ◌<◌, ◌≡◌, not, ◌⊎◌, List, [], ◌∷◌, T, length}
 use Rattle.model.specs.declared.Slot.{Slot}
 use Rattle.model.specs.State.{Place, is_live, count, disp, start_of, pool_of, start, handle, SameSlot}
-use Rattle.model.specs.Plans.{grants, grants_aligned, releases, moves, measures, grants_list, Call, queued}
+use Rattle.model.specs.Plans.{Call, grants, grants_aligned, releases, moves, measures, grants_list}
 use Rattle.model.specs.Calls.{Form, call_by}
 use Rattle.claims.specs.Demand2.{Intact}
 use Rattle.claims.specs.Alignment.{Sizes}
@@ -12,21 +12,21 @@ use Rattle.claims.specs.History.{Asked}
 
 -- the calls that can grant a block
 pub data Grants : Call → Type 0 where
-  grants_one : {who n : ℕ} → Grants (queued who (grants n))
-  grants_by_alignment : {who n b : ℕ} → Grants (queued who (grants_aligned n b))
-  grants_moved : {who h n : ℕ} → Grants (queued who (moves h n))
-  grants_by_list : {who total cap places : ℕ} {ns : List ℕ} → Grants (queued who (grants_list total cap places ns))
+  grants_one : {n : ℕ} → Grants (grants n)
+  grants_by_alignment : {n b : ℕ} → Grants (grants_aligned n b)
+  grants_moved : {h n : ℕ} → Grants (moves h n)
+  grants_by_list : {total cap places : ℕ} {ns : List ℕ} → Grants (grants_list total cap places ns)
 
 -- the calls on a block by its handle
 pub data Uses : Call → ℕ → Type 0 where
-  uses_release : {who h : ℕ} → Uses (queued who (releases h)) h
+  uses_release : {h : ℕ} → Uses (releases h) h
   uses_sized : {c : Call} {h : ℕ} → Sizes c h → Uses c h
-  uses_measure : {who h : ℕ} → Uses (queued who (measures h)) h
+  uses_measure : {h : ℕ} → Uses (measures h) h
 
 -- the calls that end the block of a handle, where they are done: a move gives another handle
 pub data Ends : Call → ℕ → Type 0 where
-  ends_release : {who h : ℕ} → Ends (queued who (releases h)) h
-  ends_move : {who h n : ℕ} → Ends (queued who (moves h n)) h
+  ends_release : {h : ℕ} → Ends (releases h) h
+  ends_move : {h n : ℕ} → Ends (moves h n) h
 
 -- a slot before and after a call that does not grant it: its count and its displacement, "of its last start", are the same, and it is live only if
 -- it was
@@ -65,7 +65,7 @@ module _ (row : ℕ) (F : Form) where
 
   -- THE CLAIM, over every list of calls: h is the handle of a block that a call has ended; then any call that uses it is refused
   abbrev pub StaleRefused : Type 0
-  StaleRefused = (a : List ℕ) (t : F.Kept) (who h : ℕ) (p : Place) (ends : Call) → Intact row a (F.view t) who h p
+  StaleRefused = (a : List ℕ) (t : F.Kept) (h : ℕ) (p : Place) (ends : Call) → Intact row a (F.view t) h p
       → (call_by row F a t ends).answer.number ≡ 0 → Ends ends h
       → (cs : List Asked) → RemainsAll p (call_by row F a t ends).kept cs
       → (b : List ℕ) (c : Call) → Uses c h → (call_by row F b (after (call_by row F a t ends).kept cs) c).answer.number ≡ 0 → ⊥

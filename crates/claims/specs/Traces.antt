@@ -7,7 +7,7 @@ use Rattle.mem.specs.Bytes.{zeros}
 use Rattle.classes.specs.Classes.{row_bytes}
 use Rattle.model.specs.State.{Pool}
 use Rattle.model.specs.Answers.{Answer, done}
-use Rattle.model.specs.Plans.{Plan, grants, releases, resizes_in_place, moves, measures, reports, queued, plan}
+use Rattle.model.specs.Plans.{Plan, grants, releases, resizes_in_place, moves, measures, reports, plan}
 use Rattle.model.specs.Calls.{KeptBytes, set_up_right}
 use Rattle.trace.specs.Trace.{Operation, grant, release, resize_in_place, measure, store, report, move, Item, does, items, trace_right}
 use Rattle.trace.specs.Replay.{arena_bytes, Line, line_then, replayed_over, replayed}
@@ -15,13 +15,13 @@ use Rattle.claims.specs.Demand3.{fed, requested}
 
 -- a record without the bytes that it stores: as many zeros stand for them
 abbrev pub blank : Item → Item
-blank (does (grant q n)) = does (grant q n)
-blank (does (release q h)) = does (release q h)
-blank (does (resize_in_place q h n)) = does (resize_in_place q h n)
-blank (does (measure q h)) = does (measure q h)
+blank (does (grant n)) = does (grant n)
+blank (does (release h)) = does (release h)
+blank (does (resize_in_place h n)) = does (resize_in_place h n)
+blank (does (measure h)) = does (measure h)
 blank (does (store o bs)) = does (store o (zeros (length bs)))
 blank (does report) = does report
-blank (does (move q h n)) = does (move q h n)
+blank (does (move h n)) = does (move h n)
 blank Item.bad = Item.bad
 
 -- two traces with the same records, but for the bytes that they store
@@ -39,25 +39,25 @@ stepped p = record { tells = some p.answer; pool = p.pool }
 
 -- a record that does not end the trace: a store that ends in an arena of n bytes, or any other
 abbrev pub GoesOn : ℕ → Operation → Type 0
-GoesOn n (grant q k) = Unit {0}
-GoesOn n (release q h) = Unit {0}
-GoesOn n (resize_in_place q h k) = Unit {0}
-GoesOn n (measure q h) = Unit {0}
+GoesOn n (grant k) = Unit {0}
+GoesOn n (release h) = Unit {0}
+GoesOn n (resize_in_place h k) = Unit {0}
+GoesOn n (measure h) = Unit {0}
 GoesOn n (store o bs) = o + length bs ≤ n
 GoesOn n report = Unit {0}
-GoesOn n (move q h k) = Unit {0}
+GoesOn n (move h k) = Unit {0}
 
 module _ (row : ℕ) where
   -- in an arena of n bytes; of the bytes that are stored it is told how many they are
   unfoldable pub model_step : ℕ → Pool → Operation → Stepped
-  model_step n P (grant q k) = stepped (plan row P (queued q (grants k)))
-  model_step n P (release q h) = stepped (plan row P (queued q (releases h)))
-  model_step n P (resize_in_place q h k) = stepped (plan row P (queued q (resizes_in_place h k)))
-  model_step n P (measure q h) = stepped (plan row P (queued q (measures h)))
+  model_step n P (grant k) = stepped (plan row P (grants k))
+  model_step n P (release h) = stepped (plan row P (releases h))
+  model_step n P (resize_in_place h k) = stepped (plan row P (resizes_in_place h k))
+  model_step n P (measure h) = stepped (plan row P (measures h))
   model_step n P (store o bs) =
       choose (leb (o + length bs) n) (record { tells = some (done (0 ∷ [])); pool = P }) (record { tells = none; pool = P })
   model_step n P report = stepped (plan row P reports)
-  model_step n P (move q h k) = stepped (plan row P (queued q (moves h k)))
+  model_step n P (move h k) = stepped (plan row P (moves h k))
 
   -- the model's lines, the first for record i
   unfoldable pub model_lines : ℕ → Pool → ℕ → List Item → List Line
@@ -67,13 +67,13 @@ module _ (row : ℕ) where
 
   -- the bytes of a store are requested bytes of live blocks
   abbrev pub StoresRequested : Pool → Operation → Type 0
-  StoresRequested P (grant q k) = Unit {0}
-  StoresRequested P (release q h) = Unit {0}
-  StoresRequested P (resize_in_place q h k) = Unit {0}
-  StoresRequested P (measure q h) = Unit {0}
+  StoresRequested P (grant k) = Unit {0}
+  StoresRequested P (release h) = Unit {0}
+  StoresRequested P (resize_in_place h k) = Unit {0}
+  StoresRequested P (measure h) = Unit {0}
   StoresRequested P (store o bs) = (i : ℕ) → o ≤ i → i < o + length bs → T (requested row P i)
   StoresRequested P report = Unit {0}
-  StoresRequested P (move q h k) = Unit {0}
+  StoresRequested P (move h k) = Unit {0}
 
   -- and so are those of every store of a trace. A store that ends past the arena stores nothing and ends the trace, so nothing is asked of it, nor
   -- of what stands behind it

@@ -1,6 +1,7 @@
 -- Alignments (02 §6): "The DMA engine wants starts on 32 to 4,096 byte boundaries".
-use Rattle.std.specs.Prelude.{ℕ, zero, suc, ◌+◌, ◌*◌, ◌-◌, ◌/◌, ◌^◌, max, List, [], ◌∷◌, eqb, ltb}
+use Rattle.std.specs.Prelude.{ℕ, zero, suc, ◌+◌, ◌*◌, ◌-◌, ◌/◌, ◌^◌, ◌≤◌, ◌<◌, max, List, [], ◌∷◌, eqb, ltb}
 use Rattle.mem.specs.Lists.{choose, first}
+use Rattle.classes.specs.Classes.{size_limit}
 
 -- the code by which the tables keep an alignment: 1 for the 16 bytes of an ordinary block, 2 to 9 for 32 to 4,096
 abbrev pub ordinary : ℕ
@@ -27,3 +28,9 @@ enlarged (suc (suc k)) n = n + (align_of (suc (suc k)) - 16)
 -- "the lowest multiple of align at or after" a place
 unfoldable pub round_up : (align at : ℕ) → ℕ
 round_up a b = a * ((b + (a - 1)) / a)
+
+-- an alignment and a size that a grant does not refuse with answer 13 or 3
+pub record Askable (code n : ℕ) : Type 0 where
+  pub some_code : 1 ≤ code
+  pub last_code : code ≤ 9
+  pub small : enlarged code n < size_limit

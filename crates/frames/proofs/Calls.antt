@@ -5,17 +5,16 @@ use Rattle.mem.specs.Lists.{any, choose}
 use Rattle.mem.specs.Bytes.{put}
 use Rattle.mem.proofs.Tests.{choose_case, choose-true, choose-false, true-T}
 use Rattle.classes.specs.Classes.{size_limit}
-use Rattle.classes.specs.Alignments.{ordinary, code_of, enlarged}
+use Rattle.classes.specs.Alignments.{ordinary, code_of, enlarged, Askable}
 use Rattle.model.specs.declared.Refusal.{Refusal}
-use Rattle.model.specs.declared.Refusal.TheVariants.{Unsound, TooLarge, NoSuchBlock, AlreadyFree, Stale, NoRoom, BadAlignment, WrongQueue}
+use Rattle.model.specs.declared.Refusal.TheVariants.{Unsound, TooLarge, NoSuchBlock, AlreadyFree, Stale, NoRoom, BadAlignment}
 use Rattle.model.specs.declared.Damage.{Damage}
 use Rattle.model.specs.declared.Damage.TheVariants.{Intact, Damaged}
 use Rattle.model.specs.declared.Reply.{Reply}
-use Rattle.model.specs.State.{Pool, Place, is_live, count, align, queues, queue, use_bits, start_of, pool_of}
+use Rattle.model.specs.State.{Pool, Place, is_live, count, align, use_bits, start_of, pool_of}
 use Rattle.model.specs.Blocks.{damage, frame}
-use Rattle.model.specs.Answers.{Answer, reply_answer, listed, queue_listed, done, refusal_of, refusal}
-use Rattle.model.specs.Plans.{Plan, Request, grants, grants_aligned, releases, resizes_in_place, moves, measures, reports_queue, Call, queued, values_asked}
-use Rattle.model.specs.Plans.{Askable, refused, plan_for, plan, grant_as, grant_aligned, by_queue, queue_totals, report_queue}
+use Rattle.model.specs.Answers.{Answer, reply_answer, listed, done, refusal}
+use Rattle.model.specs.Plans.{Plan, Call, grants, grants_aligned, releases, resizes_in_place, moves, measures, refused, plan, grant_as, grant_aligned}
 use Rattle.model.specs.Plans.{report, totals, reports, grant_at, reserve, enframe, lookup, on_block, by_handle, on_handle, new_size}
 use Rattle.model.specs.Plans.{release, release_at, on_handle_for, resize_at, move_to, move_at, fits_in_place, in_place_at, resize_in_place, move, measure, measure_at}
 use Rattle.model.specs.Calls.{Outcome, left, Form, FormLaws, call_by, carried_by, applied, damaged, keeps, unsound}
@@ -27,13 +26,7 @@ use Rattle.rows.specs.declared.Block.{Block}
 use Rattle.rows.specs.Rows.{block_of, owned_at, handle_at}
 use Rattle.frames.specs.declared.Located.{Located}
 use Rattle.frames.specs.declared.Located.TheVariants.{At, Refused}
-use Rattle.frames.specs.Blocks.{by_damage, located, located_for, for_queue, found_for, CarriedOutBy}
-
--- ---- the block that a plan names
-
-pub release_names : (row : ℕ) (p : Place) → (release_at row p).checks ≡ some p
-unfolding release_at
-release_names row p = choose_case (λ (r : Plan). r.checks ≡ some p) (any is_live (p.lower ++ p.upper)) _ _ (λ e. refl) (λ e. refl)
+use Rattle.frames.specs.Blocks.{by_damage, located, located_for, found_for, CarriedOutBy}
 
 -- what is lent passed the check
 pub record Checked (row : ℕ) (F : Form) (a : List ℕ) (t : F.Kept) : Type 0 where
@@ -47,13 +40,6 @@ module _ {row : ℕ} {F : Form} {a : List ℕ} {t : F.Kept} (r : Checked row F a
   pub call-sound : (c : Call) → Asks c → call_by row F a t c ≡ carried_by row F a t (plan row (F.view t) c)
   call-sound = calls.call-sound row F a t r.sound
 
-  -- a queue's call: by a number past the last, and by one that there is
-  pub no_queue_lem : (who : ℕ) (q : Request) → queues ≤ who → call_by row F a t (queued who q) ≡ keeps (refusal_of (values_asked q) WrongQueue) a t
-  no_queue_lem who q = calls.call-no_queue row F a t r.sound who q r.laws
-
-  pub call-queued : (who : ℕ) (q : Request) → who < queues → call_by row F a t (queued who q) ≡ carried_by row F a t (plan_for row (F.view t) who q)
-  call-queued = calls.call-queued row F a t r.sound
-
   -- a plan that refuses, carried out on sound tables, keeps every byte
   pub kept : (x : Refusal) → carried_by row F a t (refused x (F.view t)) ≡ keeps (refusal x) a t
   kept x = carried_whole row F a t (refused x (F.view t)) refl ∙ ap (keeps (refusal x) a) same_room
@@ -64,19 +50,19 @@ module _ {row : ℕ} {F : Form} {a : List ℕ} {t : F.Kept} (r : Checked row F a
 
   -- ---- grant
 
-  module _ (who k n : ℕ) where
+  module _ (k n : ℕ) where
     -- the plan of a grant, with an alignment
     abbrev asked : Plan
-    asked = grant_as row (F.view t) who k n
+    asked = grant_as row (F.view t) k n
 
     abbrev found : Option Place
-    found = reserve row (F.view t) who k n
+    found = reserve row (F.view t) k n
 
     pub grant-too_large : size_limit ≤ enlarged k n → CarriedOutBy F a asked (Reply.Refused TooLarge) a t
     unfolding grant_as
     grant-too_large h = rw (choose-true (leb size_limit (enlarged k n)) _ _ (le-leb size_limit (enlarged k n) h)) (refused_out TooLarge)
 
-    module _ (small : Askable who k n) where
+    module _ (small : Askable k n) where
       granting : asked ≡ grant_at row (F.view t) found
       unfolding grant_as
       granting = choose-false (leb size_limit (enlarged k n)) _ _ (lt-leb size_limit (enlarged k n) small.small)
@@ -90,66 +76,57 @@ module _ {row : ℕ} {F : Form} {a : List ℕ} {t : F.Kept} (r : Checked row F a
       unfolding enframe
       granted_at q f b e u eu = rw (granting, ap (grant_at row (F.view t)) f, e) (record { answer = refl; arena = refl; kept = eu })
 
-  -- a plan that names no block is what a queue's request does
-  pub record Does (who : ℕ) (q : Request) (p : Plan) : Type 0 where
-    pub some-queue : who < queues
-    pub plans : plan_for row (F.view t) who q ≡ p
+  -- a plan that names no block is what the call does
+  pub record Does (c : Call) (p : Plan) : Type 0 where
+    pub plans : plan row (F.view t) c ≡ p
     pub unnamed : p.checks ≡ none
+    pub asks : Asks c
 
-  pub called : (who : ℕ) (q : Request) (p : Plan) → Does who q p → call_by row F a t (queued who q) ≡ applied F a p
-  called who q p d =
-      call-queued who q d.some-queue ∙ ap (carried_by row F a t) d.plans ∙ carried_whole row F a t p (ap (damaged row a) d.unnamed)
+  pub called : (c : Call) (p : Plan) → Does c p → call_by row F a t c ≡ applied F a p
+  called c p d = call-sound c d.asks ∙ ap (carried_by row F a t) d.plans ∙ carried_whole row F a t p (ap (damaged row a) d.unnamed)
 
-  grant_unnamed : (who k n : ℕ) → (asked who k n).checks ≡ none
+  grant_unnamed : (k n : ℕ) → (asked k n).checks ≡ none
   unfolding grant_as
-  grant_unnamed who k n = choose_case (λ (p : Plan). p.checks ≡ none) (leb size_limit (enlarged k n)) _ _ (λ _. refl) (λ _. at (found who k n))
+  grant_unnamed k n = choose_case (λ (p : Plan). p.checks ≡ none) (leb size_limit (enlarged k n)) _ _ (λ _. refl) (λ _. at (found k n))
     where
       at : (o : Option Place) → (grant_at row (F.view t) o).checks ≡ none
       at none = refl
       at (some q) = refl
 
-  module _ (who : ℕ) (some : who < queues) where
-    pub grant-does : (n : ℕ) → Does who (grants n) (asked who ordinary n)
-    unfolding plan_for
-    grant-does n = record { some-queue = some; plans = refl; unnamed = grant_unnamed who ordinary n }
+  pub grant-does : (n : ℕ) → Does (grants n) (asked ordinary n)
+  unfolding plan
+  grant-does n = record { plans = refl; unnamed = grant_unnamed ordinary n; asks = tt }
 
-    -- an aligned grant: of no alignment, and of one
-    pub aligned-none : (n b : ℕ) → code_of b ≡ 0 → Does who (grants_aligned n b) (refused BadAlignment (F.view t))
-    unfolding plan_for grant_aligned
-    aligned-none n b e = record { some-queue = some; plans = choose-false (ltb 0 (code_of b)) _ _ (ap (ltb 0) e); unnamed = refl }
+  -- an aligned grant: of no alignment, and of one
+  pub aligned-none : (n b : ℕ) → code_of b ≡ 0 → Does (grants_aligned n b) (refused BadAlignment (F.view t))
+  unfolding plan grant_aligned
+  aligned-none n b e = record { plans = choose-false (ltb 0 (code_of b)) _ _ (ap (ltb 0) e); unnamed = refl; asks = tt }
 
-    pub aligned-does : (n b : ℕ) → 0 < code_of b → Does who (grants_aligned n b) (asked who (code_of b) n)
-    unfolding plan_for grant_aligned
-    aligned-does n b h = record {
-      some-queue = some;
-      plans = choose-true (ltb 0 (code_of b)) _ _ (lt-ltb 0 (code_of b) h);
-      unnamed = grant_unnamed who (code_of b) n;
-    }
+  pub aligned-does : (n b : ℕ) → 0 < code_of b → Does (grants_aligned n b) (asked (code_of b) n)
+  unfolding plan grant_aligned
+  aligned-does n b h = record { plans = choose-true (ltb 0 (code_of b)) _ _ (lt-ltb 0 (code_of b) h); unnamed = grant_unnamed (code_of b) n; asks = tt }
 
   -- ---- a call on a block
 
-  module _ (who h : ℕ) (k : Place → Plan) (named : (p : Place) → (k p).checks ≡ some p) where
+  module _ (h : ℕ) (k : Place → Plan) (named : (p : Place) → (k p).checks ≡ some p) where
     -- the pool, and what is done with a place that is looked up
     abbrev P : Pool
     P = F.view t
 
     abbrev does : Option Place → Plan
-    does q = on_block P (by_handle P h (by_queue P who k)) q
+    does q = on_block P (by_handle P h k) q
 
     -- what the call does, by what is located
     data Comes (q : Option Place) : Located → Type 0 where
       acts : (p : Place) → q ≡ some p → T (is_live p.state) → carried_by row F a t (does q) ≡ applied F a (k p) → Comes q (At (block_of row p))
       refuses : (x : Refusal) → carried_by row F a t (does q) ≡ keeps (refusal x) a t → Comes q (Refused x)
 
-    comes : (q : Option Place) → Comes q (located row a who h q)
+    comes : (q : Option Place) → Comes q (located row a h q)
     comes none = refuses NoSuchBlock (kept NoSuchBlock)
     comes (some p) = go (is_live p.state) refl
       where
         same_bits : Bool
         same_bits = eqb (h % 16) (use_bits (count p.state))
-
-        same_queue : Bool
-        same_queue = eqb (queue p.state) who
 
         judged_by : Located
         judged_by = by_damage row (block_of row p) (damage row a p)
@@ -159,53 +136,19 @@ module _ {row : ℕ} {F : Form} {a : List ℕ} {t : F.Kept} (r : Checked row F a
         tested l i Intact e = acts p refl l (i ∙ carried_whole row F a t (k p) (ap (damaged row a) (named p) ∙ e))
         tested l i (Damaged x) e = refuses x (i ∙ carried-damaged row F a t (k p) x (ap (damaged row a) (named p) ∙ e))
 
-        by_queue_lem : (v : Bool) → same_queue ≡ v → T (is_live p.state) → carried_by row F a t (does (some p)) ≡ carried_by row F a t (by_queue P who k p)
-            → Comes (some p) (choose same_queue judged_by (Refused WrongQueue))
-        by_queue_lem true e l i =
-            subst (Comes (some p)) (sym (choose-true same_queue _ _ e))
-            (tested l (i ∙ ap (carried_by row F a t) (choose-true same_queue _ _ e)) (damage row a p) refl)
-        by_queue_lem false e l i =
-            subst (Comes (some p)) (sym (choose-false same_queue _ _ e))
-            (refuses WrongQueue (i ∙ ap (carried_by row F a t) (choose-false same_queue _ _ e) ∙ kept WrongQueue))
-
-        by_bits : (v : Bool) → same_bits ≡ v → T (is_live p.state)
-            → Comes (some p) (choose same_bits (choose same_queue judged_by (Refused WrongQueue)) (Refused Stale))
+        by_bits : (v : Bool) → same_bits ≡ v → T (is_live p.state) → Comes (some p) (choose same_bits judged_by (Refused Stale))
         by_bits true e l =
             subst (Comes (some p)) (sym (choose-true same_bits _ _ e))
-            (by_queue_lem same_queue refl l (ap (carried_by row F a t) (on_live P (by_handle P h (by_queue P who k)) p l ∙ choose-true same_bits _ _ e)))
+            (tested l (ap (carried_by row F a t) (on_live P (by_handle P h k) p l ∙ choose-true same_bits _ _ e)) (damage row a p) refl)
         by_bits false e l =
             subst (Comes (some p)) (sym (choose-false same_bits _ _ e))
-            (refuses Stale (ap (carried_by row F a t) (on_live P (by_handle P h (by_queue P who k)) p l ∙ choose-false same_bits _ _ e) ∙ kept Stale))
+            (refuses Stale (ap (carried_by row F a t) (on_live P (by_handle P h k) p l ∙ choose-false same_bits _ _ e) ∙ kept Stale))
 
-        go : (v : Bool) → is_live p.state ≡ v → Comes (some p) (located row a who h (some p))
+        go : (v : Bool) → is_live p.state ≡ v → Comes (some p) (located row a h (some p))
         go true e = subst (Comes (some p)) (sym (choose-true (is_live p.state) _ _ e)) (by_bits same_bits refl (true-T (is_live p.state) e))
         go false e =
             subst (Comes (some p)) (sym (choose-false (is_live p.state) _ _ e))
             (refuses AlreadyFree (ap (carried_by row F a t) (choose-false (is_live p.state) _ _ e) ∙ kept AlreadyFree))
-
-    -- what a queue's call on a block does, of which the plan for a queue that there is is l
-    abbrev by_number : Plan → Plan
-    by_number l = choose (ltb who queues) l (refused WrongQueue P)
-
-    -- a block is located by a queue that there is
-    found_for_lem : {b : Block} {l : Located} → At b ≡ for_queue row who l → (ltb who queues ≡ true) × (At b ≡ l)
-    found_for_lem {b} {l} e = go (ltb who queues) refl
-      where
-        go : (v : Bool) → ltb who queues ≡ v → (ltb who queues ≡ true) × (At b ≡ l)
-        go true f = (f, e ∙ choose-true (ltb who queues) _ _ f)
-        go false f = let g = e ∙ choose-false (ltb who queues) _ _ f in let z : ◌≡◌ {A = ℕ} 0 1 = cc in absurd (omega arith)
-
-    -- a refusal is the queue's number's, or that of the plan
-    number-refused : {x : Refusal} {l : Located} (p : Plan) → Refused x ≡ for_queue row who l
-        → (Refused x ≡ l → carried_by row F a t p ≡ keeps (refusal x) a t) → carried_by row F a t (by_number p) ≡ keeps (refusal x) a t
-    number-refused {x} {l} p e m = go (ltb who queues) refl
-      where
-        go : (v : Bool) → ltb who queues ≡ v → carried_by row F a t (by_number p) ≡ keeps (refusal x) a t
-        go true f = ap (carried_by row F a t) (choose-true (ltb who queues) _ _ f) ∙ m (e ∙ choose-true (ltb who queues) _ _ f)
-        go false f =
-            let g = e ∙ choose-false (ltb who queues) _ _ f in
-            let i : WrongQueue ≡ x = cc in
-            ap (carried_by row F a t) (choose-false (ltb who queues) _ _ f) ∙ kept WrongQueue ∙ ap (λ x. keeps (refusal x) a t) i
 
     -- the block's place, and that the call carries out the plan for it
     pub record Called (b : Block) : Type 0 where
@@ -213,36 +156,26 @@ module _ {row : ℕ} {F : Form} {a : List ℕ} {t : F.Kept} (r : Checked row F a
       pub looked_up : lookup row P (start_of h) ≡ some place
       pub block : b ≡ block_of row place
       pub live : T (is_live place.state)
-      pub result : carried_by row F a t (by_number (on_handle row P who h k)) ≡ applied F a (k place)
+      pub result : carried_by row F a t (on_handle row P h k) ≡ applied F a (k place)
 
-    pub called_at : (b : Block) → At b ≡ for_queue row who (located row a who h (lookup row P (start_of h))) → Called b
+    pub called_at : (b : Block) → At b ≡ located row a h (lookup row P (start_of h)) → Called b
     unfolding on_handle
-    called_at b e = go (located row a who h (lookup row P (start_of h))) (comes (lookup row P (start_of h))) (sym (found_for_lem e).1)
+    called_at b e = go (located row a h (lookup row P (start_of h))) (comes (lookup row P (start_of h))) (sym e)
       where
         go : (l : Located) → Comes (lookup row P (start_of h)) l → l ≡ At b → Called b
-        go (At c) (acts p f l d) g =
-            let i : block_of row p ≡ b = cc in
-            record {
-              place = p;
-              looked_up = f;
-              block = sym i;
-              live = l;
-              result = ap (carried_by row F a t) (choose-true (ltb who queues) _ _ (found_for_lem e).0) ∙ d;
-            }
-        go (Refused x) (refuses y d) g = let z : ◌≡◌ {A = ℕ} 0 1 = cc in absurd (omega arith)
+        go (At c) (acts p f l d) e =
+            let g : block_of row p ≡ b = cc in
+            record { place = p; looked_up = f; block = sym g; live = l; result = d }
+        go (Refused x) (refuses y d) e = let z : ◌≡◌ {A = ℕ} 0 1 = cc in absurd (omega arith)
 
-    handle-refused : (x : Refusal) → Refused x ≡ located row a who h (lookup row P (start_of h))
-        → carried_by row F a t (on_handle row P who h k) ≡ keeps (refusal x) a t
+    pub called_refused : (x : Refusal) → Refused x ≡ located row a h (lookup row P (start_of h))
+        → carried_by row F a t (on_handle row P h k) ≡ keeps (refusal x) a t
     unfolding on_handle
-    handle-refused x e = go (located row a who h (lookup row P (start_of h))) (comes (lookup row P (start_of h))) (sym e)
+    called_refused x e = go (located row a h (lookup row P (start_of h))) (comes (lookup row P (start_of h))) (sym e)
       where
         go : (l : Located) → Comes (lookup row P (start_of h)) l → l ≡ Refused x → carried_by row F a t (does (lookup row P (start_of h))) ≡ keeps (refusal x) a t
         go (At c) (acts p f l d) e = let z : ◌≡◌ {A = ℕ} 0 1 = cc in absurd (omega arith)
         go (Refused y) (refuses z d) e = let g : y ≡ x = cc in d ∙ ap (λ x. keeps (refusal x) a t) g
-
-    pub called_refused : (x : Refusal) → Refused x ≡ for_queue row who (located row a who h (lookup row P (start_of h)))
-        → carried_by row F a t (by_number (on_handle row P who h k)) ≡ keeps (refusal x) a t
-    called_refused x e = number-refused (on_handle row P who h k) e (handle-refused x)
 
     -- for a block that is to have n bytes: these can be asked for, and the call carries out the plan for it
     module _ (pos : 0 < row) (n : ℕ) where
@@ -250,61 +183,56 @@ module _ {row : ℕ} {F : Form} {a : List ℕ} {t : F.Kept} (r : Checked row F a
       abbrev at_start : Option Place
       at_start = lookup row P (start_of h)
 
-      -- the size that answer 3 goes by
-      abbrev too_large : Bool
-      too_large = leb size_limit (new_size at_start n)
-
       pub record CalledFor (b : Block) : Type 0 where
         pub block : Called b
-        pub askable : Askable b.alloc.queue b.alloc.align n
-        pub result : carried_by row F a t (by_number (on_handle_for row P who h n k)) ≡ applied F a (k block.place)
+        pub askable : Askable b.alloc.align n
+        pub result : carried_by row F a t (on_handle_for row P h n k) ≡ applied F a (k block.place)
 
-      pub called_for : (b : Block) → At b ≡ for_queue row who (located_for row a who h n at_start) → CalledFor b
+      pub called_for : (b : Block) → At b ≡ located_for row a h n at_start → CalledFor b
       unfolding on_handle_for
-      called_for b e = go too_large refl
+      called_for b e = go (leb size_limit (new_size at_start n)) refl
         where
-          o : ltb who queues ≡ true
-          o = (found_for_lem e).0
-
-          go : (v : Bool) → too_large ≡ v → CalledFor b
-          go true f = let g = (found_for_lem e).1 ∙ choose-true too_large _ _ f in let z : ◌≡◌ {A = ℕ} 0 1 = cc in absurd (omega arith)
+          go : (v : Bool) → leb size_limit (new_size at_start n) ≡ v → CalledFor b
+          go true f = let g = e ∙ choose-true (leb size_limit (new_size at_start n)) _ _ f in let z : ◌≡◌ {A = ℕ} 0 1 = cc in absurd (omega arith)
           go false f =
-              let d : Called b = called_at b ((found_for_lem e).1 ∙ choose-false too_large _ _ f ∙ sym (choose-true (ltb who queues) _ _ o)) in
+              let d : Called b = called_at b (e ∙ choose-false (leb size_limit (new_size at_start n)) _ _ f) in
               record {
                 block = d;
-                askable = subst (λ (c : Block). Askable c.alloc.queue c.alloc.align n) (sym d.block)
+                askable = subst (λ (c : Block). Askable c.alloc.align n) (sym d.block)
                     (resizable row pos P (start_of h) n (r.laws.only (length a) t (true-T (F.sound (length a) t) r.sound)).0.formed d.place
-                    d.looked_up (lookup_found row pos P (start_of h) d.place d.looked_up).0 d.live (leb-false size_limit (new_size at_start n) f));
-                result = ap (λ l. carried_by row F a t (by_number l)) (choose-false too_large _ _ f) ∙ d.result;
+                    d.looked_up (lookup_found row pos P (start_of h) d.place d.looked_up).0 d.live
+                    (leb-false size_limit (new_size at_start n) f));
+                result = ap (carried_by row F a t) (choose-false (leb size_limit (new_size at_start n)) _ _ f) ∙ d.result;
               }
 
-      pub refused_for : (x : Refusal) → Refused x ≡ for_queue row who (located_for row a who h n at_start)
-          → carried_by row F a t (by_number (on_handle_for row P who h n k)) ≡ keeps (refusal x) a t
+      pub refused_for : (x : Refusal) → Refused x ≡ located_for row a h n at_start → carried_by row F a t (on_handle_for row P h n k) ≡ keeps (refusal x) a t
       unfolding on_handle_for
-      refused_for x e = number-refused (on_handle_for row P who h n k) e (λ g. go g too_large refl)
+      refused_for x e = go (leb size_limit (new_size at_start n)) refl
         where
-          go : Refused x ≡ located_for row a who h n at_start → (v : Bool) → too_large ≡ v
-              → carried_by row F a t (on_handle_for row P who h n k) ≡ keeps (refusal x) a t
-          go g true f =
-              let j = g ∙ choose-true too_large _ _ f in
+          go : (v : Bool) → leb size_limit (new_size at_start n) ≡ v → carried_by row F a t (on_handle_for row P h n k) ≡ keeps (refusal x) a t
+          go true f =
+              let g = e ∙ choose-true (leb size_limit (new_size at_start n)) _ _ f in
               let i : TooLarge ≡ x = cc in
-              ap (carried_by row F a t) (choose-true too_large _ _ f) ∙ kept TooLarge ∙ ap (λ x. keeps (refusal x) a t) i
-          go g false f = ap (carried_by row F a t) (choose-false too_large _ _ f) ∙ handle-refused x (g ∙ choose-false too_large _ _ f)
+              ap (carried_by row F a t) (choose-true (leb size_limit (new_size at_start n)) _ _ f) ∙ kept TooLarge ∙ ap (λ x. keeps (refusal x) a t) i
+          go false f =
+              ap (carried_by row F a t) (choose-false (leb size_limit (new_size at_start n)) _ _ f)
+              ∙ called_refused x (e ∙ choose-false (leb size_limit (new_size at_start n)) _ _ f)
 
   -- each call on a block, as what is done with it
 
-  module _ (who h : ℕ) where
-    pub releasing : call_by row F a t (queued who (releases h))
-        ≡ carried_by row F a t (by_number who h (release_at row) (release_names row) (on_handle row (F.view t) who h (release_at row)))
-    unfolding plan plan_for release
-    releasing = call-sound (queued who (releases h)) tt
+  pub releasing : (h : ℕ) → call_by row F a t (releases h) ≡ carried_by row F a t (on_handle row (F.view t) h (release_at row))
+  unfolding plan release
+  releasing h = call-sound (releases h) tt
 
-    pub measuring : call_by row F a t (queued who (measures h))
-        ≡ carried_by row F a t (by_number who h (measure_at row (F.view t)) (λ p. refl) (on_handle row (F.view t) who h (measure_at row (F.view t))))
-    unfolding plan plan_for measure
-    measuring = call-sound (queued who (measures h)) tt
+  pub measuring : (h : ℕ) → call_by row F a t (measures h) ≡ carried_by row F a t (on_handle row (F.view t) h (measure_at row (F.view t)))
+  unfolding plan measure
+  measuring h = call-sound (measures h) tt
 
--- ---- what a release tells
+-- ---- the block that a plan names
+
+pub release_names : (row : ℕ) (p : Place) → (release_at row p).checks ≡ some p
+unfolding release_at
+release_names row p = choose_case (λ (r : Plan). r.checks ≡ some p) (any is_live (p.lower ++ p.upper)) _ _ (λ e. refl) (λ e. refl)
 
 pub release-done : (row : ℕ) (p : Place) → (release_at row p).answer ≡ done (0 ∷ [])
 unfolding release_at
@@ -332,24 +260,18 @@ module _ {row : ℕ} {F : Form} {a : List ℕ} {t : F.Kept} (r : Checked row F a
   unfolding plan report
   reporting e = kept_as e (call-sound r reports tt ∙ carried_whole row F a t (report row (F.view t)) refl)
 
-  -- a queue's report, by what is counted
-  pub queue_reporting : (who : ℕ) → who < queues → {x : Answer} → x ≡ done (queue_listed (queue_totals row (F.view t) who))
-      → left x a t ≡ call_by row F a t (queued who reports_queue)
-  unfolding plan_for report_queue
-  queue_reporting who h e = kept_as e (call-queued r who reports_queue h ∙ carried_whole row F a t (report_queue row (F.view t) who) refl)
-
 -- ---- a call for another size, by what is found for it
 
--- a queue's call that does f with the block of a handle that is to have n bytes
-pub record GivesSize (row : ℕ) (P : Pool) (who h n : ℕ) (f : Pool → ℕ → Place → Plan) (c : Call) : Type 0 where
-  pub plans : plan row P c ≡ choose (ltb who queues) (on_handle_for row P who h n (f P n)) (refused WrongQueue P)
+-- a call that does f with the block of a handle that is to have n bytes
+pub record GivesSize (row : ℕ) (P : Pool) (h n : ℕ) (f : Pool → ℕ → Place → Plan) (c : Call) : Type 0 where
+  pub plans : plan row P c ≡ on_handle_for row P h n (f P n)
   pub names : (p : Place) → (f P n p).checks ≡ some p
   pub asks : Asks c
   pub one_value : unsound c ≡ refusal Unsound
 
-module _ (row : ℕ) (P : Pool) (who h n : ℕ) where
-  pub in_place-size : GivesSize row P who h n (in_place_at row) (queued who (resizes_in_place h n))
-  unfolding plan plan_for resize_in_place in_place_at resize_at
+module _ (row : ℕ) (P : Pool) (h n : ℕ) where
+  pub in_place-size : GivesSize row P h n (in_place_at row) (resizes_in_place h n)
+  unfolding plan resize_in_place in_place_at resize_at
   in_place-size = record {
     plans = refl;
     names = λ p. choose_case (λ (r : Plan). r.checks ≡ some p) (fits_in_place p n) _ _ (λ e. refl) (λ e. refl);
@@ -357,39 +279,38 @@ module _ (row : ℕ) (P : Pool) (who h n : ℕ) where
     one_value = refl;
   }
 
-  pub move-size : GivesSize row P who h n (move_at row) (queued who (moves h n))
-  unfolding plan plan_for move move_at
-  move-size = record { plans = refl; names = λ p. go p (reserve row P (queue p.state) (align p.state) n); asks = tt; one_value = refl }
+  pub move-size : GivesSize row P h n (move_at row) (moves h n)
+  unfolding plan move move_at
+  move-size = record { plans = refl; names = λ p. go p (reserve row P (align p.state) n); asks = tt; one_value = refl }
     where
       go : (p : Place) (o : Option Place) → (move_to row P p n o).checks ≡ some p
       go p none = refl
       go p (some q) = refl
 
-module _ {row : ℕ} (F : Form) (a : List ℕ) (t : F.Kept) {who h n : ℕ} {f : Pool → ℕ → Place → Plan} {c : Call}
-    (s : GivesSize row (F.view t) who h n f c) where
+module _ {row : ℕ} (F : Form) (a : List ℕ) (t : F.Kept) {h n : ℕ} {f : Pool → ℕ → Place → Plan} {c : Call} (s : GivesSize row (F.view t) h n f c) where
   -- a block is found in sound tables
-  pub found_sound : {b : Block} → At b ≡ found_for row F a t who h n
-      → (F.sound (length a) t ≡ true) × (At b ≡ for_queue row who (located_for row a who h n (lookup row (F.view t) (start_of h))))
+  pub found_sound : {b : Block} → At b ≡ found_for row F a t h n
+      → (F.sound (length a) t ≡ true) × (At b ≡ located_for row a h n (lookup row (F.view t) (start_of h)))
   found_sound {b} e = go (F.sound (length a) t) refl
     where
-      go : (v : Bool) → F.sound (length a) t ≡ v → (F.sound (length a) t ≡ true) × (At b ≡ for_queue row who (located_for row a who h n (lookup row (F.view t) (start_of h))))
+      go : (v : Bool) → F.sound (length a) t ≡ v → (F.sound (length a) t ≡ true) × (At b ≡ located_for row a h n (lookup row (F.view t) (start_of h)))
       go true g = (g, e ∙ choose-true (F.sound (length a) t) _ _ g)
       go false g = let i = e ∙ choose-false (F.sound (length a) t) _ _ g in let z : ◌≡◌ {A = ℕ} 0 1 = cc in absurd (omega arith)
 
   -- what the call leaves where its plan for the block is carried out
-  pub size-given : (r : Checked row F a t) (pos : 0 < row) {b : Block} (d : CalledFor r who h (f (F.view t) n) s.names pos n b) {w : Reply} {x : List ℕ}
+  pub size-given : (r : Checked row F a t) (pos : 0 < row) {b : Block} (d : CalledFor r h (f (F.view t) n) s.names pos n b) {w : Reply} {x : List ℕ}
       {u : F.Kept} → CarriedOutBy F a (f (F.view t) n d.block.place) w x u → left (reply_answer w) x u ≡ call_by row F a t c
   size-given r pos d o = carried_as o (call-sound r c s.asks ∙ ap (carried_by row F a t) s.plans ∙ d.result)
 
   -- and where none is found
-  pub size-refused : FormLaws row F → 0 < row → (x : Refusal) → Refused x ≡ found_for row F a t who h n → keeps (refusal x) a t ≡ call_by row F a t c
+  pub size-refused : FormLaws row F → 0 < row → (x : Refusal) → Refused x ≡ found_for row F a t h n → keeps (refusal x) a t ≡ call_by row F a t c
   size-refused L pos x e = go (F.sound (length a) t) refl
     where
       go : (v : Bool) → F.sound (length a) t ≡ v → keeps (refusal x) a t ≡ call_by row F a t c
       go true g =
           let r : Checked row F a t = record { laws = L; sound = g } in
           sym (call-sound r c s.asks ∙ ap (carried_by row F a t) s.plans
-          ∙ refused_for r who h (f (F.view t) n) s.names pos n x (e ∙ choose-true (F.sound (length a) t) _ _ g))
+          ∙ refused_for r h (f (F.view t) n) s.names pos n x (e ∙ choose-true (F.sound (length a) t) _ _ g))
       go false g =
           let i = e ∙ choose-false (F.sound (length a) t) _ _ g in
           let j : x ≡ Unsound = cc in

@@ -5,7 +5,7 @@ use Rattle.mem.specs.Lists.{is_some}
 use Rattle.mem.specs.Bytes.{put}
 use Rattle.mem.proofs.Laws.{put-nil, put-cons}
 use Rattle.classes.specs.Alignments.{ordinary}
-use Rattle.model.specs.State.{Pool, Place, queues, pool_of, handle}
+use Rattle.model.specs.State.{Pool, Place, pool_of, handle}
 use Rattle.model.specs.Plans.{reserve, enframe, placed, placed_by, reserve_all, pool_after}
 use Rattle.model.specs.Tables.{Layout, encode_by, view_by}
 use Rattle.model.specs.Calls.{written}
@@ -23,19 +23,19 @@ granted-next : (q : Place) (o w : Option (List Place)) → placed q o ≡ w → 
 granted-next q none w e h = let z : false ≡ true = ap is_some e ∙ h in let y : ◌≡◌ {A = ℕ} 0 1 = cc in absurd (omega arith)
 granted-next q (some qs) w e h = (sym (ap granted e), refl)
 
-module _ (L : Layout) (row who : ℕ) (some-queue : who < queues) (ns A : List ℕ) (Q : Pool) (M : List ℕ) where
+module _ (L : Layout) (row : ℕ) (ns A : List ℕ) (Q : Pool) (M : List ℕ) where
   -- what is left to do: from arena a, room t and list l on, the sizes from place i on make arena A, pool Q and list M
   pub record ToGo (i : ℕ) (a t l : List ℕ) : Type 0 where
     pub lent : Lent L row (length a) t
-    pub fits : is_some (reserve_all row (view_by L row t) who (drop i ns)) ≡ true
-    pub arena : written a (map (enframe row) (granted (reserve_all row (view_by L row t) who (drop i ns)))) ≡ A
-    pub pool : pool_after (view_by L row t) (granted (reserve_all row (view_by L row t) who (drop i ns))) ≡ Q
-    pub list : put i (map (handle row) (granted (reserve_all row (view_by L row t) who (drop i ns)))) l ≡ M
+    pub fits : is_some (reserve_all row (view_by L row t) (drop i ns)) ≡ true
+    pub arena : written a (map (enframe row) (granted (reserve_all row (view_by L row t) (drop i ns)))) ≡ A
+    pub pool : pool_after (view_by L row t) (granted (reserve_all row (view_by L row t) (drop i ns))) ≡ Q
+    pub list : put i (map (handle row) (granted (reserve_all row (view_by L row t) (drop i ns)))) l ≡ M
 
   -- nothing is left
   pub all_done : (i : ℕ) (a t l : List ℕ) → length ns ≤ i → ToGo i a t l → (a ≡ A) × (t ≡ encode_by L row Q) × (l ≡ M) × (view_by L row t ≡ Q)
   all_done i a t l h g =
-      let e : reserve_all row (view_by L row t) who (drop i ns) ≡ some [] = all_placed row (view_by L row t) who ns i h in
+      let e : reserve_all row (view_by L row t) (drop i ns) ≡ some [] = all_placed row (view_by L row t) ns i h in
       let v : view_by L row t ≡ Q = sym (ap (λ o. pool_after (view_by L row t) (granted o)) e) ∙ g.pool in (
         sym (ap (λ o. written a (map (enframe row) (granted o))) e) ∙ g.arena,
         (facts g.lent).form ∙ ap (encode_by L row) v,
@@ -46,38 +46,38 @@ module _ (L : Layout) (row who : ℕ) (some-queue : who < queues) (ns A : List �
   -- one grant further, and its place
   pub record Further (i : ℕ) (t b u l : List ℕ) : Type 0 where
     pub place : Place
-    pub found : reserve row (view_by L row t) who ordinary (get_or ns i 0) ≡ some place
+    pub found : reserve row (view_by L row t) ordinary (get_or ns i 0) ≡ some place
     pub says : view_by L row u ≡ pool_of place
     pub rest : ToGo (i + 1) b u l
 
   pub one_further : small ns ≡ true → (i : ℕ) (a t l : List ℕ) → i < length ns → ToGo i a t l → (b u : List ℕ) (k : ℕ)
-      → k ≡ handle_or row (reserve row (view_by L row t) who ordinary (get_or ns i 0)) → b ≡ next_arena row a (reserve row (view_by L row t) who ordinary (get_or ns i 0))
-      → u ≡ next_room_by L row t (reserve row (view_by L row t) who ordinary (get_or ns i 0)) → length b ≡ length a
+      → k ≡ handle_or row (reserve row (view_by L row t) ordinary (get_or ns i 0)) → b ≡ next_arena row a (reserve row (view_by L row t) ordinary (get_or ns i 0))
+      → u ≡ next_room_by L row t (reserve row (view_by L row t) ordinary (get_or ns i 0)) → length b ≡ length a
       → Further i t b u (set l i k)
-  one_further s i a t l h g b u k ek eb eu el = go (reserve row (view_by L row t) who ordinary n) refl
+  one_further s i a t l h g b u k ek eb eu el = go (reserve row (view_by L row t) ordinary n) refl
     where
       n : ℕ
       n = get_or ns i 0
 
-      whole : (o : Option Place) → reserve row (view_by L row t) who ordinary n ≡ o
-          → placed_by o (λ q. reserve_all row (pool_of q) who (drop (i + 1) ns)) ≡ reserve_all row (view_by L row t) who (drop i ns)
+      whole : (o : Option Place) → reserve row (view_by L row t) ordinary n ≡ o
+          → placed_by o (λ q. reserve_all row (pool_of q) (drop (i + 1) ns)) ≡ reserve_all row (view_by L row t) (drop i ns)
       whole o r =
-          sym (next-placed row (view_by L row t) who ns i h ∙ ap (λ o. placed_by o (λ q. reserve_all row (pool_of q) who (drop (i + 1) ns))) r)
+          sym (next-placed row (view_by L row t) ns i h ∙ ap (λ o. placed_by o (λ q. reserve_all row (pool_of q) (drop (i + 1) ns))) r)
 
-      next : (q : Place) → reserve row (view_by L row t) who ordinary n ≡ some q → Further i t b u (set l i k)
+      next : (q : Place) → reserve row (view_by L row t) ordinary n ≡ some q → Further i t b u (set l i k)
       next q r =
           let e : u ≡ encode_by L row (pool_of q) = eu ∙ ap (next_room_by L row t) r in
-          let w = reserve_formed row (view_by L row t) who ordinary n q (facts g.lent).formed (plain some-queue (small_at ns i s h)) r in
+          let w = reserve_formed row (view_by L row t) ordinary n q (facts g.lent).formed (plain (small_at ns i s h)) r in
           let says : view_by L row u ≡ pool_of q = ap (view_by L row) e ∙ view-encode g.lent.laws row g.lent.pos (pool_of q) w.formed in
-          let qs : List Place = granted (reserve_all row (pool_of q) who (drop (i + 1) ns)) in
-          let m : (granted (reserve_all row (view_by L row t) who (drop i ns)) ≡ q ∷ qs) × (is_some (reserve_all row (pool_of q) who (drop (i + 1) ns)) ≡ true) =
-          granted-next q (reserve_all row (pool_of q) who (drop (i + 1) ns)) (reserve_all row (view_by L row t) who (drop i ns)) (whole (some q) r) g.fits in
+          let qs : List Place = granted (reserve_all row (pool_of q) (drop (i + 1) ns)) in
+          let m : (granted (reserve_all row (view_by L row t) (drop i ns)) ≡ q ∷ qs) × (is_some (reserve_all row (pool_of q) (drop (i + 1) ns)) ≡ true) =
+          granted-next q (reserve_all row (pool_of q) (drop (i + 1) ns)) (reserve_all row (view_by L row t) (drop i ns)) (whole (some q) r) g.fits in
           record {
             place = q;
             found = r;
             says = says;
             rest = record {
-              lent = rw (e, el) (reserve-leaves g.lent who ordinary n (plain some-queue (small_at ns i s h)) q r).room;
+              lent = rw (e, el) (reserve-leaves g.lent ordinary n (plain (small_at ns i s h)) q r).room;
               fits = rw says m.1;
               arena =
                   rw says
@@ -92,7 +92,7 @@ module _ (L : Layout) (row who : ℕ) (some-queue : who < queues) (ns A : List �
             };
           }
 
-      go : (o : Option Place) → reserve row (view_by L row t) who ordinary n ≡ o → Further i t b u (set l i k)
+      go : (o : Option Place) → reserve row (view_by L row t) ordinary n ≡ o → Further i t b u (set l i k)
       go (some q) r = next q r
       go none r =
           let z : false ≡ true = ap is_some (whole none r) ∙ g.fits in

@@ -7,10 +7,10 @@ use Rattle.mem.proofs.Tests.{and_right, true-T, T_true}
 use Rattle.model.specs.declared.Refusal.{Refusal}
 use Rattle.model.specs.declared.Refusal.TheVariants.{NoRoom, TooLong, BadProposal}
 use Rattle.model.specs.declared.Reply.{Reply}
-use Rattle.model.specs.State.{queues, handle}
+use Rattle.model.specs.State.{handle}
 use Rattle.model.specs.Answers.{reply_answer, refusal}
 use Rattle.model.specs.Proposals.{entries, accepts, plannable}
-use Rattle.model.specs.Plans.{grants_list, queued, reserve_all, enframe, pool_after}
+use Rattle.model.specs.Plans.{grants_list, reserve_all, enframe, pool_after}
 use Rattle.model.specs.Calls.{Form, Outcome, call_by, keeps, written}
 use Rattle.model.proofs.Lists.{small, accepts-small, accepts_few}
 use Rattle.frames.specs.Grants.{granted}
@@ -51,39 +51,38 @@ module _ (total cap : ℕ) (l : List ℕ) {w : Bool} (e : w ≡ plannable total 
   pub proposal : {ns : List ℕ} {v : Bool} → v ≡ accepts total cap ns → not v ≡ false → Proposal total cap l ns
   proposal f k = record { short = short_enough; right = passing f k }
 
-  pub not_accepted : {row : ℕ} {F : Form} {a : List ℕ} {t : F.Kept} (r : Checked row F a t) (who : ℕ) (o : who < queues) (ns : List ℕ) {v : Bool}
-      → v ≡ accepts total cap ns → not v ≡ true
-      → Listed (call_by row F a t (queued who (grants_list total cap (length l) ns))) (reply_answer (Reply.Refused BadProposal)) l l a t
-  not_accepted r who o ns {v} f k = refused-list BadProposal l (bad_proposal r who o total cap (length l) ns short_enough (sym f ∙ not-true v k))
+  pub not_accepted : {row : ℕ} {F : Form} {a : List ℕ} {t : F.Kept} (r : Checked row F a t) (ns : List ℕ) {v : Bool} → v ≡ accepts total cap ns → not v ≡ true
+      → Listed (call_by row F a t (grants_list total cap (length l) ns)) (reply_answer (Reply.Refused BadProposal)) l l a t
+  not_accepted r ns {v} f k = refused-list BadProposal l (bad_proposal r total cap (length l) ns short_enough (sym f ∙ not-true v k))
 
-module _ {row : ℕ} {F : Form} {a : List ℕ} {t : F.Kept} (r : Checked row F a t) (who : ℕ) (o : who < queues) (total cap : ℕ) (l ns : List ℕ) where
+module _ {row : ℕ} {F : Form} {a : List ℕ} {t : F.Kept} (r : Checked row F a t) (total cap : ℕ) (l ns : List ℕ) where
   -- what the call does, and that it refuses
   abbrev asked : Outcome F.Kept
-  asked = call_by row F a t (queued who (grants_list total cap (length l) ns))
+  asked = call_by row F a t (grants_list total cap (length l) ns)
 
   abbrev Refuses : Refusal → Type 0
   Refuses x = Listed asked (reply_answer (Reply.Refused x)) l l a t
 
   pub not-plannable : {w : Bool} → w ≡ plannable total cap → not w ≡ true → Refuses TooLong
   not-plannable {w} e h =
-      refused-list TooLong l (too_long r who o total cap (length l) ns (ap (λ b. b && leb entries (length l)) (sym e ∙ not-true w h)))
+      refused-list TooLong l (too_long r total cap (length l) ns (ap (λ b. b && leb entries (length l)) (sym e ∙ not-true w h)))
 
   pub few_places : length l < entries → Refuses TooLong
-  few_places h = refused-list TooLong l (too_long r who o total cap (length l) ns
+  few_places h = refused-list TooLong l (too_long r total cap (length l) ns
       (ap (λ b. plannable total cap && b) (lt-leb entries (length l) h) ∙ and-false (plannable total cap)))
 
-module _ {row : ℕ} {F : Form} {a : List ℕ} {t : F.Kept} (r : Checked row F a t) (who : ℕ) (o : who < queues) {total cap : ℕ} {l ns : List ℕ}
-    (p : Proposal total cap l ns) {w : Bool} (e : w ≡ is_some (reserve_all row (F.view t) who ns)) where
-  pub not_fitting : not w ≡ true → Listed (call_by row F a t (queued who (grants_list total cap (length l) ns))) (reply_answer (Reply.Refused NoRoom)) l l a t
-  not_fitting h = refused-list NoRoom l (no_room r who o total cap (length l) ns p.short p.right (sym e ∙ not-true w h))
+module _ {row : ℕ} {F : Form} {a : List ℕ} {t : F.Kept} (r : Checked row F a t) {total cap : ℕ} {l ns : List ℕ} (p : Proposal total cap l ns)
+    {w : Bool} (e : w ≡ is_some (reserve_all row (F.view t) ns)) where
+  pub not_fitting : not w ≡ true → Listed (call_by row F a t (grants_list total cap (length l) ns)) (reply_answer (Reply.Refused NoRoom)) l l a t
+  not_fitting h = refused-list NoRoom l (no_room r total cap (length l) ns p.short p.right (sym e ∙ not-true w h))
 
   -- and one that is granted whole
-  pub granted-list : not w ≡ false → {m x : List ℕ} {u : F.Kept} → m ≡ put 0 (map (handle row) (granted (reserve_all row (F.view t) who ns))) l
-      → x ≡ written a (map (enframe row) (granted (reserve_all row (F.view t) who ns)))
-      → u ≡ F.encode (pool_after (F.view t) (granted (reserve_all row (F.view t) who ns)))
-      → Listed (call_by row F a t (queued who (grants_list total cap (length l) ns))) (reply_answer (Reply.Done (length ns))) l m x u
+  pub granted-list : not w ≡ false → {m x : List ℕ} {u : F.Kept} → m ≡ put 0 (map (handle row) (granted (reserve_all row (F.view t) ns))) l
+      → x ≡ written a (map (enframe row) (granted (reserve_all row (F.view t) ns)))
+      → u ≡ F.encode (pool_after (F.view t) (granted (reserve_all row (F.view t) ns)))
+      → Listed (call_by row F a t (grants_list total cap (length l) ns)) (reply_answer (Reply.Done (length ns))) l m x u
   granted-list h em ex eu =
-      let w = whole r who o total cap (length l) ns p.short p.right (passing e h) in
+      let w = whole r total cap (length l) ns p.short p.right (passing e h) in
       record {
         number-due = w.number;
         values-due = w.values;

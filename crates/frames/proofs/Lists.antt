@@ -1,5 +1,5 @@
 -- The list call by the tests of the code, in their order, in any lawful form of the tables; and what a refused one leaves.
-use Rattle.mem.proofs.Prelude.{◌∙◌, ◌≡◌, sym, ap, refl, true, false, ◌&&◌, some, none, Option, List, [], ◌∷◌, map, ℕ, ◌<◌, arith, T, leb, length}
+use Rattle.mem.proofs.Prelude.{◌∙◌, ◌≡◌, sym, ap, refl, true, false, ◌&&◌, some, none, Option, List, [], ◌∷◌, map, ℕ, arith, T, leb, length}
 use Rattle.mem.specs.Lists.{choose, is_some}
 use Rattle.mem.specs.Bytes.{put}
 use Rattle.mem.proofs.Tests.{choose-true, choose-false, true-T}
@@ -7,15 +7,15 @@ use Rattle.mem.proofs.Laws.{put-nil}
 use Rattle.model.specs.declared.Refusal.{Refusal}
 use Rattle.model.specs.declared.Refusal.TheVariants.{NoRoom, TooLong, BadProposal}
 use Rattle.model.specs.declared.Reply.{Reply}
-use Rattle.model.specs.State.{Pool, Place, queues, handle, well_formed}
+use Rattle.model.specs.State.{Pool, Place, handle, well_formed}
 use Rattle.model.specs.Answers.{refusal, reply_answer}
 use Rattle.model.specs.Proposals.{entries, accepts, plannable}
-use Rattle.model.specs.Plans.{Plan, grants_list, queued, plan_for, refused, grant_list, grant_all_at, reserve_all, enframe, pool_after}
+use Rattle.model.specs.Plans.{Plan, grants_list, plan, refused, grant_list, grant_all_at, reserve_all, enframe, pool_after}
 use Rattle.model.specs.Calls.{Form, Outcome, call_by, carried_by, applied, keeps, written}
 use Rattle.model.proofs.Lists.{places-counted, accepts-small}
 use Rattle.frames.specs.Grants.{granted}
 use Rattle.model.proofs.Calls.{carried_whole}
-use Rattle.frames.proofs.Calls.{Checked, call-queued, kept}
+use Rattle.frames.proofs.Calls.{Checked, call-sound, kept}
 
 -- what a refused call tells
 pub refused_parts : {R : Type 0} {c : Outcome R} {a : List ℕ} {t : R} (x : Refusal) (l : List ℕ) → c ≡ keeps (refusal x) a t
@@ -32,8 +32,7 @@ refused_parts {R} x l e = (
   ),
 )
 
-module _ {row : ℕ} {F : Form} {a : List ℕ} {t : F.Kept} (r : Checked row F a t) (who : ℕ) (some-queue : who < queues) (total cap places : ℕ)
-    (ns : List ℕ) where
+module _ {row : ℕ} {F : Form} {a : List ℕ} {t : F.Kept} (r : Checked row F a t) (total cap places : ℕ) (ns : List ℕ) where
   abbrev P : Pool
   P = F.view t
 
@@ -44,11 +43,11 @@ module _ {row : ℕ} {F : Form} {a : List ℕ} {t : F.Kept} (r : Checked row F a
   does p = carried_by row F a t p
 
   abbrev asked : Outcome F.Kept
-  asked = call_by row F a t (queued who (grants_list total cap places ns))
+  asked = call_by row F a t (grants_list total cap places ns)
 
-  asks : asked ≡ does (grant_list row P who total cap places ns)
-  unfolding plan_for
-  asks = call-queued r who (grants_list total cap places ns) some-queue
+  asks : asked ≡ does (grant_list row P total cap places ns)
+  unfolding plan
+  asks = call-sound r (grants_list total cap places ns) tt
 
   pub too_long : (plannable total cap && leb entries places) ≡ false → asked ≡ keeps (refusal TooLong) a t
   unfolding grant_list
@@ -57,7 +56,7 @@ module _ {row : ℕ} {F : Form} {a : List ℕ} {t : F.Kept} (r : Checked row F a
 
   module _ (h : (plannable total cap && leb entries places) ≡ true) where
     short : asked
-        ≡ does (choose (accepts total cap ns) (grant_all_at row P (reserve_all row P who ns))
+        ≡ does (choose (accepts total cap ns) (grant_all_at row P (reserve_all row P ns))
         (refused BadProposal P))
     unfolding grant_list
     short = asks ∙ ap does (choose-true (plannable total cap && leb entries places) _ (refused TooLong P) h)
@@ -66,13 +65,13 @@ module _ {row : ℕ} {F : Form} {a : List ℕ} {t : F.Kept} (r : Checked row F a
     bad_proposal e = short ∙ ap does (choose-false (accepts total cap ns) _ (refused BadProposal P) e) ∙ kept r BadProposal
 
     module _ (k : accepts total cap ns ≡ true) where
-      tried : asked ≡ does (grant_all_at row P (reserve_all row P who ns))
+      tried : asked ≡ does (grant_all_at row P (reserve_all row P ns))
       tried = short ∙ ap does (choose-true (accepts total cap ns) _ (refused BadProposal P) k)
 
-      pub no_room : is_some (reserve_all row P who ns) ≡ false → asked ≡ keeps (refusal NoRoom) a t
-      no_room e = go (reserve_all row P who ns) refl e
+      pub no_room : is_some (reserve_all row P ns) ≡ false → asked ≡ keeps (refusal NoRoom) a t
+      no_room e = go (reserve_all row P ns) refl e
         where
-          go : (o : Option (List Place)) → reserve_all row P who ns ≡ o → is_some o ≡ false → asked ≡ keeps (refusal NoRoom) a t
+          go : (o : Option (List Place)) → reserve_all row P ns ≡ o → is_some o ≡ false → asked ≡ keeps (refusal NoRoom) a t
           go none f e = tried ∙ ap (λ o. does (grant_all_at row P o)) f ∙ kept r NoRoom
           go (some qs) f e = let z : ◌≡◌ {A = ℕ} 0 1 = cc in absurd (omega arith)
 
@@ -80,21 +79,21 @@ module _ {row : ℕ} {F : Form} {a : List ℕ} {t : F.Kept} (r : Checked row F a
       pub record Whole : Type 0 where
         pub number : 0 ≡ asked.answer.number
         pub values : length ns ∷ [] ≡ asked.answer.values
-        pub lent : map (handle row) (granted (reserve_all row P who ns)) ≡ asked.answer.lent
-        pub arena : written a (map (enframe row) (granted (reserve_all row P who ns))) ≡ asked.arena
-        pub kept : F.encode (pool_after P (granted (reserve_all row P who ns))) ≡ asked.kept
+        pub lent : map (handle row) (granted (reserve_all row P ns)) ≡ asked.answer.lent
+        pub arena : written a (map (enframe row) (granted (reserve_all row P ns))) ≡ asked.arena
+        pub kept : F.encode (pool_after P (granted (reserve_all row P ns))) ≡ asked.kept
 
-      pub whole : is_some (reserve_all row P who ns) ≡ true → Whole
-      whole e = go (reserve_all row P who ns) refl e
+      pub whole : is_some (reserve_all row P ns) ≡ true → Whole
+      whole e = go (reserve_all row P ns) refl e
         where
-          go : (o : Option (List Place)) → reserve_all row P who ns ≡ o → is_some o ≡ true → Whole
+          go : (o : Option (List Place)) → reserve_all row P ns ≡ o → is_some o ≡ true → Whole
           go none f e = let z : ◌≡◌ {A = ℕ} 0 1 = cc in absurd (omega arith)
           go (some qs) f e =
               let d : asked ≡ applied F a (grant_all_at row P (some qs)) =
               tried ∙ ap (λ o. does (grant_all_at row P o)) f ∙ carried_whole row F a t
               (grant_all_at row P (some qs)) refl in
               let n : length (map (handle row) qs) ≡ length ns =
-              places-counted row who some-queue P ns qs formed (accepts-small total cap ns (true-T (accepts total cap ns) k)) f in
+              places-counted row P ns qs formed (accepts-small total cap ns (true-T (accepts total cap ns) k)) f in
               record {
                 number = sym (ap (λ (r : Outcome F.Kept). r.answer.number) d);
                 values = ap (λ m. m ∷ []) (sym n) ∙ sym (ap (λ (r : Outcome F.Kept). r.answer.values) d);

@@ -3,12 +3,13 @@ use Rattle.mem.proofs.Prelude.{◌∙◌, ◌≡◌, sym, ap, ap₂, true, ⊎_e
 use Rattle.mem.specs.Bytes.{put, part}
 use Rattle.mem.proofs.Tests.{T_true}
 use Rattle.classes.specs.Classes.{slot_bytes}
+use Rattle.classes.specs.Alignments.{Askable}
 use Rattle.model.specs.declared.Refusal.TheVariants as refusals
 use Rattle.model.specs.declared.Reply.{Reply}
-use Rattle.model.specs.State.{Place, disp, size, align, queue, pool_of, slot_number, rows, owned, start}
+use Rattle.model.specs.State.{Place, disp, size, align, pool_of, slot_number, rows, owned, start}
 use Rattle.model.specs.Blocks.{frame}
 use Rattle.model.specs.Answers.{done}
-use Rattle.model.specs.Plans.{Plan, refused_on, reserve, discard, release_at, move_at, move_to, enframe, Askable}
+use Rattle.model.specs.Plans.{Plan, refused_on, reserve, discard, release_at, move_at, move_to, enframe}
 use Rattle.model.specs.Tables.{Layout, view_by, encode_by, sound_by}
 use Rattle.model.specs.Calls.{written, form_of}
 use Rattle.model.proofs.Tables.{view-encode, encode-sound}
@@ -32,10 +33,10 @@ stays_block row p q s =
     let d : q.state ≡ p.state = s.state in
     cc
 
-module _ {L : Layout} {row len : ℕ} {t : List ℕ} (r : Lent L row len t) (who v n : ℕ) (small : Askable who v n) (q : Place)
-    (found : reserve row (view_by L row t) who v n ≡ some q) where
-  grant_formed : Granted row (view_by L row t) who v n q
-  grant_formed = reserve_formed row (view_by L row t) who v n q (facts r).formed small found
+module _ {L : Layout} {row len : ℕ} {t : List ℕ} (r : Lent L row len t) (v n : ℕ) (small : Askable v n) (q : Place)
+    (found : reserve row (view_by L row t) v n ≡ some q) where
+  grant_formed : Granted row (view_by L row t) v n q
+  grant_formed = reserve_formed row (view_by L row t) v n q (facts r).formed small found
 
   -- what a grant leaves: sound tables, and a block that stands in the arena
   pub record Left : Type 0 where
@@ -60,8 +61,8 @@ module _ {L : Layout} {row len : ℕ} {t : List ℕ} (r : Lent L row len t) (who
     pub there : pool_of p ≡ view_by L row t
     there = sym (held_pool r h)
 
-    pub beside : Old row r.pos (view_by L row t) (facts r).formed who v n small q found p there h.live
-    beside = old row r.pos (view_by L row t) (facts r).formed who v n small q found p there h.live
+    pub beside : Old row r.pos (view_by L row t) (facts r).formed v n small q found p there h.live
+    beside = old row r.pos (view_by L row t) (facts r).formed v n small q found p there h.live
 
     pub beside_holds : Holds L row (encode_by L row (pool_of q)) b beside.place
     beside_holds = record {
@@ -84,36 +85,36 @@ module _ {L : Layout} {row len : ℕ} {t : List ℕ} (r : Lent L row len t) (who
         let e₁ : start_at row b ≡ start row p = ap (start_at row) h.block in
         let e₂ : b.alloc.size ≡ size p.state = ap (λ c. c.alloc.size) h.block in
         ⊎_elim (λ x. inl (omega (arith, x, ip, iq, e₁, e₂))) (λ x. inr (omega (arith, x, ip, iq, e₁, e₂)))
-        (old_apart row r.pos (view_by L row t) (facts r).formed who v n small q found p there h.live)
+        (old_apart row r.pos (view_by L row t) (facts r).formed v n small q found p there h.live)
 
     pub taken-size : size q.state ≡ n
-    taken-size = reserve-size row (view_by L row t) who v n q (facts r).formed found
+    taken-size = reserve-size row (view_by L row t) v n q (facts r).formed found
 
     -- the old block is given back by its place
     released_old : discard row (pool_of q) p ≡ release_at row beside.place
     unfolding beside
-    released_old = old_released row r.pos (view_by L row t) (facts r).formed who v n small q found p there h.live
+    released_old = old_released row r.pos (view_by L row t) (facts r).formed v n small q found p there h.live
 
     -- the plan of the move
-    move-plan : who ≡ queue p.state → v ≡ align p.state → move_at row (pool_of p) n p ≡ move_to row (pool_of p) p n (some q)
+    move-plan : v ≡ align p.state → move_at row (pool_of p) n p ≡ move_to row (pool_of p) p n (some q)
     unfolding move_at
-    move-plan o e = ap (move_to row (pool_of p) p n) (ap₂ (λ P k. reserve row P (queue p.state) k n) (sym (held_pool r h)) (sym e) ∙ ap (λ o. reserve row (view_by L row t) o v n) (sym o) ∙ found)
+    move-plan e = ap (move_to row (pool_of p) p n) (ap₂ (λ P k. reserve row P k n) (sym (held_pool r h)) (sym e) ∙ found)
 
-    pub moved_pool : who ≡ queue p.state → v ≡ align p.state → (move_at row (pool_of p) n p).pool ≡ (release_at row beside.place).pool
-    moved_pool o e = ap (λ (x : Plan). x.pool) (move-plan o e) ∙ ap (λ (x : Plan). x.pool) released_old
+    pub moved_pool : v ≡ align p.state → (move_at row (pool_of p) n p).pool ≡ (release_at row beside.place).pool
+    moved_pool e = ap (λ (x : Plan). x.pool) (move-plan e) ∙ ap (λ (x : Plan). x.pool) released_old
 
     -- over what the calls give: the arena with the new block, with its copy, and after the release
     pub moved : (c : Block) (a a₁ a₂ a₃ u : List ℕ) (s : ℕ) → block_of row q ≡ c
         → a₁ ≡ put (owned_at row c) (frame c.class c.slot c.alloc.disp c.alloc.size) a
         → a₂ ≡ put (start_at row c) (part (start_at row b) (min b.alloc.size n) a₁) a₁
         → a₃ ≡ written a₂ (release_at row beside.place).changes → u ≡ encode_by L row (release_at row beside.place).pool
-        → s ≡ handle_at row c → who ≡ queue p.state → v ≡ align p.state → CarriedOutBy (form_of row L) a (move_at row (pool_of p) n p) (Reply.Done s) a₃ u
+        → s ≡ handle_at row c → v ≡ align p.state → CarriedOutBy (form_of row L) a (move_at row (pool_of p) n p) (Reply.Done s) a₃ u
     unfolding enframe
-    moved c a a₁ a₂ a₃ u s ec e₁ e₂ e₃ eu es eo ev =
+    moved c a a₁ a₂ a₃ u s ec e₁ e₂ e₃ eu es ev =
         let sb : start_at row b ≡ start row p = ap (start_at row) h.block in
         let zb : b.alloc.size ≡ size p.state = ap (λ b. b.alloc.size) h.block in
         let f : a₂ ≡ put (start row q) (part (start row p) (min (size p.state) n) laid) laid = e₂ ∙ rw (sb, zb, e₁, ← ec) in
-        rw (move-plan eo ev)
+        rw (move-plan ev)
         (record {
           answer = ap (λ v. done (v ∷ [])) (es ∙ ap (handle_at row) (sym ec));
           arena = e₃ ∙ ap₂ (λ x (y : Plan). written x y.changes) f (sym released_old);
@@ -124,9 +125,7 @@ module _ {L : Layout} {row len : ℕ} {t : List ℕ} (r : Lent L row len t) (who
         laid = put (owned row q) (frame q.cls (slot_number q) (disp q.state) (size q.state)) a
 
 -- no room: the plan refuses
-module _ {L : Layout} {row len : ℕ} {t : List ℕ} (r : Lent L row len t) (who v n : ℕ) {b : Block} {p : Place} (h : Holds L row t b p) where
-  pub unmoved_plan : who ≡ queue p.state → v ≡ align p.state → reserve row (view_by L row t) who v n ≡ none → move_at row (pool_of p) n p ≡ refused_on refusals.NoRoom (pool_of p) p
+module _ {L : Layout} {row len : ℕ} {t : List ℕ} (r : Lent L row len t) (v n : ℕ) {b : Block} {p : Place} (h : Holds L row t b p) where
+  pub unmoved_plan : v ≡ align p.state → reserve row (view_by L row t) v n ≡ none → move_at row (pool_of p) n p ≡ refused_on refusals.NoRoom (pool_of p) p
   unfolding move_at
-  unmoved_plan eo ev e =
-      ap (move_to row (pool_of p) p n)
-      (ap₂ (λ P k. reserve row P (queue p.state) k n) (sym (held_pool r h)) (sym ev) ∙ ap (λ o. reserve row (view_by L row t) o v n) (sym eo) ∙ e)
+  unmoved_plan ev e = ap (move_to row (pool_of p) p n) (ap₂ (λ P k. reserve row P k n) (sym (held_pool r h)) (sym ev) ∙ e)

@@ -5,14 +5,14 @@ use native.Mathlib.Nat.{mul-le-mul_left, suc-mul}
 use Rattle.mem.specs.Lists.{choose}
 use Rattle.mem.proofs.Tests.{true-T}
 use Rattle.classes.specs.Classes.{slot_bytes, rows_of, size_limit}
-use Rattle.classes.specs.Alignments.{enlarged}
+use Rattle.classes.specs.Alignments.{enlarged, Askable}
 use Rattle.classes.proofs.Laws.{slots_small}
 use Rattle.model.specs.declared.Refusal.TheVariants.{TooLarge, AlreadyFree}
 use Rattle.model.specs.declared.Slot.{Slot}
 use Rattle.model.specs.declared.Slot.TheVariants.{Fresh, Idle, Live}
-use Rattle.model.specs.State.{Place, group, is_live, count, align, queue, well_formed, pool_of, slot_number, rows}
+use Rattle.model.specs.State.{Place, group, is_live, count, disp, size, align, well_formed, pool_of, slot_number, rows}
 use Rattle.model.specs.Blocks.{damage}
-use Rattle.model.specs.Plans.{lookup, new_size, reserve, Askable}
+use Rattle.model.specs.Plans.{lookup, new_size, reserve}
 use Rattle.model.specs.Tables.{Layout, view_by, encode_by}
 use Rattle.model.proofs.Tables.{view-encode}
 use Rattle.model.proofs.Rooms.{rows_append}
@@ -20,12 +20,12 @@ use Rattle.model.proofs.Lookup.{Fits, fits, disp_inside, slot_inside, lookup_fou
 use Rattle.model.proofs.Formed.{code_kept}
 use Rattle.model.proofs.Reserve.{Granted, reserve_formed}
 use Rattle.rows.specs.declared.Block.{Block}
-use Rattle.rows.specs.Rows.{Lent, alloc_of, block_of, looked, Holds}
+use Rattle.rows.specs.Rows.{Lent, block_of, looked, Holds}
 use Rattle.rows.proofs.Rooms.{facts, few_rows}
 use Rattle.rows.specs.declared.Looked.{Looked}
 use Rattle.rows.specs.declared.Looked.TheVariants.{Present, Freed}
 use Rattle.frames.specs.declared.Located.TheVariants.{Refused}
-use Rattle.frames.specs.Blocks.{Standing, Lies, code_found, by_damage, by_bits, by_owner, judged, located, judged_for, located_for}
+use Rattle.frames.specs.Blocks.{Standing, Lies, code_found, by_damage, by_bits, judged, located, judged_for, located_for}
 
 -- a slot of a pool lies in an arena that the pool fills
 pub place_stands : (row : ℕ) → 0 < row → (n : ℕ) (p : Place) → T (well_formed (pool_of p)) → rows row (pool_of p) ≤ 512 → n ≡ row * rows row (pool_of p)
@@ -65,9 +65,9 @@ module _ {L : Layout} {row n : ℕ} {t : List ℕ} (r : Lent L row n t) where
       subst (λ b. Holds L row t b p) (sym e) (place_holds p (lookup_found row r.pos (view_by L row t) o p f).0 l)
 
   -- the block that a grant reserves lies in the arena
-  pub reserved_stands : (who v k : ℕ) → Askable who v k → (q : Place) → reserve row (view_by L row t) who v k ≡ some q → Standing row n (block_of row q)
-  reserved_stands who v k small q f =
-      let g : Granted row (view_by L row t) who v k q = reserve_formed row (view_by L row t) who v k q (facts r).formed small f in
+  pub reserved_stands : (v k : ℕ) → Askable v k → (q : Place) → reserve row (view_by L row t) v k ≡ some q → Standing row n (block_of row q)
+  reserved_stands v k small q f =
+      let g : Granted row (view_by L row t) v k q = reserve_formed row (view_by L row t) v k q (facts r).formed small f in
       place_stands row r.pos n q g.formed (omega (arith, few_rows r, g.long)) ((facts r).long ∙ ap (λ k. row * k) (sym g.long))
 
   module _ {b : Block} {p : Place} (h : Holds L row t b p) where
@@ -108,13 +108,13 @@ module _ {L : Layout} {row n : ℕ} {t : List ℕ} (r : Lent L row n t) (o : ℕ
   found_lies = found_known.lies
 
 module _ (row : ℕ) where
-  pub judged-looked : (a : List ℕ) (who h : ℕ) (q : Option Place) → judged row a who h (looked row q) ≡ located row a who h q
+  pub judged-looked : (a : List ℕ) (h : ℕ) (q : Option Place) → judged row a h (looked row q) ≡ located row a h q
   unfolding choose
-  judged-looked a who h none = refl
-  judged-looked a who h (some p) = go (is_live p.state)
+  judged-looked a h none = refl
+  judged-looked a h (some p) = go (is_live p.state)
     where
-      go : (v : Bool) → judged row a who h (choose v (Present (block_of row p)) Freed)
-          ≡ choose v (by_bits row h (count p.state) (by_owner row who (queue p.state) (by_damage row (block_of row p) (damage row a p)))) (Refused AlreadyFree)
+      go : (v : Bool) → judged row a h (choose v (Present (block_of row p)) Freed)
+          ≡ choose v (by_bits row h (count p.state) (by_damage row (block_of row p) (damage row a p))) (Refused AlreadyFree)
       go true = refl
       go false = refl
 
@@ -128,12 +128,12 @@ module _ (row : ℕ) where
         first = rows row p.before;
         class = p.cls;
         slot = slot_number p;
-        alloc = alloc_of x;
+        alloc = record { count = count x; disp = disp x; size = size x; align = align x };
       })) Freed)) n ≡ enlarged (align x) n
       go Fresh = refl
       go (Idle r k d) = refl
       go (Live a) = refl
 
-  pub judged_for-looked : (a : List ℕ) (who h n : ℕ) (q : Option Place) → judged_for row a who h n (looked row q) ≡ located_for row a who h n q
-  judged_for-looked a who h n q =
-      ap₂ (λ m r. choose (leb size_limit m) (Refused TooLarge) r) (new_size_lem q n) (judged-looked a who h q)
+  pub judged_for-looked : (a : List ℕ) (h n : ℕ) (q : Option Place) → judged_for row a h n (looked row q) ≡ located_for row a h n q
+  judged_for-looked a h n q =
+      ap₂ (λ m r. choose (leb size_limit m) (Refused TooLarge) r) (new_size_lem q n) (judged-looked a h q)

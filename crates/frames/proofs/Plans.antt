@@ -8,13 +8,13 @@ use Rattle.classes.specs.Alignments.{enlarged}
 use Rattle.model.specs.declared.Refusal.{Refusal}
 use Rattle.model.specs.declared.Refusal.TheVariants.{NotInPlace}
 use Rattle.model.specs.declared.Reply.{Reply}
-use Rattle.model.specs.State.{Pool, Place, is_live, disp, size, slot_number, resized, pool_of, become, start}
+use Rattle.model.specs.State.{Pool, Place, is_live, disp, size, slot_number, pool_of, become, start}
 use Rattle.model.specs.Blocks.{reserved, header, spare}
 use Rattle.model.specs.Plans.{refused_on, release_at, resize_at, fits_in_place, in_place_at}
 use Rattle.model.specs.Tables.{Layout}
 use Rattle.model.specs.Calls.{written, form_of}
 use Rattle.rows.specs.declared.Block.{Block}
-use Rattle.rows.specs.Rows.{block_of, owned_at, Holds}
+use Rattle.rows.specs.Rows.{block_of, owned_at, resized, Holds}
 use Rattle.frames.specs.Blocks.{stays_in, CarriedOutBy}
 
 -- what stays in its slot fits
@@ -56,7 +56,7 @@ module _ {L : Layout} {row : ℕ} {t : List ℕ} {b : Block} {p : Place} (h : Ho
       ∙ ap (λ j. put (at + (16 * d + 4 + j)) (zeros (n - j) ++ spare (reserved p.cls d n)) (put (at + 16 * d) (header p.cls (slot_number p) d n) a)) g
       ∙ ap₂ (λ i j. put j (zeros (n - k) ++ spare (reserved p.cls d n)) (put i (header p.cls (slot_number p) d n) a)) y z
 
-pub in_place_pool : (row : ℕ) (p : Place) (n : ℕ) → pool_of (become p (resized p.state n)) ≡ (resize_at row p n).pool
+pub in_place_pool : (row : ℕ) (p : Place) (n : ℕ) → pool_of (become p (resized p n)) ≡ (resize_at row p n).pool
 unfolding resize_at
 in_place_pool row p n = refl
 

@@ -105,15 +105,15 @@ module _ {L : Layout} {row len : ℕ} {t : List ℕ} (r : Lent L row len t) (c :
 
   -- ---- what is reserved, by the site of the size's class
 
-  module _ (who v n : ℕ) (class : c ≡ class_of (enlarged v n)) where
-    reserve-site : reserve row P who v n ≡ reserve_in row c who v n (site row P c)
+  module _ (v n : ℕ) (class : c ≡ class_of (enlarged v n)) where
+    reserve-site : reserve row P v n ≡ reserve_in row c v n (site row P c)
     unfolding reserve
-    reserve-site = ap (λ c. reserve_in row c who v n (site row P c)) (sym class)
+    reserve-site = ap (λ c. reserve_in row c v n (site row P c)) (sym class)
 
-    pub reserved_nothing : (u : List ℕ) → AtSite Nothing u → (reserve row P who v n ≡ none) × (u ≡ t)
+    pub reserved_nothing : (u : List ℕ) → AtSite Nothing u → (reserve row P v n ≡ none) × (u ≡ t)
     reserved_nothing u a =
         let s : site row P c ≡ none = site_nowhere row (site row P c) (sym a.found) in
-        (reserve-site ∙ ap (reserve_in row c who v n) s, a.room ∙ ap (site_room_by L row c t) s)
+        (reserve-site ∙ ap (reserve_in row c v n) s, a.room ∙ ap (site_room_by L row c t) s)
 
-    pub reserved_at : (g : Site) → site row P c ≡ some g → reserve row P who v n ≡ some (grant_in row c who v n g)
-    reserved_at g s = reserve-site ∙ ap (reserve_in row c who v n) s
+    pub reserved_at : (g : Site) → site row P c ≡ some g → reserve row P v n ≡ some (grant_in row c v n g)
+    reserved_at g s = reserve-site ∙ ap (reserve_in row c v n) s

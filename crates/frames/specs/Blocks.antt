@@ -1,15 +1,15 @@
 -- A block as the calls handle it, whatever tables it is in: where it lies, what is found of it, and what a call carries out.
-use Rattle.std.specs.Prelude.{ℕ, ◌+◌, ◌*◌, ◌-◌, ◌%◌, ◌≤◌, ◌<◌, ◌≡◌, Bool, ◌&&◌, List, ◌∷◌, ◌++◌, leb, ltb, eqb, length}
+use Rattle.std.specs.Prelude.{ℕ, ◌+◌, ◌*◌, ◌-◌, ◌%◌, ◌≤◌, ◌<◌, ◌≡◌, Bool, ◌&&◌, List, ◌∷◌, ◌++◌, leb, eqb, length}
 use Rattle.std.proofs.Math.Option.{Option, none, some}
 use Rattle.mem.specs.Lists.{choose}
 use Rattle.mem.specs.Bytes.{part}
 use Rattle.classes.specs.Classes.{slot_bytes, rows_of, size_limit, own_class}
 use Rattle.classes.specs.Alignments.{ordinary, enlarged}
-use Rattle.model.specs.declared.Refusal.TheVariants.{Unsound, TooLarge, NoSuchBlock, AlreadyFree, Stale, WrongQueue}
+use Rattle.model.specs.declared.Refusal.TheVariants.{Unsound, TooLarge, NoSuchBlock, AlreadyFree, Stale}
 use Rattle.model.specs.declared.Damage.{Damage}
 use Rattle.model.specs.declared.Damage.TheVariants.{Intact, Damaged}
 use Rattle.model.specs.declared.Reply.{Reply}
-use Rattle.model.specs.State.{Place, group, is_live, count, queues, queue, use_bits, start_of, pool_of}
+use Rattle.model.specs.State.{Place, group, is_live, count, use_bits, start_of, pool_of}
 use Rattle.model.specs.Blocks.{damage_in, damage}
 use Rattle.model.specs.Answers.{reply_answer}
 use Rattle.model.specs.Plans.{Plan, Site, lookup, new_size}
@@ -49,12 +49,6 @@ bits_found Absent = 0
 bits_found Freed = 0
 bits_found (Present b) = use_bits b.alloc.count
 
--- its queue: that of a live block; of anything else, 0
-abbrev pub queue_found : Looked → ℕ
-queue_found Absent = 0
-queue_found Freed = 0
-queue_found (Present b) = b.alloc.queue
-
 -- whether a block of n bytes can stay in the block's slot
 abbrev pub stays_in : Block → ℕ → Bool
 stays_in b n = leb n (slot_bytes b.class - 4 - 16 * b.alloc.disp) && own_class b.class (enlarged b.alloc.align n)
@@ -69,39 +63,29 @@ module _ (row : ℕ) where
   abbrev pub by_bits : (handle count : ℕ) → Located → Located
   by_bits h k r = choose (eqb (h % 16) (use_bits k)) r (Refused Stale)
 
-  -- and for the block's queue; another's is the wrong one
-  abbrev pub by_owner : (who queue : ℕ) → Located → Located
-  by_owner who k r = choose (eqb k who) r (Refused WrongQueue)
+  -- what was found at the start of a handle
+  abbrev pub judged : List ℕ → (handle : ℕ) → Looked → Located
+  judged a h Absent = Refused NoSuchBlock
+  judged a h Freed = Refused AlreadyFree
+  judged a h (Present b) = by_bits h b.alloc.count
+      (by_damage b (damage_in b.class b.slot b.alloc.disp b.alloc.size (part (owned_at row b) (slot_bytes b.class) a)))
 
-  -- what was found at the start of a handle, for a queue
-  abbrev pub judged : List ℕ → (who handle : ℕ) → Looked → Located
-  judged a who h Absent = Refused NoSuchBlock
-  judged a who h Freed = Refused AlreadyFree
-  judged a who h (Present b) = by_bits h b.alloc.count (by_owner who b.alloc.queue
-      (by_damage b (damage_in b.class b.slot b.alloc.disp b.alloc.size (part (owned_at row b) (slot_bytes b.class) a))))
-
-  abbrev pub located : List ℕ → (who handle : ℕ) → Option Place → Located
-  located a who h none = Refused NoSuchBlock
-  located a who h (some p) =
-      let r = by_bits h (count p.state) (by_owner who (queue p.state) (by_damage (block_of row p) (damage row a p))) in
+  abbrev pub located : List ℕ → (handle : ℕ) → Option Place → Located
+  located a h none = Refused NoSuchBlock
+  located a h (some p) =
+      let r = by_bits h (count p.state) (by_damage (block_of row p) (damage row a p)) in
       choose (is_live p.state) r (Refused AlreadyFree)
 
   -- both for a block that is to have n bytes: answer 3 goes first, by the start and whatever the bits
-  abbrev pub judged_for : List ℕ → (who handle n : ℕ) → Looked → Located
-  judged_for a who h n l = let r = judged a who h l in choose (leb size_limit (enlarged (code_found l) n)) (Refused TooLarge) r
+  abbrev pub judged_for : List ℕ → (handle n : ℕ) → Looked → Located
+  judged_for a h n l = let r = judged a h l in choose (leb size_limit (enlarged (code_found l) n)) (Refused TooLarge) r
 
-  abbrev pub located_for : List ℕ → (who handle n : ℕ) → Option Place → Located
-  located_for a who h n q = let r = located a who h q in choose (leb size_limit (new_size q n)) (Refused TooLarge) r
-
-  -- what a queue that there is locates: a number past the last is the first reason
-  abbrev pub for_queue : (who : ℕ) → Located → Located
-  for_queue who r = choose (ltb who queues) r (Refused WrongQueue)
+  abbrev pub located_for : List ℕ → (handle n : ℕ) → Option Place → Located
+  located_for a h n q = let r = located a h q in choose (leb size_limit (new_size q n)) (Refused TooLarge) r
 
   -- in tables that must be sound
-  abbrev pub found_for : (F : Form) → List ℕ → F.Kept → (who handle n : ℕ) → Located
-  found_for F a t who h n =
-      let l = for_queue who (located_for a who h n (lookup row (F.view t) (start_of h))) in
-      choose (F.sound (length a) t) l (Refused Unsound)
+  abbrev pub found_for : (F : Form) → List ℕ → F.Kept → (handle n : ℕ) → Located
+  found_for F a t h n = let l = located_for a h n (lookup row (F.view t) (start_of h)) in choose (F.sound (length a) t) l (Refused Unsound)
 
 module _ (L : Layout) (row : ℕ) where
   -- the room with the group in which a slot is taken, and the room after a grant

@@ -2,12 +2,12 @@
 ghost use Rattle.std.specs.Prelude.{◌≡◌, ◌+◌, ◌*◌, ◌≤◌, ◌<◌, min, length};
 ghost use Rattle.mem.specs.Bytes.{zeros, put, part};
 ghost use Rattle.classes.specs.Classes.{Lawful, slot_bytes, rows_of};
-ghost use Rattle.model.specs.Plans.{Askable};
+ghost use Rattle.classes.specs.Alignments.{Askable};
 ghost use Rattle.model.specs.State.{use_bits, start_of};
 ghost use Rattle.model.specs.Blocks.{damage_in, frame};
 ghost use Rattle.model.specs.Tables.{most_rows};
 ghost use Rattle.rows.specs.Rows.{owned_at, start_at, handle_at};
-ghost use Rattle.frames.specs.Blocks.{Standing, Lies, code_found, bits_found, queue_found, judged, judged_for, stays_in};
+ghost use Rattle.frames.specs.Blocks.{Standing, Lies, code_found, bits_found, judged, judged_for, stays_in};
 
 use model::{Damage, Refusal};
 use rows::{Block, Looked};
@@ -143,35 +143,20 @@ fn bits_found(found: Looked) -> usize
     }
 }
 
-// Its queue: that of a live block; of anything else, 0.
-fn queue_found(found: Looked) -> usize
-    ensures { result ≡ queue_found found }
-{
-    match found {
-        Looked::Absent => 0,
-        Looked::Freed => 0,
-        Looked::Present(b) => mem::wide(b.alloc.queue),
-    }
-}
-
-// What was found at the start of a handle, as a queue's calls see it: its own live block with the handle's bits and undamaged, or why not.
-pub fn judge(row: usize, arena: &[u8], found: Looked, queue: usize, handle: usize) -> Located
+// What was found at the start of a handle, as the calls see it: a live block with the handle's bits and undamaged, or why not.
+pub fn judge(row: usize, arena: &[u8], found: Looked, handle: usize) -> Located
     requires lies { Lies row (length arena.now) found }
     requires lawful { Lawful row }
-    ensures { result ≡ judged row arena.now queue handle found }
+    ensures { result ≡ judged row arena.now handle found }
 {
     // Read before the block is taken out: the copy of a block that a byte is read of is slower (DECISIONS 115).
     let bits = bits_found(found);
-    let owner = queue_found(found);
     match found {
         Looked::Absent => Located::Refused(Refusal::NoSuchBlock),
         Looked::Freed => Located::Refused(Refusal::AlreadyFree),
         Looked::Present(b) => {
             if handle % 16 != bits {
                 return Located::Refused(Refusal::Stale);
-            }
-            if owner != queue {
-                return Located::Refused(Refusal::WrongQueue);
             }
             match inspect(row, arena, b) {
                 Damage::Intact => Located::At(b),
@@ -193,24 +178,17 @@ fn code_found(found: Looked) -> u8
 }
 
 // What was found at the start of a handle, for a block that is to have n bytes: whether that is too large goes by the alignment of a live block,
-// before the handle's bits, the block's queue and its damage are looked at.
-pub fn judge_for(
-    row: usize,
-    arena: &[u8],
-    found: Looked,
-    queue: usize,
-    handle: usize,
-    n: usize,
-) -> Located
+// before the handle's bits and the block's damage are looked at.
+pub fn judge_for(row: usize, arena: &[u8], found: Looked, handle: usize, n: usize) -> Located
     requires lies { Lies row (length arena.now) found }
     requires found_bound { code_found found ≤ 9 }
     requires lawful { Lawful row }
-    ensures { result ≡ judged_for row arena.now queue handle n found }
+    ensures { result ≡ judged_for row arena.now handle n found }
 {
     if classes::too_large(code_found(found), n) {
         return Located::Refused(Refusal::TooLarge);
     }
-    judge(row, arena, found, queue, handle)
+    judge(row, arena, found, handle)
 }
 
 pub fn lesser(a: usize, b: usize) -> usize
@@ -222,7 +200,7 @@ pub fn lesser(a: usize, b: usize) -> usize
 // Whether a block of n bytes can stay in its slot: it fits, and its class is that of the enlarged size or the next one up.
 pub fn stays_in(b: Block, n: usize) -> bool
     requires class_bound { (b.class < 48) × (16 * b.alloc.disp + 4 ≤ slot_bytes b.class) }
-    requires askable { Askable b.alloc.queue b.alloc.align n }
+    requires askable { Askable b.alloc.align n }
     ensures { result ≡ stays_in b n }
 {
     if 16 * classes::units(b.class) - 4 - 16 * b.alloc.disp < n {

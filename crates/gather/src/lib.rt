@@ -4,7 +4,7 @@ ghost use Rattle.std.specs.Prelude.{◌≡◌, length};
 ghost use Rattle.classes.specs.Classes.{row_bytes};
 ghost use Rattle.model.specs.Answers.{reply_answer};
 ghost use Rattle.model.specs.Proposals.{accepts};
-ghost use Rattle.model.specs.Plans.{grants_list, queued};
+ghost use Rattle.model.specs.Plans.{grants_list};
 ghost use Rattle.model.specs.Calls.{kept_in, call};
 ghost use Rattle.frames.specs.Listed.{Listed};
 ghost use Rattle.gather.specs.Planned.{Planned};
@@ -29,28 +29,24 @@ pub fn plan_list(total: usize, cap: usize, sizes: &mut [usize; 17]) -> Reply
     Reply::Done(count)
 }
 
-// Grant list: the sizes of a queue's accepted proposal, all granted or none; the handles to the front of a lent list, and the value is their number.
+// Grant list: the sizes of an accepted proposal, all granted or none; the handles to the front of a lent list, and the value is their number.
 // It is found first whether all of them fit; only then is anything written.
 pub fn grant_list(
     arena: &mut [u8],
     room: &mut [u8],
     t: Totals,
-    queue: usize,
     total: usize,
     cap: usize,
     sizes: &[usize],
     handles: &mut [usize],
 ) -> Answered
     ensures { Listed (call row_bytes arena.old (kept_in room.old t)
-        (queued queue (grants_list «total» cap (length handles.old) sizes.now)))
+        (grants_list «total» cap (length handles.old) sizes.now))
         (reply_answer result.reply) handles.old handles.new arena.new (kept_in room.new result.totals) }
 {
     let len = arena.len();
     if !soundness::sound(classes::ROW, len, room, t) {
         return totals::refused(Refusal::Unsound, t);
-    }
-    if model::QUEUES <= queue {
-        return totals::refused(Refusal::WrongQueue, t);
     }
     if !proposals::plannable(total, cap) {
         return totals::refused(Refusal::TooLong, t);
@@ -64,7 +60,7 @@ pub fn grant_list(
     if !survey::fits(classes::ROW, len, room, sizes) {
         return totals::refused(Refusal::NoRoom, t);
     }
-    let granted = lists::grant_all(classes::ROW, arena, room, t, queue as u8, sizes, handles);
+    let granted = lists::grant_all(classes::ROW, arena, room, t, sizes, handles);
     Answered {
         reply: Reply::Done(sizes.len()),
         totals: granted,

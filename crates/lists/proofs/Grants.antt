@@ -6,7 +6,7 @@ use Rattle.mem.proofs.Tests.{choose_case}
 use Rattle.classes.specs.Classes.{class_of, size_limit}
 use Rattle.classes.specs.Alignments.{ordinary}
 use Rattle.model.specs.declared.Totals.{Totals}
-use Rattle.model.specs.State.{Pool, group, queues}
+use Rattle.model.specs.State.{Pool, group}
 use Rattle.model.specs.Blocks.{frame}
 use Rattle.model.specs.Plans.{open_from, reserve, enframe, totals}
 use Rattle.model.specs.Tables.{masks_layout, view}
@@ -26,20 +26,20 @@ use Rattle.frames.proofs.Grants.{Further}
 use Rattle.lists.specs.Grants.{first_or, totals_or}
 
 -- one grant
-module _ {row len : ℕ} {t : List ℕ} (r : Lent masks_layout row len t) (who n : ℕ) (o : who < queues) (h : n < size_limit) where
+module _ {row len : ℕ} {t : List ℕ} (r : Lent masks_layout row len t) (n : ℕ) (h : n < size_limit) where
   pub record GrantedOne (a : List ℕ) (s : Totals) (b : Block) (z : Totals) : Type 0 where
     pub stands : Standing row len b
-    pub handed : handle_at row b ≡ handle_or row (reserve row (view row t) who ordinary n)
-    pub first : b.first ≡ first_or row (reserve row (view row t) who ordinary n)
-    pub counts : z ≡ totals_or row s (reserve row (view row t) who ordinary n)
-    pub arena : put (owned_at row b) (frame b.class b.slot b.alloc.disp b.alloc.size) a ≡ next_arena row a (reserve row (view row t) who ordinary n)
+    pub handed : handle_at row b ≡ handle_or row (reserve row (view row t) ordinary n)
+    pub first : b.first ≡ first_or row (reserve row (view row t) ordinary n)
+    pub counts : z ≡ totals_or row s (reserve row (view row t) ordinary n)
+    pub arena : put (owned_at row b) (frame b.class b.slot b.alloc.disp b.alloc.size) a ≡ next_arena row a (reserve row (view row t) ordinary n)
 
-  pub granted_one : (a : List ℕ) (s : Totals) (b : Block) (z : Totals) → reserved_as row (reserve row (view row t) who ordinary n) ≡ Taken b z → GrantedOne a s b z
+  pub granted_one : (a : List ℕ) (s : Totals) (b : Block) (z : Totals) → reserved_as row (reserve row (view row t) ordinary n) ≡ Taken b z → GrantedOne a s b z
   unfolding enframe
   granted_one a s b z e =
-      let (q, f, k, y) = reserved_place row (reserve row (view row t) who ordinary n) b z e in
+      let (q, f, k, y) = reserved_place row (reserve row (view row t) ordinary n) b z e in
       subst (λ b. GrantedOne a s b z) k (record {
-        stands = (reserve-leaves r who ordinary n (plain o h) q f).stands;
+        stands = (reserve-leaves r ordinary n (plain h) q f).stands;
         handed = sym (ap (handle_or row) f);
         first = sym (ap (first_or row) f);
         counts = sym y ∙ sym (ap (totals_or row s) f);
@@ -53,12 +53,12 @@ begins {row} {t} c last from p =
     (λ e. open_start masks_layout row t c)
 
 -- after one grant further the search for its class goes on where its group is, and the totals are those of the pool
-module _ {row who : ℕ} {o : who < queues} {ns A : List ℕ} {Q : Pool} {M : List ℕ} {i : ℕ} {t b u l : List ℕ} (x : Further masks_layout row who o ns A Q M i t b u l) where
+module _ {row : ℕ} {ns A : List ℕ} {Q : Pool} {M : List ℕ} {i : ℕ} {t b u l : List ℕ} (x : Further masks_layout row ns A Q M i t b u l) where
   -- its group, and what lies after it
   abbrev behind : Pool
   behind = group x.place.cls (x.place.lower ++ (x.place.state ∷ x.place.upper)) ∷ x.place.after
 
-  pub none_before : {len : ℕ} → Lent masks_layout row len t → (f : ℕ) → f ≡ first_or row (reserve row (view row t) who ordinary (get_or ns i 0))
+  pub none_before : {len : ℕ} → Lent masks_layout row len t → (f : ℕ) → f ≡ first_or row (reserve row (view row t) ordinary (get_or ns i 0))
       → NoneOpen masks_layout row u (class_of (get_or ns i 0)) f
   none_before r f e = record {
     before = x.place.before;
@@ -67,8 +67,8 @@ module _ {row who : ℕ} {o : who < queues} {ns A : List ℕ} {Q : Pool} {M : Li
     count = sym (e ∙ ap (first_or row) x.found);
     same = ap (open_from [] (class_of (get_or ns i 0))) x.says
         ∙ pass_shut (class_of (get_or ns i 0)) [] x.place.before behind
-        (grant_shut row (view row t) who ordinary (get_or ns i 0) x.place (facts r).formed x.found);
+        (grant_shut row (view row t) ordinary (get_or ns i 0) x.place (facts r).formed x.found);
   }
 
-  pub counts_on : (y z : Totals) → z ≡ totals_or row y (reserve row (view row t) who ordinary (get_or ns i 0)) → z ≡ totals row (view row u)
+  pub counts_on : (y z : Totals) → z ≡ totals_or row y (reserve row (view row t) ordinary (get_or ns i 0)) → z ≡ totals row (view row u)
   counts_on y z e = e ∙ ap (totals_or row y) x.found ∙ sym (ap (totals row) x.says)

@@ -4,7 +4,7 @@ ghost use Rattle.mem.specs.Lists.{choose, every, is_some};
 ghost use Rattle.mem.specs.Bytes.{put};
 ghost use Rattle.classes.specs.Classes.{Lawful, class_of, size_limit};
 ghost use Rattle.classes.specs.Alignments.{ordinary};
-ghost use Rattle.model.specs.State.{queues, handle};
+ghost use Rattle.model.specs.State.{handle};
 ghost use Rattle.model.specs.Plans.{reserve, enframe, reserve_all, pool_after, totals};
 ghost use Rattle.model.specs.Tables.{masks_layout, sound, view, encode};
 ghost use Rattle.model.specs.Calls.{written};
@@ -25,25 +25,24 @@ pub struct Placed {
     pub totals: Totals,
 }
 
-// Grants a queue's block; zeros, and the totals as they were, where there is no room. No group of its class before row `from` serves.
+// Grants a block; zeros, and the totals as they were, where there is no room. No group of its class before row `from` serves.
 fn grant_one(
     row: usize,
     arena: &mut [u8],
     room: &mut [u8],
     t: Totals,
-    queue: u8,
     s: Sized,
     from: usize,
 ) -> Placed
     requires room_value { sound row (length arena.old) room.old ≡ true }
     requires size_lt_too_large { (s.size < size_limit) × (s.class ≡ class_of s.size) × (s.class < 48) × NoneOpen masks_layout row room.old s.class from
-        × (t ≡ totals row (view row room.old)) × (queue < queues) }
+        × (t ≡ totals row (view row room.old)) }
     requires lawful { Lawful row }
-    ensures handle_value { (result.handle ≡ handle_or row (reserve row (view row room.old) queue ordinary s.size))
-        × (result.first ≡ first_or row (reserve row (view row room.old) queue ordinary s.size))
-        × (result.totals ≡ totals_or row t (reserve row (view row room.old) queue ordinary s.size)) }
-    ensures arena_after { arena.new ≡ next_arena row arena.old (reserve row (view row room.old) queue ordinary s.size) }
-    ensures room_after { room.new ≡ next_room row room.old (reserve row (view row room.old) queue ordinary s.size) }
+    ensures handle_value { (result.handle ≡ handle_or row (reserve row (view row room.old) ordinary s.size))
+        × (result.first ≡ first_or row (reserve row (view row room.old) ordinary s.size))
+        × (result.totals ≡ totals_or row t (reserve row (view row room.old) ordinary s.size)) }
+    ensures arena_after { arena.new ≡ next_arena row arena.old (reserve row (view row room.old) ordinary s.size) }
+    ensures room_after { room.new ≡ next_room row room.old (reserve row (view row room.old) ordinary s.size) }
 {
     let Reserved::Taken(b, taken) = reserving::reserve_in(
         row,
@@ -51,7 +50,6 @@ fn grant_one(
         room,
         t,
         s.class,
-        queue,
         classes::ORDINARY,
         s.size,
         from,
@@ -77,28 +75,27 @@ fn begin(c: usize, last: usize, from: usize) -> usize
     if c == last { from } else { 0 }
 }
 
-// Grants a queue's sizes that fit, and writes the handles to the front of a list. Gives the totals after them.
+// Grants sizes that fit, and writes the handles to the front of a list. Gives the totals after them.
 pub fn grant_all(
     row: usize,
     arena: &mut [u8],
     room: &mut [u8],
     t: Totals,
-    queue: u8,
     sizes: &[usize],
     handles: &mut [usize],
 ) -> Totals
     requires room_value { sound row (length arena.old) room.old ≡ true }
-    requires sizes_value { (every (λ n. ltb n size_limit) sizes.now ≡ true) × (length sizes.now ≤ length handles.old) × (queue < queues) }
-    requires sizes_value_2 { (is_some (reserve_all row (view row room.old) queue sizes.now) ≡ true) × (t ≡ totals row (view row room.old)) }
+    requires sizes_value { (every (λ n. ltb n size_limit) sizes.now ≡ true) × (length sizes.now ≤ length handles.old) }
+    requires sizes_value_2 { (is_some (reserve_all row (view row room.old) sizes.now) ≡ true) × (t ≡ totals row (view row room.old)) }
     requires lawful { Lawful row }
     ensures arena_after { arena.new
-        ≡ written arena.old (map (enframe row) (granted (reserve_all row (view row room.old) queue sizes.now))) }
+        ≡ written arena.old (map (enframe row) (granted (reserve_all row (view row room.old) sizes.now))) }
     ensures room_after { room.new
-        ≡ encode row (pool_after (view row room.old) (granted (reserve_all row (view row room.old) queue sizes.now))) }
+        ≡ encode row (pool_after (view row room.old) (granted (reserve_all row (view row room.old) sizes.now))) }
     ensures handles_after { handles.new
-        ≡ put 0 (map (handle row) (granted (reserve_all row (view row room.old) queue sizes.now))) handles.old }
+        ≡ put 0 (map (handle row) (granted (reserve_all row (view row room.old) sizes.now))) handles.old }
     ensures value { result
-        ≡ totals row (pool_after (view row room.old) (granted (reserve_all row (view row room.old) queue sizes.now))) }
+        ≡ totals row (pool_after (view row room.old) (granted (reserve_all row (view row room.old) sizes.now))) }
 {
     let mut kept = t;
     let mut last = Sized { size: 0, class: 0 };
@@ -106,15 +103,7 @@ pub fn grant_all(
     let mut i = 0;
     while i < sizes.len() {
         let s = classes::with_class(sizes[i], last);
-        let p = grant_one(
-            row,
-            arena,
-            room,
-            kept,
-            queue,
-            s,
-            begin(s.class, last.class, from),
-        );
+        let p = grant_one(row, arena, room, kept, s, begin(s.class, last.class, from));
         handles[i] = p.handle;
         from = p.first;
         kept = p.totals;

@@ -10,7 +10,7 @@ use Rattle.classes.proofs.Alignments.{align-units, align_least, round_multiple, 
 use Rattle.model.specs.declared.Slot.{Slot}
 use Rattle.model.specs.declared.Slot.TheVariants.{Fresh, Idle, Live}
 use Rattle.model.specs.State.{Pool, Place, free, group, is_live, is_ready, count, disp, align, aligned_slot, slots_aligned, aligned_from, aligned, pool_of}
-use Rattle.model.specs.State.{resized, become, slot_number, rows, base, beginning}
+use Rattle.model.specs.State.{become, slot_number, rows, base, beginning}
 use Rattle.model.specs.Plans.{turn_ready, refill, displaced, grant_slot, fresh_pool}
 use Rattle.model.proofs.Fresh.{fresh-aligned, fresh-rows}
 
@@ -38,7 +38,7 @@ refill-aligned c b ss = choose_case (λ l. slots_aligned c b l ≡ slots_aligned
 
 -- a live block in place, whatever its size
 pub resized-aligned : (b n : ℕ) (x : Slot) → T (is_live x) → T (aligned_slot b x)
-    → T (aligned_slot b (resized x n))
+    → T (aligned_slot b (Live (record { count = count x; disp = disp x; size = n; align = align x })))
 resized-aligned b n Fresh l t = absurd l
 resized-aligned b n (Idle r k d) l t = absurd l
 resized-aligned b n (Live a) l t = t
@@ -61,9 +61,9 @@ pub rounded : (k b : ℕ) → 1 ≤ k → b % 16 ≡ 0 → b + 16 * ((round_up (
 rounded k b h e = omega (arith, round_units k b h, (round_near (align_of k) b (omega (arith, align_least k h))).0)
 
 -- a block that is granted in a slot that begins on a unit
-pub grant_aligned_lem : (c who k n b : ℕ) (x : Slot) → 1 ≤ k → b % 16 ≡ 0 → T (aligned_slot b (grant_slot c who k n b x))
+pub grant_aligned_lem : (c k n b : ℕ) (x : Slot) → 1 ≤ k → b % 16 ≡ 0 → T (aligned_slot b (grant_slot c k n b x))
 unfolding grant_slot displaced
-grant_aligned_lem c who k n b x h e =
+grant_aligned_lem c k n b x h e =
     choose_case (λ d. T (eqb ((b + 16 * d) % align_of k) 0)) (leb k ordinary) _ _
     (λ o. let one : 1 ≡ k = omega (arith, leb-true k ordinary o) in
     subst (λ j. T (eqb ((b + 16 * (count x % suc ((slot_bytes c - 4 - n) / 16))) % align_of j) 0)) one
@@ -178,14 +178,14 @@ module _ (row : ℕ) where
       omega (arith, g, u)
 
   -- a slot that a grant takes, where the site's slots are on their boundaries
-  pub granted-aligned : (q : Place) (old : Slot) (who k n : ℕ) → row % 16 ≡ 0 → 1 ≤ k → q.state ≡ grant_slot q.cls who k n (beginning row q) old
+  pub granted-aligned : (q : Place) (old : Slot) (k n : ℕ) → row % 16 ≡ 0 → 1 ≤ k → q.state ≡ grant_slot q.cls k n (beginning row q) old
       → T (slots_aligned q.cls (base row q + 16) (q.lower ++ (old ∷ q.upper)))
       → T (slots_aligned q.cls (base row q + 16) (q.lower ++ (q.state ∷ q.upper)))
-  granted-aligned q old who k n e h s t =
+  granted-aligned q old k n e h s t =
       let a = around (become q old) t in
       rejoined q (record {
         lower = a.lower;
-        here = subst (λ x. T (aligned_slot (beginning row q) x)) (sym s) (grant_aligned_lem q.cls who k n (beginning row q) old h (begins_on_unit q e));
+        here = subst (λ x. T (aligned_slot (beginning row q) x)) (sym s) (grant_aligned_lem q.cls k n (beginning row q) old h (begins_on_unit q e));
         upper = a.upper;
       })
 

@@ -1,15 +1,14 @@
 -- What a call is, case by case, whatever the form of the tables: unsound tables, a refusal, a grant, a block that is named.
-use Rattle.mem.proofs.Prelude.{◌∙◌, ◌≡◌, sym, ap, refl, Bool, true, false, Option, some, none, List, [], ℕ, ◌<◌, ◌≤◌, ◌%◌, le-ltb, lt-ltb, T, not, eqb, ltb, length}
+use Rattle.mem.proofs.Prelude.{◌∙◌, ◌≡◌, sym, ap, refl, Bool, true, false, Option, some, none, List, [], ℕ, ◌%◌, T, not, eqb, length}
 use Rattle.mem.proofs.Tests.{choose-true, choose-false, choose_case, not_so, T_true, true-T}
 use Rattle.model.specs.declared.Refusal.{Refusal}
-use Rattle.model.specs.declared.Refusal.TheVariants.{WrongQueue}
 use Rattle.model.specs.declared.Damage.{Damage}
 use Rattle.model.specs.declared.Damage.TheVariants.{Intact, Damaged}
-use Rattle.model.specs.State.{Pool, Place, is_live, count, queues, queue, use_bits, start_of}
-use Rattle.model.specs.Answers.{refusal_of, refusal}
-use Rattle.model.specs.Plans.{Plan, Request, Call, values_asked, no_queue, measures, reports_queue, reports, queued, is_set_up}
-use Rattle.model.specs.Plans.{plan, plan_for, on_block, by_handle, by_queue, on_handle, lookup, measure_at}
-use Rattle.model.specs.Plans.{measure, report, report_queue}
+use Rattle.model.specs.State.{Pool, Place, is_live, count, use_bits, start_of}
+use Rattle.model.specs.Answers.{refusal}
+use Rattle.model.specs.Plans.{Plan, Call, measures, reports, is_set_up}
+use Rattle.model.specs.Plans.{plan, on_block, by_handle, on_handle, lookup, measure_at}
+use Rattle.model.specs.Plans.{measure, report}
 use Rattle.model.specs.Calls.{Form, FormLaws, Outcome, applied, damaged, keeps, unsound, call_by, carried_by, checked_by, unless, written}
 
 -- the calls but set up
@@ -44,18 +43,6 @@ module _ (row : ℕ) (F : Form) (a : List ℕ) (t : F.Kept) (p : Plan) where
   unfolding carried_by unless
   carried-damaged r e = ap (λ d. unless d (applied F a p) (λ r. keeps (refusal r) a t)) e
 
--- a queue's call on sound tables: by a number past the last, and by one that there is
-module _ (row : ℕ) (F : Form) (a : List ℕ) (t : F.Kept) (s : F.sound (length a) t ≡ true) (who : ℕ) (r : Request) where
-  pub call-no_queue : FormLaws row F → queues ≤ who → call_by row F a t (queued who r) ≡ keeps (refusal_of (values_asked r) WrongQueue) a t
-  unfolding plan
-  call-no_queue L h =
-      call-sound row F a t s (queued who r) tt ∙ ap (carried_by row F a t) (choose-false (ltb who queues) _ _ (le-ltb who queues h))
-      ∙ carried_whole row F a t (no_queue r (F.view t)) refl ∙ ap (keeps (refusal_of (values_asked r) WrongQueue) a) (same_room row F a t s L)
-
-  pub call-queued : who < queues → call_by row F a t (queued who r) ≡ carried_by row F a t (plan_for row (F.view t) who r)
-  unfolding plan
-  call-queued h = call-sound row F a t s (queued who r) tt ∙ ap (carried_by row F a t) (choose-true (ltb who queues) _ _ (lt-ltb who queues h))
-
 -- a call on the block at a start, by what is looked up
 pub on_live : (P : Pool) (f : Place → Plan) (p : Place) → T (is_live p.state) → on_block P f (some p) ≡ f p
 on_live P f p l = choose-true (is_live p.state) _ _ (T_true (is_live p.state) l)
@@ -89,27 +76,18 @@ module _ (row : ℕ) (F : Form) (L : FormLaws row F) (a : List ℕ) (t : F.Kept)
       sounds true s = carries s (damaged row a p.checks) refl
       sounds false s = kept (keeps (unsound c) a t) (refl, refl) (call-unsound row F a t c k s)
 
-  pub measure-keeps : (who h : ℕ) → LeftAsIs a t (call_by row F a t (queued who (measures h)))
-  unfolding plan plan_for measure on_handle
-  measure-keeps who h =
-      left_as_is (queued who (measures h)) tt
-      (choose_case (M (F.view t)) (ltb who queues) _ _ (λ _. nothing (F.view t) (lookup row (F.view t) (start_of h))) (λ _. (refl, refl)))
+  pub measure-keeps : (h : ℕ) → LeftAsIs a t (call_by row F a t (measures h))
+  unfolding plan measure on_handle
+  measure-keeps h = left_as_is (measures h) tt (nothing (F.view t) (lookup row (F.view t) (start_of h)))
     where
       M : Pool → Plan → Type 0
       M P l = (l.changes ≡ []) × (l.pool ≡ P)
 
-      nothing : (P : Pool) (x : Option Place) → M P (on_block P (by_handle P h (by_queue P who (measure_at row P))) x)
+      nothing : (P : Pool) (x : Option Place) → M P (on_block P (by_handle P h (measure_at row P)) x)
       nothing P none = (refl, refl)
       nothing P (some p) =
           choose_case (M P) (is_live p.state) _ _
-          (λ _. choose_case (M P) (eqb (h % 16) (use_bits (count p.state))) _ _
-          (λ _. choose_case (M P) (eqb (queue p.state) who) _ _ (λ _. (refl, refl)) (λ _. (refl, refl))) (λ _. (refl, refl))) (λ _. (refl, refl))
-
-  pub queue-report-keeps : (who : ℕ) → LeftAsIs a t (call_by row F a t (queued who reports_queue))
-  unfolding plan plan_for report_queue
-  queue-report-keeps who =
-      left_as_is (queued who reports_queue) tt
-      (choose_case (λ (l : Plan). (l.changes ≡ []) × (l.pool ≡ F.view t)) (ltb who queues) _ _ (λ _. (refl, refl)) (λ _. (refl, refl)))
+          (λ _. choose_case (M P) (eqb (h % 16) (use_bits (count p.state))) _ _ (λ _. (refl, refl)) (λ _. (refl, refl))) (λ _. (refl, refl))
 
   pub report-keeps : LeftAsIs a t (call_by row F a t reports)
   unfolding plan report

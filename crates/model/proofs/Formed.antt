@@ -4,20 +4,18 @@ use Rattle.mem.proofs.Prelude.{◌*◌, ◌-◌, arith, leb-false, T, eqb, eqb-t
 use Rattle.mem.specs.Lists.{every, any}
 use Rattle.mem.proofs.Tests.{and_left, and_right, and_both, every_append, choose_case, true-T, eq→eqb}
 use Rattle.classes.specs.Classes.{slot_bytes, slots_of, rows_of, size_limit, own_class}
-use Rattle.classes.specs.Alignments.{ordinary, code_of, enlarged}
+use Rattle.classes.specs.Alignments.{ordinary, code_of, enlarged, Askable}
 use Rattle.classes.proofs.Alignments.{code_most}
 use Rattle.model.specs.declared.Slot.{Slot}
 use Rattle.model.specs.declared.Slot.TheVariants.{Fresh, Idle, Live}
 use Rattle.model.specs.declared.Refusal.{Refusal}
-use Rattle.model.specs.declared.Refusal.TheVariants.{TooLarge, NoSuchBlock, AlreadyFree, Stale, WrongQueue}
+use Rattle.model.specs.declared.Refusal.TheVariants.{TooLarge, NoSuchBlock, AlreadyFree, Stale}
 use Rattle.model.specs.State.{Pool, Place, group, is_live, count, disp, align, slot_sound, span_sound, well_formed, pool_of, become, rows, start}
-use Rattle.model.specs.State.{queues, queue, resized, aligned_slot, aligned, beginning, use_bits, start_of, handle}
+use Rattle.model.specs.State.{aligned_slot, aligned, beginning, use_bits, start_of, handle}
 use Rattle.model.specs.Plans.{Plan, refused, reserve, grant_at, grant_as, grant_aligned, lookup, vacant, on_block, by_handle, on_handle, release_at}
-use Rattle.model.specs.Plans.{Askable, by_queue, plan_for, report_queue}
 use Rattle.model.specs.Plans.{release, discard, fits_in_place, new_size, on_handle_for, resize_at, move_to, move_at, in_place_at, resize_in_place, move}
 use Rattle.model.specs.Plans.{measure, measure_at, report, fresh_pool, reserve_all, pool_after, grant_list, plan}
-use Rattle.model.specs.Plans.{Request, grants, grants_aligned, releases, resizes_in_place, moves, measures, grants_list, reports_queue}
-use Rattle.model.specs.Plans.{Call, sets_up, reports, queued}
+use Rattle.model.specs.Plans.{Call, sets_up, grants, grants_aligned, releases, resizes_in_place, moves, measures, reports, grants_list}
 use Rattle.model.proofs.Rooms.{rows_append}
 use Rattle.model.proofs.Fresh.{fresh_formed, all_fresh, fresh-rows}
 use Rattle.model.proofs.Bounds.{parts, freed_whole, here_aligned, become-aligned, resized-aligned}
@@ -51,7 +49,7 @@ vacant-sound c (Live a) l t =
 -- a live slot may get another size in place
 pub resized-sound : (c : ℕ) (x : Slot) (n : ℕ) → T (is_live x) → T (slot_sound c x) → enlarged (align x) n < size_limit
     → n ≤ slot_bytes c - 4 - 16 * disp x → T (own_class c (enlarged (align x) n))
-    → T (slot_sound c (resized x n))
+    → T (slot_sound c (Live (record { count = count x; disp = disp x; size = n; align = align x })))
 unfolding slot_sound
 resized-sound c Fresh n l t s f k = absurd l
 resized-sound c (Idle r j d) n l t s f k = absurd l
@@ -63,7 +61,6 @@ resized-sound c (Live a) n l t s f k =
     let u₃ : T (ltb (enlarged a.align n) size_limit) = lt→ltb (enlarged a.align n) size_limit s in
     let u₄ : T (leb 1 a.align) = search (and_left, and_right) in
     let u₅ : T (leb a.align 9) = search (and_left, and_right) in
-    let u₆ : T (ltb a.queue queues) = search (and_left, and_right) in
     search and_both
 
 -- the rules of a place hold with the slot in another sound state
@@ -137,7 +134,7 @@ module _ (row : ℕ) where
   unfolding resize_at fits_in_place
   resize_at_formed p n w l h t =
       let f : Fits p = fits p w in
-      let x : Slot = resized p.state n in
+      let x : Slot = Live (record { count = count p.state; disp = disp p.state; size = n; align = align p.state }) in
       become_formed p x w
       (resized-sound p.cls p.state n l f.state h (leb→le n (slot_bytes p.cls - 4 - 16 * disp p.state) (search and_left))
       (search (and_left, and_right)))
@@ -154,20 +151,12 @@ code_kept c Fresh l t = absurd l
 code_kept c (Idle r k d) l t = absurd l
 code_kept c (Live a) l t = (leb→le 1 a.align (search (and_left, and_right)), leb→le a.align 9 (search (and_left, and_right)))
 
--- and its queue
-pub queue_kept : (c : ℕ) (x : Slot) → T (is_live x) → T (slot_sound c x) → queue x < queues
-unfolding slot_sound
-queue_kept c Fresh l t = absurd l
-queue_kept c (Idle r k d) l t = absurd l
-queue_kept c (Live a) l t = ltb→lt a.queue queues (search (and_left, and_right))
-
 -- a live block that is found gets a size for which answer 3 is not due
 pub resizable : (row : ℕ) (pos : 0 < row) (P : Pool) (o n : ℕ) → T (well_formed P) → (p : Place) → lookup row P o ≡ some p → pool_of p ≡ P
-    → T (is_live p.state) → new_size (lookup row P o) n < size_limit → Askable (queue p.state) (align p.state) n
+    → T (is_live p.state) → new_size (lookup row P o) n < size_limit → Askable (align p.state) n
 resizable row pos P o n w p f q l h =
-    let t : T (slot_sound p.cls p.state) = (fits p (subst (λ Q. T (well_formed Q)) (sym q) w)).state in
-    let k = code_kept p.cls p.state l t in
-    record { some-queue = queue_kept p.cls p.state l t; some_code = k.0; last_code = k.1; small = subst (λ r. new_size r n < size_limit) f h }
+    let k = code_kept p.cls p.state l (fits p (subst (λ Q. T (well_formed Q)) (sym q) w)).state in
+    record { some_code = k.0; last_code = k.1; small = subst (λ r. new_size r n < size_limit) f h }
 
 module _ (row : ℕ) (pos : 0 < row) where
   -- what a call on a block does, by what is found at its start
@@ -182,40 +171,36 @@ module _ (row : ℕ) (pos : 0 < row) where
           (λ l. live-there p e (lookup_found row pos P o p e).0 (true-T (is_live p.state) l)) (λ l. idle-there)
 
   -- what a call on the block of a handle does, by what is found at the handle's start
-  pub on_handle_lem : (M : Plan → Type 0) (P : Pool) (who h : ℕ) (f : Place → Plan) → ((r : Refusal) → M (refused r P))
-      → ((p : Place) → lookup row P (start_of h) ≡ some p → pool_of p ≡ P → T (is_live p.state) → handle row p ≡ h → queue p.state ≡ who → M (f p))
-      → M (on_handle row P who h f)
+  pub on_handle_lem : (M : Plan → Type 0) (P : Pool) (h : ℕ) (f : Place → Plan) → ((r : Refusal) → M (refused r P))
+      → ((p : Place) → lookup row P (start_of h) ≡ some p → pool_of p ≡ P → T (is_live p.state) → handle row p ≡ h → M (f p)) → M (on_handle row P h f)
   unfolding on_handle
-  on_handle_lem M P who h f not_so live-there =
-      on_block_lem M P (start_of h) (by_handle P h (by_queue P who f)) (not_so NoSuchBlock) (not_so AlreadyFree)
-      (λ p e q l. choose_case M (eqb (h % 16) (use_bits (count p.state))) (by_queue P who f p) (refused Stale P)
-      (λ b. choose_case M (eqb (queue p.state) who) (f p) (refused WrongQueue P)
-      (λ w. live-there p e q l ((by_bits row p h (lookup_found row pos P (start_of h) p e).2).1 (eqb-true (h % 16) (use_bits (count p.state)) b))
-      (eqb-true (queue p.state) who w))
-      (λ _. not_so WrongQueue))
+  on_handle_lem M P h f not_so live-there =
+      on_block_lem M P (start_of h) (by_handle P h f) (not_so NoSuchBlock) (not_so AlreadyFree)
+      (λ p e q l. choose_case M (eqb (h % 16) (use_bits (count p.state))) (f p) (refused Stale P)
+      (λ b. live-there p e q l ((by_bits row p h (lookup_found row pos P (start_of h) p e).2).1 (eqb-true (h % 16) (use_bits (count p.state)) b)))
       (λ _. not_so Stale))
 
   -- ---- calls
 
   -- a grant after others
-  granted_formed : {P : Pool} (who k n : ℕ) (q : Place) {Q : Pool} → Granted row P who k n q → Formed row (pool_of q) Q → Formed row P Q
-  granted_formed who k n q g f = record { formed = f.formed; long = f.long ∙ g.long; bounds = λ u t. f.bounds u (g.bounds u t) }
+  granted_formed : {P : Pool} (k n : ℕ) (q : Place) {Q : Pool} → Granted row P k n q → Formed row (pool_of q) Q → Formed row P Q
+  granted_formed k n q g f = record { formed = f.formed; long = f.long ∙ g.long; bounds = λ u t. f.bounds u (g.bounds u t) }
 
-  pub grant_formed : (P : Pool) (who k n : ℕ) → who < queues → 1 ≤ k → k ≤ 9 → T (well_formed P) → Formed row P (grant_as row P who k n).pool
+  pub grant_formed : (P : Pool) (k n : ℕ) → 1 ≤ k → k ≤ 9 → T (well_formed P) → Formed row P (grant_as row P k n).pool
   unfolding grant_as
-  grant_formed P who k n b s l w =
+  grant_formed P k n s l w =
       choose_case (λ (r : Plan). Formed row P r.pool) (leb size_limit (enlarged k n)) _ _ (λ e. unchanged row P w)
-      (λ e. go (record { some-queue = b; some_code = s; last_code = l; small = leb-false size_limit (enlarged k n) e }) (reserve row P who k n) refl)
+      (λ e. go (record { some_code = s; last_code = l; small = leb-false size_limit (enlarged k n) e }) (reserve row P k n) refl)
     where
-      go : Askable who k n → (r : Option Place) → reserve row P who k n ≡ r → Formed row P (grant_at row P r).pool
+      go : Askable k n → (r : Option Place) → reserve row P k n ≡ r → Formed row P (grant_at row P r).pool
       go h none e = unchanged row P w
-      go h (some q) e = granted_formed who k n q (reserve_formed row P who k n q w h e) (unchanged row (pool_of q) (reserve_formed row P who k n q w h e).formed)
+      go h (some q) e = granted_formed k n q (reserve_formed row P k n q w h e) (unchanged row (pool_of q) (reserve_formed row P k n q w h e).formed)
 
-  grant_aligned_formed : (P : Pool) (who n a : ℕ) → who < queues → T (well_formed P) → Formed row P (grant_aligned row P who n a).pool
+  grant_aligned_formed : (P : Pool) (n a : ℕ) → T (well_formed P) → Formed row P (grant_aligned row P n a).pool
   unfolding grant_aligned
-  grant_aligned_formed P who n a b w =
+  grant_aligned_formed P n a w =
       choose_case (λ (r : Plan). Formed row P r.pool) (ltb 0 (code_of a)) _ _
-      (λ e. grant_formed P who (code_of a) n b (ltb→lt 0 (code_of a) (true-T (ltb 0 (code_of a)) e)) (code_most a) w) (λ _. unchanged row P w)
+      (λ e. grant_formed P (code_of a) n (ltb→lt 0 (code_of a) (true-T (ltb 0 (code_of a)) e)) (code_most a) w) (λ _. unchanged row P w)
 
   -- a block given back
   given_back : (P : Pool) (p : Place) → T (well_formed P) → pool_of p ≡ P → T (is_live p.state) → Formed row P (release_at row p).pool
@@ -226,82 +211,72 @@ module _ (row : ℕ) (pos : 0 < row) where
   discard_formed P o w =
       on_block_lem (λ (r : Plan). Formed row P r.pool) P (start row o) (release_at row) (unchanged row P w) (unchanged row P w) (λ p f e l. given_back P p w e l)
 
-  release-plan_formed : (P : Pool) (who h : ℕ) → T (well_formed P) → Formed row P (release row P who h).pool
+  release-plan_formed : (P : Pool) (h : ℕ) → T (well_formed P) → Formed row P (release row P h).pool
   unfolding release
-  release-plan_formed P who h w =
-      on_handle_lem (λ (r : Plan). Formed row P r.pool) P who h (release_at row) (λ r. unchanged row P w) (λ p f e l b _. given_back P p w e l)
+  release-plan_formed P h w =
+      on_handle_lem (λ (r : Plan). Formed row P r.pool) P h (release_at row) (λ r. unchanged row P w) (λ p f e l b. given_back P p w e l)
 
   -- what a call does that is to give the block of a handle n bytes: answer 3 goes first, so the block can be asked to have them
-  pub on_handle_for_lem : (M : Plan → Type 0) (P : Pool) (who h n : ℕ) (f : Place → Plan) → T (well_formed P) → ((r : Refusal) → M (refused r P))
-      → ((p : Place) → lookup row P (start_of h) ≡ some p → pool_of p ≡ P → T (is_live p.state) → handle row p ≡ h → queue p.state ≡ who
-      → Askable (queue p.state) (align p.state) n → M (f p))
-      → M (on_handle_for row P who h n f)
+  pub on_handle_for_lem : (M : Plan → Type 0) (P : Pool) (h n : ℕ) (f : Place → Plan) → T (well_formed P) → ((r : Refusal) → M (refused r P))
+      → ((p : Place) → lookup row P (start_of h) ≡ some p → pool_of p ≡ P → T (is_live p.state) → handle row p ≡ h → Askable (align p.state) n → M (f p))
+      → M (on_handle_for row P h n f)
   unfolding on_handle_for
-  on_handle_for_lem M P who h n f w not_so live-there =
+  on_handle_for_lem M P h n f w not_so live-there =
       let m : ℕ = new_size (lookup row P (start_of h)) n in
       choose_case M (leb size_limit m) _ _ (λ _. not_so TooLarge)
-      (λ e. on_handle_lem M P who h f not_so
-      (λ p g q l b o. live-there p g q l b o (resizable row pos P (start_of h) n w p g q l (leb-false size_limit m e))))
+      (λ e. on_handle_lem M P h f not_so
+      (λ p g q l b. live-there p g q l b (resizable row pos P (start_of h) n w p g q l (leb-false size_limit m e))))
 
-  move_at_formed : (P : Pool) (p : Place) (n : ℕ) → T (well_formed P) → Askable (queue p.state) (align p.state) n → Formed row P (move_at row P n p).pool
+  move_at_formed : (P : Pool) (p : Place) (n : ℕ) → T (well_formed P) → Askable (align p.state) n → Formed row P (move_at row P n p).pool
   unfolding move_at
-  move_at_formed P p n w h = go (reserve row P (queue p.state) (align p.state) n) refl
+  move_at_formed P p n w h = go (reserve row P (align p.state) n) refl
     where
-      go : (r : Option Place) → reserve row P (queue p.state) (align p.state) n ≡ r → Formed row P (move_to row P p n r).pool
+      go : (r : Option Place) → reserve row P (align p.state) n ≡ r → Formed row P (move_to row P p n r).pool
       go none e = unchanged row P w
       go (some q) e =
-          let g : Granted row P (queue p.state) (align p.state) n q = reserve_formed row P (queue p.state) (align p.state) n q w h e in
-          granted_formed (queue p.state) (align p.state) n q g (discard_formed (pool_of q) p g.formed)
+          let g : Granted row P (align p.state) n q = reserve_formed row P (align p.state) n q w h e in
+          granted_formed (align p.state) n q g (discard_formed (pool_of q) p g.formed)
 
-  move_formed : (P : Pool) (who h n : ℕ) → T (well_formed P) → Formed row P (move row P who h n).pool
+  move_formed : (P : Pool) (h n : ℕ) → T (well_formed P) → Formed row P (move row P h n).pool
   unfolding move
-  move_formed P who h n w =
-      on_handle_for_lem (λ (r : Plan). Formed row P r.pool) P who h n (move_at row P n) w (λ r. unchanged row P w) (λ p _ _ _ _ _ s. move_at_formed P p n w s)
+  move_formed P h n w =
+      on_handle_for_lem (λ (r : Plan). Formed row P r.pool) P h n (move_at row P n) w (λ r. unchanged row P w) (λ p _ _ _ _ s. move_at_formed P p n w s)
 
-  resize_in_place_formed : (P : Pool) (who h n : ℕ) → T (well_formed P) → Formed row P (resize_in_place row P who h n).pool
+  resize_in_place_formed : (P : Pool) (h n : ℕ) → T (well_formed P) → Formed row P (resize_in_place row P h n).pool
   unfolding resize_in_place in_place_at
-  resize_in_place_formed P who h n w =
+  resize_in_place_formed P h n w =
       let M : Plan → Type 0 = λ r. Formed row P r.pool in
-      on_handle_for_lem M P who h n (in_place_at row P n) w (λ r. unchanged row P w)
-      (λ p _ q l _ _ s. choose_case M (fits_in_place p n) _ _
+      on_handle_for_lem M P h n (in_place_at row P n) w (λ r. unchanged row P w)
+      (λ p _ q l _ s. choose_case M (fits_in_place p n) _ _
       (λ t. subst (λ Q. Formed row Q (resize_at row p n).pool) q
       (resize_at_formed row p n (subst (λ Q. T (well_formed Q)) (sym q) w) l s.small (true-T (fits_in_place p n) t)))
       (λ _. unchanged row P w))
 
   -- a list of grants
-  list_formed : (P : Pool) (who : ℕ) (ns : List ℕ) (qs : List Place) → who < queues → T (well_formed P) → T (small ns) → reserve_all row P who ns ≡ some qs → Formed row P (pool_after P qs)
-  list_formed P who ns qs b w h e =
-      by_grants row who b (λ P ns qs. T (well_formed P) → Formed row P (pool_after P qs)) (λ P w. unchanged row P w)
+  list_formed : (P : Pool) (ns : List ℕ) (qs : List Place) → T (well_formed P) → T (small ns) → reserve_all row P ns ≡ some qs → Formed row P (pool_after P qs)
+  list_formed P ns qs w h e =
+      by_grants row (λ P ns qs. T (well_formed P) → Formed row P (pool_after P qs)) (λ P w. unchanged row P w)
       (λ P n ns q qs w s r k v.
-      let g : Granted row P who ordinary n q = reserve_formed row P who ordinary n q w (plain b s) r in granted_formed who ordinary n q g (k g.formed)) P ns qs w h e w
+      let g : Granted row P ordinary n q = reserve_formed row P ordinary n q w (plain s) r in granted_formed ordinary n q g (k g.formed)) P ns qs w h e w
 
-  grant_list_formed : (P : Pool) (who total cap places : ℕ) (ns : List ℕ) → who < queues → T (well_formed P)
-      → Formed row P (grant_list row P who total cap places ns).pool
-  grant_list_formed P who total cap places ns b w =
-      on_list row (λ (r : Plan). Formed row P r.pool) P who total cap places ns (λ r. unchanged row P w) (λ qs h e. list_formed P who ns qs b w h e)
+  grant_list_formed : (P : Pool) (total cap places : ℕ) (ns : List ℕ) → T (well_formed P) → Formed row P (grant_list row P total cap places ns).pool
+  grant_list_formed P total cap places ns w =
+      on_list row (λ (r : Plan). Formed row P r.pool) P total cap places ns (λ r. unchanged row P w) (λ qs h e. list_formed P ns qs w h e)
 
-  measure_formed : (P : Pool) (who o : ℕ) → T (well_formed P) → Formed row P (measure row P who o).pool
+  measure_formed : (P : Pool) (o : ℕ) → T (well_formed P) → Formed row P (measure row P o).pool
   unfolding measure
-  measure_formed P who o w =
-      on_handle_lem (λ (r : Plan). Formed row P r.pool) P who o (measure_at row P) (λ r. unchanged row P w) (λ p f e l b _. unchanged row P w)
-
-  -- what a queue that there is asks for
-  asked_formed : (P : Pool) (who : ℕ) (r : Request) → who < queues → T (well_formed P) → Formed row P (plan_for row P who r).pool
-  unfolding plan_for report_queue
-  asked_formed P who (grants n) b w = grant_formed P who ordinary n b (lit≤ tt) (lit≤ tt) w
-  asked_formed P who (grants_aligned n a) b w = grant_aligned_formed P who n a b w
-  asked_formed P who (releases h) b w = release-plan_formed P who h w
-  asked_formed P who (resizes_in_place h n) b w = resize_in_place_formed P who h n w
-  asked_formed P who (moves h n) b w = move_formed P who h n w
-  asked_formed P who (measures h) b w = measure_formed P who h w
-  asked_formed P who (grants_list total cap places ns) b w = grant_list_formed P who total cap places ns b w
-  asked_formed P who reports_queue b w = unchanged row P w
+  measure_formed P o w =
+      on_handle_lem (λ (r : Plan). Formed row P r.pool) P o (measure_at row P) (λ r. unchanged row P w) (λ p f e l b. unchanged row P w)
 
   -- every call leaves a well-formed pool of as many rows
   pub plan_formed : (P : Pool) (c : Call) → T (well_formed P) → Formed row P (plan row P c).pool
   unfolding plan report
   plan_formed P sets_up w = record { formed = fresh_formed (rows row P); long = fresh-rows row (rows row P); bounds = λ _ _. all_fresh row (rows row P) }
+  plan_formed P (grants n) w = grant_formed P ordinary n (lit≤ tt) (lit≤ tt) w
+  plan_formed P (grants_aligned n a) w = grant_aligned_formed P n a w
+  plan_formed P (releases o) w = release-plan_formed P o w
+  plan_formed P (resizes_in_place o n) w = resize_in_place_formed P o n w
+  plan_formed P (moves o n) w = move_formed P o n w
+  plan_formed P (measures o) w = measure_formed P o w
   plan_formed P reports w = unchanged row P w
-  plan_formed P (queued who r) w =
-      choose_case (λ (p : Plan). Formed row P p.pool) (ltb who queues) _ _
-      (λ e. asked_formed P who r (ltb→lt who queues (true-T (ltb who queues) e)) w) (λ _. unchanged row P w)
+  plan_formed P (grants_list total cap places ns) w = grant_list_formed P total cap places ns w

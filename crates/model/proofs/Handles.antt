@@ -2,8 +2,8 @@
 use Rattle.mem.proofs.Prelude.{◌∙◌, ◌≡◌, sym, ap, ap₂, ℕ, ◌+◌, ◌%◌, ◌<◌, arith, some, T, eqb, eq-eqb}
 use mathlib.Core.Logic.{◌↔◌}
 use Rattle.mem.proofs.Tests.{choose-true}
-use Rattle.model.specs.State.{Pool, Place, is_live, count, queue, use_bits, start_of, start, handle}
-use Rattle.model.specs.Plans.{Plan, lookup, on_block, by_handle, by_queue, on_handle}
+use Rattle.model.specs.State.{Pool, Place, is_live, count, use_bits, start_of, start, handle}
+use Rattle.model.specs.Plans.{Plan, lookup, on_block, by_handle, on_handle}
 use Rattle.model.proofs.Bounds.{begins_on_unit}
 use Rattle.model.proofs.Lookup.{lookup_found}
 use Rattle.model.proofs.Calls.{on_live}
@@ -43,10 +43,9 @@ module _ (row : ℕ) where
       whole s b e f = omega arith
 
   -- the plan of a call on the live block of a handle
-  pub on_present : 0 < row → (P : Pool) (who h : ℕ) (f : Place → Plan) (p : Place) → lookup row P (start_of h) ≡ some p → T (is_live p.state) → handle row p ≡ h
-      → queue p.state ≡ who → on_handle row P who h f ≡ f p
+  pub on_present : 0 < row → (P : Pool) (h : ℕ) (f : Place → Plan) (p : Place) → lookup row P (start_of h) ≡ some p → T (is_live p.state) → handle row p ≡ h
+      → on_handle row P h f ≡ f p
   unfolding on_handle
-  on_present pos P who h f p e l i w =
-      ap (on_block P (by_handle P h (by_queue P who f))) e ∙ on_live P (by_handle P h (by_queue P who f)) p l
+  on_present pos P h f p e l i =
+      ap (on_block P (by_handle P h f)) e ∙ on_live P (by_handle P h f) p l
       ∙ choose-true (eqb (h % 16) (use_bits (count p.state))) _ _ (eq-eqb _ _ ((by_bits p h (lookup_found row pos P (start_of h) p e).2).0 i))
-      ∙ choose-true (eqb (queue p.state) who) _ _ (eq-eqb _ _ w)

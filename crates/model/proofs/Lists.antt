@@ -8,7 +8,7 @@ use Rattle.classes.specs.Classes.{size_limit}
 use Rattle.classes.specs.Alignments.{ordinary}
 use Rattle.model.specs.declared.Refusal.{Refusal}
 use Rattle.model.specs.declared.Refusal.TheVariants.{NoRoom, TooLong, BadProposal}
-use Rattle.model.specs.State.{Pool, Place, queues, well_formed, pool_of, handle}
+use Rattle.model.specs.State.{Pool, Place, well_formed, pool_of, handle}
 use Rattle.model.specs.Proposals.{entries, cap_right, size_right, accepts, plannable}
 use Rattle.model.specs.Plans.{Plan, refused, reserve, placed, placed_by, reserve_all, grant_all_at, grant_list}
 use Rattle.model.proofs.Reserve.{plain, reserve_formed}
@@ -51,59 +51,58 @@ some-placed q none = refl
 some-placed q (some qs) = refl
 
 -- sizes from a place on: none are left, or one and those after it
-module _ (row : ℕ) (P : Pool) (who : ℕ) (ns : List ℕ) (i : ℕ) where
-  pub all_placed : length ns ≤ i → reserve_all row P who (drop i ns) ≡ some []
+module _ (row : ℕ) (P : Pool) (ns : List ℕ) (i : ℕ) where
+  pub all_placed : length ns ≤ i → reserve_all row P (drop i ns) ≡ some []
   unfolding reserve_all
   all_placed h = rw (drop_of_length-le ns h)
 
   pub next-placed : i < length ns
-      → reserve_all row P who (drop i ns) ≡ placed_by (reserve row P who ordinary (get_or ns i 0)) (λ q. reserve_all row (pool_of q) who (drop (i + 1) ns))
+      → reserve_all row P (drop i ns) ≡ placed_by (reserve row P ordinary (get_or ns i 0)) (λ q. reserve_all row (pool_of q) (drop (i + 1) ns))
   unfolding reserve_all
   next-placed h = rw (add-one, drop-cons ns i 0 h)
 
-module _ (row who : ℕ) (b : who < queues) where
+module _ (row : ℕ) where
   -- a list that is granted, by its grants
   pub by_grants : (M : Pool → List ℕ → List Place → Type 0) → ((P : Pool) → M P [] [])
-      → ((P : Pool) (n : ℕ) (ns : List ℕ) (q : Place) (qs : List Place) → T (well_formed P) → n < size_limit → reserve row P who ordinary n ≡ some q
+      → ((P : Pool) (n : ℕ) (ns : List ℕ) (q : Place) (qs : List Place) → T (well_formed P) → n < size_limit → reserve row P ordinary n ≡ some q
       → M (pool_of q) ns qs
       → M P (n ∷ ns) (q ∷ qs))
-      → (P : Pool) (ns : List ℕ) (qs : List Place) → T (well_formed P) → T (small ns) → reserve_all row P who ns ≡ some qs → M P ns qs
+      → (P : Pool) (ns : List ℕ) (qs : List Place) → T (well_formed P) → T (small ns) → reserve_all row P ns ≡ some qs → M P ns qs
   unfolding reserve_all
   by_grants M nil step P [] [] w h e = nil P
   by_grants M nil step P [] (q ∷ qs) w h e = let z : ◌≡◌ {A = ℕ} 0 1 = cc in absurd (omega arith)
-  by_grants M nil step P (n ∷ ns) qs w h e = first (reserve row P who ordinary n) refl e (λ Q rs. by_grants M nil step Q ns rs)
+  by_grants M nil step P (n ∷ ns) qs w h e = first (reserve row P ordinary n) refl e (λ Q rs. by_grants M nil step Q ns rs)
     where
       Later : Type 0
-      Later = (Q : Pool) (rs : List Place) → T (well_formed Q) → T (small ns) → reserve_all row Q who ns ≡ some rs → M Q ns rs
+      Later = (Q : Pool) (rs : List Place) → T (well_formed Q) → T (small ns) → reserve_all row Q ns ≡ some rs → M Q ns rs
 
-      rest : (q : Place) → reserve row P who ordinary n ≡ some q → (o : Option (List Place)) → reserve_all row (pool_of q) who ns ≡ o → placed q o ≡ some qs → Later
+      rest : (q : Place) → reserve row P ordinary n ≡ some q → (o : Option (List Place)) → reserve_all row (pool_of q) ns ≡ o → placed q o ≡ some qs → Later
           → M P (n ∷ ns) qs
       rest q r none f e k = let z : ◌≡◌ {A = ℕ} 0 1 = cc in absurd (omega arith)
       rest q r (some rs) f e k =
           let z : q ∷ rs ≡ qs = cc in
           let s : n < size_limit = small-first n ns h in
-          subst (M P (n ∷ ns)) z (step P n ns q rs w s r (k (pool_of q) rs (reserve_formed row P who ordinary n q w (plain b s) r).formed (small_rest n ns h) f))
+          subst (M P (n ∷ ns)) z (step P n ns q rs w s r (k (pool_of q) rs (reserve_formed row P ordinary n q w (plain s) r).formed (small_rest n ns h) f))
 
-      first : (o : Option Place) → reserve row P who ordinary n ≡ o → placed_by o (λ q. reserve_all row (pool_of q) who ns) ≡ some qs → Later → M P (n ∷ ns) qs
+      first : (o : Option Place) → reserve row P ordinary n ≡ o → placed_by o (λ q. reserve_all row (pool_of q) ns) ≡ some qs → Later → M P (n ∷ ns) qs
       first none r e k = let z : ◌≡◌ {A = ℕ} 0 1 = cc in absurd (omega arith)
-      first (some q) r e k = rest q r (reserve_all row (pool_of q) who ns) refl e k
+      first (some q) r e k = rest q r (reserve_all row (pool_of q) ns) refl e k
 
   -- a place for each size
-  pub places-counted : (P : Pool) (ns : List ℕ) (qs : List Place) → T (well_formed P) → T (small ns) → reserve_all row P who ns ≡ some qs
+  pub places-counted : (P : Pool) (ns : List ℕ) (qs : List Place) → T (well_formed P) → T (small ns) → reserve_all row P ns ≡ some qs
       → length (map (handle row) qs) ≡ length ns
   places-counted = by_grants (λ P ns qs. length (map (handle row) qs) ≡ length ns) (λ P. refl) (λ P n ns q qs w h r k. ap suc k)
 
-module _ (row : ℕ) where
   -- what a list call does: it is refused, or all its sizes are granted
-  pub on_list : (M : Plan → Type 0) (P : Pool) (who total cap places : ℕ) (ns : List ℕ) → ((r : Refusal) → M (refused r P))
-      → ((qs : List Place) → T (small ns) → reserve_all row P who ns ≡ some qs → M (grant_all_at row P (some qs))) → M (grant_list row P who total cap places ns)
+  pub on_list : (M : Plan → Type 0) (P : Pool) (total cap places : ℕ) (ns : List ℕ) → ((r : Refusal) → M (refused r P))
+      → ((qs : List Place) → T (small ns) → reserve_all row P ns ≡ some qs → M (grant_all_at row P (some qs))) → M (grant_list row P total cap places ns)
   unfolding grant_list
-  on_list M P who total cap places ns refuse grant =
+  on_list M P total cap places ns refuse grant =
       choose_case M (plannable total cap && leb entries places) _ (refused TooLong P)
-      (λ _. choose_case M (accepts total cap ns) (grant_all_at row P (reserve_all row P who ns)) (refused BadProposal P)
-      (λ e. go (accepts-small total cap ns (true-T (accepts total cap ns) e)) (reserve_all row P who ns) refl) (λ _. refuse BadProposal))
+      (λ _. choose_case M (accepts total cap ns) (grant_all_at row P (reserve_all row P ns)) (refused BadProposal P)
+      (λ e. go (accepts-small total cap ns (true-T (accepts total cap ns) e)) (reserve_all row P ns) refl) (λ _. refuse BadProposal))
       (λ _. refuse TooLong)
     where
-      go : T (small ns) → (o : Option (List Place)) → reserve_all row P who ns ≡ o → M (grant_all_at row P o)
+      go : T (small ns) → (o : Option (List Place)) → reserve_all row P ns ≡ o → M (grant_all_at row P o)
       go h none e = refuse NoRoom
       go h (some qs) e = grant qs h e

@@ -190,20 +190,20 @@ module _ (row : ℕ) where
       (site_found_lem row P c s e)
 
   -- a grant takes a place exactly if there is one
-  pub reserve-none : 0 < row → (P : Pool) (who k n : ℕ) → reserve row P who k n ≡ none → NoPlace row P (class_of (enlarged k n))
+  pub reserve-none : 0 < row → (P : Pool) (k n : ℕ) → reserve row P k n ≡ none → NoPlace row P (class_of (enlarged k n))
   unfolding reserve
-  reserve-none pos P who k n e = go (site row P (class_of (enlarged k n))) refl e
+  reserve-none pos P k n e = go (site row P (class_of (enlarged k n))) refl e
     where
-      go : (o : Option Site) → site row P (class_of (enlarged k n)) ≡ o → reserve_in row (class_of (enlarged k n)) who k n o ≡ none
+      go : (o : Option Site) → site row P (class_of (enlarged k n)) ≡ o → reserve_in row (class_of (enlarged k n)) k n o ≡ none
           → NoPlace row P (class_of (enlarged k n))
       go none h e = site-none pos P (class_of (enlarged k n)) h
       go (some s) h e = let z : ◌≡◌ {A = ℕ} 0 1 = cc in absurd (omega arith)
 
-  pub reserve-some : (P : Pool) (who k n : ℕ) (q : Place) → reserve row P who k n ≡ some q → NoPlace row P (class_of (enlarged k n)) → ⊥
+  pub reserve-some : (P : Pool) (k n : ℕ) (q : Place) → reserve row P k n ≡ some q → NoPlace row P (class_of (enlarged k n)) → ⊥
   unfolding reserve
-  reserve-some P who k n q e = go (site row P (class_of (enlarged k n))) refl e
+  reserve-some P k n q e = go (site row P (class_of (enlarged k n))) refl e
     where
-      go : (o : Option Site) → site row P (class_of (enlarged k n)) ≡ o → reserve_in row (class_of (enlarged k n)) who k n o ≡ some q
+      go : (o : Option Site) → site row P (class_of (enlarged k n)) ≡ o → reserve_in row (class_of (enlarged k n)) k n o ≡ some q
           → NoPlace row P (class_of (enlarged k n)) → ⊥
       go none h e = let z : ◌≡◌ {A = ℕ} 0 1 = cc in absurd (omega arith)
       go (some s) h e = site-some P (class_of (enlarged k n)) s h
@@ -225,8 +225,8 @@ module _ (row : ℕ) where
           let (R, k, t) = some_shut c [] P g (f ∙ ap some z) in
           subst (Shut c) (sym k) t
 
-  pub grant_shut : (P : Pool) (who k n : ℕ) (q : Place) → T (well_formed P) → reserve row P who k n ≡ some q → Shut (class_of (enlarged k n)) q.before
+  pub grant_shut : (P : Pool) (k n : ℕ) (q : Place) → T (well_formed P) → reserve row P k n ≡ some q → Shut (class_of (enlarged k n)) q.before
   unfolding grant_in
-  grant_shut P who k n q w e =
-      let v : Served row P who k n q = served row P who k n q w e in
+  grant_shut P k n q w e =
+      let v : Served row P k n q = served row P k n q w e in
       subst (Shut (class_of (enlarged k n))) (sym (ap (λ p. p.before) v.place)) (site_shut P (class_of (enlarged k n)) v.at v.found)

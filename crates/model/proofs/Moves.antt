@@ -1,11 +1,12 @@
 -- A block that moves: in the pool that the grant makes it lives on where it was, beside the new block, and is given back by its place.
 use Rattle.mem.proofs.Prelude.{◌∙◌, ◌≡◌, sym, ap, ap₂, subst, ⊎_elim, inl, inr, ◌⊎◌, some, ◌+◌, ℕ, ◌<◌, ◌≤◌, ◌*◌, arith, T}
 use Rattle.classes.specs.Classes.{slot_bytes}
+use Rattle.classes.specs.Alignments.{Askable}
 use Rattle.classes.proofs.Laws.{bytes_least}
 use Rattle.model.specs.declared.Slot.{Slot}
 use Rattle.model.specs.declared.Slot.TheVariants.{Fresh, Idle, Live}
 use Rattle.model.specs.State.{Pool, Place, is_live, granted, disp, well_formed, pool_of, owned, start, SameSlot}
-use Rattle.model.specs.Plans.{on_block, lookup, release_at, discard, reserve, Askable}
+use Rattle.model.specs.Plans.{on_block, lookup, release_at, discard, reserve}
 use Rattle.model.proofs.Lookup.{fits, lookup-start, owned_unique, owned_apart}
 use Rattle.model.proofs.Calls.{on_live}
 use Rattle.model.proofs.Reserve.{reserve_formed}
@@ -39,7 +40,7 @@ module _ (row : ℕ) where
     discard_found p w l =
         ap (on_block (pool_of p) (release_at row)) (lookup-start row pos p w (live-granted p.state l)) ∙ on_live (pool_of p) (release_at row) p l
 
-    module _ (P : Pool) (w : T (well_formed P)) (who k n : ℕ) (small : Askable who k n) (q : Place) (found : reserve row P who k n ≡ some q)
+    module _ (P : Pool) (w : T (well_formed P)) (k n : ℕ) (small : Askable k n) (q : Place) (found : reserve row P k n ≡ some q)
         (p : Place) (here : pool_of p ≡ P) (lives : T (is_live p.state)) where
       -- the old block in the pool that a grant makes
       pub record Old : Type 0 where
@@ -52,14 +53,14 @@ module _ (row : ℕ) where
 
       pub old : Old
       old =
-          let (p', e, s) = reserve-keeps row P who k n q w found p here lives in
+          let (p', e, s) = reserve-keeps row P k n q w found p here lives in
           record {
             place = p';
             pool = e;
             stays = s;
             live = subst (λ x. T (is_live x)) (sym s.state) lives;
-            formed = subst (λ Q. T (well_formed Q)) (sym e) (reserve_formed row P who k n q w small found).formed;
-            other = λ z. reserve_other row pos P who k n q w found p here lives (subst (SameSlot row p) z s.slot);
+            formed = subst (λ Q. T (well_formed Q)) (sym e) (reserve_formed row P k n q w small found).formed;
+            other = λ z. reserve_other row pos P k n q w found p here lives (subst (SameSlot row p) z s.slot);
           }
 
       pub old_released : discard row (pool_of q) p ≡ release_at row old.place

@@ -11,7 +11,7 @@ use Rattle.model.specs.declared.Slot.{Slot}
 use Rattle.model.specs.declared.Slot.TheVariants.{Fresh, Idle, Live}
 use Rattle.model.specs.declared.Holder.{Holder}
 use Rattle.model.specs.declared.Holder.TheVariants.{Free, First, Later}
-use Rattle.model.specs.State.{queues, Pool, free, group, is_ready, is_waiting, size, slot_sound, span_sound, well_formed, rows}
+use Rattle.model.specs.State.{Pool, free, group, is_ready, is_waiting, size, slot_sound, span_sound, well_formed, rows}
 use Rattle.model.specs.Tables.{slot_record, holder_bytes, row_record, later_records}
 use Rattle.model.specs.Tables.{encode_by, span_records_by}
 use Rattle.model.specs.Tables.{Layout, masks_layout}
@@ -41,11 +41,11 @@ unfolding zeros
 zeros-bytes zero = no_bytes
 zeros-bytes (suc n) = byte 0 (zeros n) (lit≤ tt) (zeros-bytes n)
 
--- two bytes, a displacement, a size and a queue
-kept_bytes : (b k d n who : ℕ) → b < 256 → k < 256 → who < queues → Bytes (b ∷ k ∷ (low 2 d ++ (low 3 n ++ (who ∷ []))))
-kept_bytes b k d n who h l w =
+-- two bytes, a displacement, a size and 0
+kept_bytes : (b k d n : ℕ) → b < 256 → k < 256 → Bytes (b ∷ k ∷ (low 2 d ++ (low 3 n ++ (0 ∷ []))))
+kept_bytes b k d n h l =
     byte b _ h (byte k _ l
-    (bytes-append (low 2 d) (low 3 n ++ (who ∷ [])) (low_small 2 d) (bytes-append (low 3 n) (who ∷ []) (low_small 3 n) (byte who [] (omega arith) no_bytes))))
+    (bytes-append (low 2 d) (low 3 n ++ (0 ∷ [])) (low_small 2 d) (bytes-append (low 3 n) (0 ∷ []) (low_small 3 n) (byte 0 [] (lit≤ tt) no_bytes))))
 
 -- the record of a slot beside masks
 slot_record-Bytes : (c : ℕ) (x : Slot) → T (slot_sound c x) → Bytes (slot_record x)
@@ -57,22 +57,18 @@ slot_record-Bytes c (Idle r k d) t =
 slot_record-Bytes c (Live a) t =
     let h : T (ltb a.count 256) = search (and_left, and_right) in
     let k : T (leb a.align 9) = search (and_left, and_right) in
-    let w : T (ltb a.queue queues) = search (and_left, and_right) in
-    kept_bytes a.align a.count a.disp a.size a.queue (omega (arith, leb→le a.align 9 k)) (ltb→lt a.count 256 h)
-    (ltb→lt a.queue queues w)
+    kept_bytes a.align a.count a.disp a.size (omega (arith, leb→le a.align 9 k)) (ltb→lt a.count 256 h)
 
 -- the plain record of a slot
 plain_bytes : (c : ℕ) (x : Slot) → T (slot_sound c x) → Bytes (plain_record x)
 unfolding plain_record slot_sound choose
-plain_bytes c Fresh t = kept_bytes 0 0 0 0 0 (lit≤ tt) (lit≤ tt) (lit≤ tt)
-plain_bytes c (Idle true k d) t = kept_bytes 1 k d 0 0 (lit≤ tt) (ltb→lt k 256 (and_left (ltb k 256) (leb (16 * d) (slot_bytes c - 4)) t)) (lit≤ tt)
-plain_bytes c (Idle false k d) t = kept_bytes 2 k d 0 0 (lit≤ tt) (ltb→lt k 256 (and_left (ltb k 256) (leb (16 * d) (slot_bytes c - 4)) t)) (lit≤ tt)
+plain_bytes c Fresh t = kept_bytes 0 0 0 0 (lit≤ tt) (lit≤ tt)
+plain_bytes c (Idle true k d) t = kept_bytes 1 k d 0 (lit≤ tt) (ltb→lt k 256 (and_left (ltb k 256) (leb (16 * d) (slot_bytes c - 4)) t))
+plain_bytes c (Idle false k d) t = kept_bytes 2 k d 0 (lit≤ tt) (ltb→lt k 256 (and_left (ltb k 256) (leb (16 * d) (slot_bytes c - 4)) t))
 plain_bytes c (Live a) t =
     let h : T (ltb a.count 256) = search (and_left, and_right) in
     let k : T (leb a.align 9) = search (and_left, and_right) in
-    let w : T (ltb a.queue queues) = search (and_left, and_right) in
-    kept_bytes (a.align + 2) a.count a.disp a.size a.queue (omega (arith, leb→le a.align 9 k)) (ltb→lt a.count 256 h)
-    (ltb→lt a.queue queues w)
+    kept_bytes (a.align + 2) a.count a.disp a.size (omega (arith, leb→le a.align 9 k)) (ltb→lt a.count 256 h)
 
 -- the records of slots, whatever the record
 module _ (record_of : Slot → List ℕ) (bytes : (c : ℕ) (x : Slot) → T (slot_sound c x) → Bytes (record_of x)) where

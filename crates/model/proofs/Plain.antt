@@ -10,7 +10,7 @@ use Rattle.classes.specs.Classes.{slot_bytes, slots_of}
 use Rattle.model.specs.declared.Slot.{Slot}
 use Rattle.model.specs.declared.Slot.TheVariants.{Fresh, Idle, Live}
 use Rattle.model.specs.declared.Holder.TheVariants.{First}
-use Rattle.model.specs.State.{group, count, disp, size, queue, slot_sound, span_sound}
+use Rattle.model.specs.State.{group, count, disp, size, slot_sound, span_sound}
 use Rattle.model.specs.Tables.{LayoutLaws, row_record_bytes, holder_bytes, view_holder}
 use Rattle.model.specs.Calls.{FormLaws}
 use Rattle.model.specs.Plain.{condition, plain_record, plain_row, plain_slot, plain_in, plain_slots, plain_group, slots_layout, plain_form}
@@ -57,7 +57,7 @@ disp_small_lem c Fresh t = omega arith
 disp_small_lem c (Idle r k d) t = leb→le (16 * d) (slot_bytes c - 4) (search (and_left, and_right))
 disp_small_lem c (Live a) t = omega (arith, leb→le (16 * a.disp + a.size) (slot_bytes c - 4) (search (and_left, and_right)))
 
-slot_says : (c : ℕ) (x : Slot) → T (slot_sound c x) → plain_slot (condition x) (count x) (disp x) (size x) (queue x) ≡ x
+slot_says : (c : ℕ) (x : Slot) → T (slot_sound c x) → plain_slot (condition x) (count x) (disp x) (size x) ≡ x
 unfolding plain_slot slot_sound choose
 slot_says c Fresh t = refl
 slot_says c (Idle true k d) t = refl

@@ -8,16 +8,16 @@ use lib.Seq.{split_at}
 use Rattle.mem.specs.Lists.{choose, every, any, first}
 use Rattle.mem.proofs.Tests.{and_left, and_right, and_both, every-left, every-right, every_append, choose_case, T_true, true-T}
 use Rattle.classes.specs.Classes.{slot_bytes, class_of, slots_of, rows_of, size_limit, own_class}
-use Rattle.classes.specs.Alignments.{ordinary, align_of, enlarged, round_up}
+use Rattle.classes.specs.Alignments.{ordinary, align_of, enlarged, round_up, Askable}
 use Rattle.classes.specs.Facts.{ClassFacts}
 use Rattle.classes.proofs.Alignments.{enlarged_least, enlarged_by, align-units, align_least, round_near}
 use Rattle.classes.proofs.Laws.{class_facts, slots_pos}
 use Rattle.model.specs.declared.Slot.{Slot}
 use Rattle.model.specs.declared.Slot.TheVariants.{Fresh, Idle, Live}
 use Rattle.model.specs.State.{Pool, Place, free, group, is_live, is_ready, count, size, align, slot_sound, span_sound, well_formed, pool_of}
-use Rattle.model.specs.State.{queues, queue, slot_number, rows, base, beginning, slots_aligned, aligned}
+use Rattle.model.specs.State.{slot_number, rows, base, beginning, slots_aligned, aligned}
 use Rattle.model.specs.Plans.{Site, opens, open_from, run, turn_ready, refill, displaced, grant_slot, grant_in, run_from, site_or, site, reserve_in, reserve}
-use Rattle.model.specs.Plans.{Askable, fresh_pool}
+use Rattle.model.specs.Plans.{fresh_pool}
 use Rattle.model.proofs.Tables.{group-slots}
 use Rattle.model.proofs.Rooms.{rows_append}
 use Rattle.model.proofs.Fresh.{fresh-rows}
@@ -187,16 +187,16 @@ module _ (row : ℕ) where
           }
 
 -- the slot taken: the lowest ready one after refill
-pub record Taken (row c who k n : ℕ) (s : Site) (q : Place) : Type 0 where
+pub record Taken (row c k n : ℕ) (s : Site) (q : Place) : Type 0 where
   pub old : Slot
   pub ready : T (is_ready old)
   pub slots : refill s.slots ≡ q.lower ++ (old ∷ q.upper)
   pub number : slot_number q ≡ first is_ready (refill s.slots)
-  pub state : q.state ≡ grant_slot c who k n (beginning row q) old
+  pub state : q.state ≡ grant_slot c k n (beginning row q) old
 
-pub grant-taken : (row c who k n : ℕ) (s : Site) → T (any (λ x. not (is_live x)) s.slots) → Taken row c who k n s (grant_in row c who k n s)
+pub grant-taken : (row c k n : ℕ) (s : Site) → T (any (λ x. not (is_live x)) s.slots) → Taken row c k n s (grant_in row c k n s)
 unfolding grant_in
-grant-taken row c who k n s t =
+grant-taken row c k n s t =
     let ss : List Slot = refill s.slots in
     let f : (first is_ready ss < length ss) × T (is_ready (get_or ss (first is_ready ss) Fresh)) = first_ready ss (refill_ready s.slots t) in
     record {
@@ -205,17 +205,17 @@ grant-taken row c who k n s t =
       slots = split_at ss (first is_ready ss) Fresh f.0;
       number = length-take-le (first is_ready ss) ss (omega (arith, f.0));
       state =
-          ap (λ i. grant_slot c who k n (row * rows row s.before + 16 + i * slot_bytes c) (get_or ss (first is_ready ss) Fresh))
+          ap (λ i. grant_slot c k n (row * rows row s.before + 16 + i * slot_bytes c) (get_or ss (first is_ready ss) Fresh))
           (sym (length-take-le (first is_ready ss) ss (omega (arith, f.0))));
     }
 
-pub grant-live : (c who k n b : ℕ) (x : Slot) → T (is_live (grant_slot c who k n b x))
+pub grant-live : (c k n b : ℕ) (x : Slot) → T (is_live (grant_slot c k n b x))
 unfolding grant_slot
-grant-live c who k n b x = tt
+grant-live c k n b x = tt
 
 -- an ordinary grant
-pub plain : {who n : ℕ} → who < queues → n < size_limit → Askable who ordinary n
-plain b h = record { some-queue = b; some_code = lit≤ tt; last_code = lit≤ tt; small = h }
+pub plain : {n : ℕ} → n < size_limit → Askable ordinary n
+plain h = record { some_code = lit≤ tt; last_code = lit≤ tt; small = h }
 
 -- a displacement leaves room for the size
 displaced-fits : (c k n b j : ℕ) → 1 ≤ k → enlarged k n + 4 ≤ slot_bytes c → 16 * displaced c k n b j + n ≤ slot_bytes c - 4
@@ -230,9 +230,9 @@ displaced-fits c k n b j h f =
     omega (arith, r.0, r.1, align-units k h, align_least k h, enlarged_by k n m))
 
 -- "16d + n at most s − 4, and its class is that of n": of the enlarged size
-pub grant-sound : (who k n b : ℕ) (x : Slot) → Askable who k n → T (slot_sound (class_of (enlarged k n)) (grant_slot (class_of (enlarged k n)) who k n b x))
+pub grant-sound : (k n b : ℕ) (x : Slot) → Askable k n → T (slot_sound (class_of (enlarged k n)) (grant_slot (class_of (enlarged k n)) k n b x))
 unfolding slot_sound grant_slot
-grant-sound who k n b x h =
+grant-sound k n b x h =
     let e : ℕ = enlarged k n in
     let c : ℕ = class_of e in
     let d : ℕ = displaced c k n b (count x) in
@@ -242,7 +242,6 @@ grant-sound who k n b x h =
     let t₃ : T (leb 1 k) = le→leb 1 k h.some_code in
     let t₄ : T (leb k 9) = le→leb k 9 h.last_code in
     let t₅ : T (ltb e size_limit) = lt→ltb e size_limit h.small in
-    let t₇ : T (ltb who queues) = lt→ltb who queues h.some-queue in
     let t₆ : T (own_class c e) = rw (T_true (eqb c c) (eqb_refl c)) tt in
     search and_both
 
@@ -254,7 +253,7 @@ any_here f (x ∷ xs) y ys t = or_right (f x) (any f (xs ++ (y ∷ ys))) (any_he
     or_right true b t = tt
     or_right false b t = t
 
-module _ (row : ℕ) (P : Pool) (who k n : ℕ) where
+module _ (row : ℕ) (P : Pool) (k n : ℕ) where
   -- the class that serves
   abbrev pub served_by : ℕ
   served_by = class_of (enlarged k n)
@@ -263,33 +262,33 @@ module _ (row : ℕ) (P : Pool) (who k n : ℕ) where
   pub record Served (q : Place) : Type 0 where
     pub at : Site
     pub found : site row P served_by ≡ some at
-    pub place : q ≡ grant_in row served_by who k n at
-    pub taken : Taken row served_by who k n at q
+    pub place : q ≡ grant_in row served_by k n at
+    pub taken : Taken row served_by k n at q
     pub ground : Ground row P served_by at
 
-  pub served : (q : Place) → T (well_formed P) → reserve row P who k n ≡ some q → Served q
+  pub served : (q : Place) → T (well_formed P) → reserve row P k n ≡ some q → Served q
   unfolding reserve
   served q w e = go (site row P served_by) refl e
     where
-      go : (o : Option Site) → site row P served_by ≡ o → reserve_in row served_by who k n o ≡ some q → Served q
+      go : (o : Option Site) → site row P served_by ≡ o → reserve_in row served_by k n o ≡ some q → Served q
       go none h e = let z : ◌≡◌ {A = ℕ} 0 1 = cc in absurd (omega arith)
       go (some s) h e =
-          let p : grant_in row served_by who k n s ≡ q = cc in
+          let p : grant_in row served_by k n s ≡ q = cc in
           let g : Ground row P served_by s = ground row P served_by s w h in
           record {
             at = s;
             found = h;
             place = sym p;
-            taken = subst (Taken row served_by who k n s) p (grant-taken row served_by who k n s g.room);
+            taken = subst (Taken row served_by k n s) p (grant-taken row served_by k n s g.room);
             ground = g;
           }
 
   -- a reserved slot has the size and the alignment asked for
-  pub reserve-size : (q : Place) → T (well_formed P) → reserve row P who k n ≡ some q → size q.state ≡ n
+  pub reserve-size : (q : Place) → T (well_formed P) → reserve row P k n ≡ some q → size q.state ≡ n
   unfolding grant_slot
   reserve-size q w r = ap size (served q w r).taken.state
 
-  pub reserve-align : (q : Place) → T (well_formed P) → reserve row P who k n ≡ some q → align q.state ≡ k
+  pub reserve-align : (q : Place) → T (well_formed P) → reserve row P k n ≡ some q → align q.state ≡ k
   unfolding grant_slot
   reserve-align q w r = ap align (served q w r).taken.state
 
@@ -300,13 +299,13 @@ module _ (row : ℕ) (P : Pool) (who k n : ℕ) where
     -- its blocks are on their boundaries, if they were
     pub bounds : row % 16 ≡ 0 → T (aligned row P) → T (aligned row (pool_of q))
 
-  pub reserve_formed : (q : Place) → T (well_formed P) → Askable who k n → reserve row P who k n ≡ some q → Granted q
+  pub reserve_formed : (q : Place) → T (well_formed P) → Askable k n → reserve row P k n ≡ some q → Granted q
   unfolding span_sound grant_in
   reserve_formed q w h e =
       let v : Served q = served q w e in
       let s : Site = v.at in
       let c : ℕ = served_by in
-      let took : Taken row c who k n s q = v.taken in
+      let took : Taken row c k n s q = v.taken in
       let g : Ground row P c s = v.ground in
       let b : q.before ≡ s.before = ap (λ p. p.before) v.place in
       let a : q.after ≡ s.after = ap (λ p. p.after) v.place in
@@ -325,9 +324,9 @@ module _ (row : ℕ) (P : Pool) (who k n : ℕ) where
       let t : T (every (slot_sound c) (q.lower ++ (took.old ∷ q.upper))) = rw (← took.slots) (refill-sound c s.slots g.sound) in
       let u : T (every (slot_sound c) ss) =
       every_append (slot_sound c) q.lower (q.state ∷ q.upper) (every-left (slot_sound c) q.lower (took.old ∷ q.upper) t)
-      (and_both (slot_sound c q.state) (every (slot_sound c) q.upper) (rw took.state (grant-sound who k n (beginning row q) took.old h))
+      (and_both (slot_sound c q.state) (every (slot_sound c) q.upper) (rw took.state (grant-sound k n (beginning row q) took.old h))
       (and_right (slot_sound c took.old) (every (slot_sound c) q.upper) (every-right (slot_sound c) q.lower (took.old ∷ q.upper) t))) in
-      let m : T (any is_live ss) = any_here is_live q.lower q.state q.upper (rw took.state (grant-live c who k n (beginning row q) took.old)) in
+      let m : T (any is_live ss) = any_here is_live q.lower q.state q.upper (rw took.state (grant-live c k n (beginning row q) took.old)) in
       let z : T (span_sound (group c ss)) =
       and_both (ltb c 48 && eqb (length ss) (slots_of c) && any is_live ss) (every (slot_sound c) ss)
       (and_both (ltb c 48 && eqb (length ss) (slots_of c)) (any is_live ss)
@@ -362,7 +361,7 @@ module _ (row : ℕ) (P : Pool) (who k n : ℕ) where
                 after = b;
               }
 
-      on_boundaries : (q : Place) (v : Served q) → Askable who k n → row % 16 ≡ 0 → T (aligned row P)
+      on_boundaries : (q : Place) (v : Served q) → Askable k n → row % 16 ≡ 0 → T (aligned row P)
           → T (aligned row (v.at.before ++ (group served_by (q.lower ++ (q.state ∷ q.upper)) ∷ v.at.after)))
       on_boundaries q v h u t =
           let s : Site = v.at in
@@ -375,7 +374,7 @@ module _ (row : ℕ) (P : Pool) (who k n : ℕ) where
           subst (λ l. T (slots_aligned c (row * rows row s.before + 16) l)) v.taken.slots
           (refilled row c (row * rows row s.before + 16) s.slots z.slots) in
           let x : T (slots_aligned q.cls (base row q + 16) (q.lower ++ (q.state ∷ q.upper))) =
-          granted-aligned row q v.taken.old who k n u h.some_code (v.taken.state ∙ ap (λ i. grant_slot i who k n (beginning row q) v.taken.old) (sym j))
+          granted-aligned row q v.taken.old k n u h.some_code (v.taken.state ∙ ap (λ i. grant_slot i k n (beginning row q) v.taken.old) (sym j))
           (rw (j, e) r) in
           whole row s.before c (q.lower ++ (q.state ∷ q.upper)) s.after
           (record { before = z.before; slots = rw (← e, ← j) x; after = z.after })

@@ -126,7 +126,7 @@ only m (l ∷ []) h R e = let z : ◌≡◌ {A = ℕ} 0 1 = cc in absurd (omega 
 only m (l ∷ k ∷ L) h R e = let z : ◌≡◌ {A = ℕ} 0 1 = cc in absurd (omega arith)
 
 -- in the group that serves, one slot becomes live
-module _ (row : ℕ) (c who j n : ℕ) (s : Site) (q : Place) (k : Taken row c who j n s q) where
+module _ (row : ℕ) (c j n : ℕ) (s : Site) (q : Place) (k : Taken row c j n s q) where
   -- the slot that is taken
   taken_goes : (x : Slot) → Kept x k.old → Goes x q.state
   unfolding grant_slot
@@ -180,7 +180,7 @@ GoesIn row Q p = (p' : Place) × (pool_of p' ≡ Q) × SameSlot row p p' × Goes
 stays_goes : (row : ℕ) (Q : Pool) (p : Place) → (p' : Place) × (pool_of p' ≡ Q) × Stays row p p' → GoesIn row Q p
 stays_goes row Q p (p', a, s) = (p', a, s.slot, inl (subst (Kept p.state) (sym s.state) (as_was p.state)))
 
-module _ (row : ℕ) (P : Pool) (who j n : ℕ) (q : Place) (w : T (well_formed P)) (r : reserve row P who j n ≡ some q) where
+module _ (row : ℕ) (P : Pool) (j n : ℕ) (q : Place) (w : T (well_formed P)) (r : reserve row P j n ≡ some q) where
   -- a slot of the pool in the pool that a grant makes
   pub reserve_goes : (p : Place) → pool_of p ≡ P → GoesIn row (pool_of q) p
   unfolding grant_in
@@ -189,8 +189,8 @@ module _ (row : ℕ) (P : Pool) (who j n : ℕ) (q : Place) (w : T (well_formed 
       c : ℕ
       c = class_of (enlarged j n)
 
-      v : Served row P who j n q
-      v = served row P who j n q w r
+      v : Served row P j n q
+      v = served row P j n q w r
 
       s : Site
       s = v.at
@@ -211,7 +211,7 @@ module _ (row : ℕ) (P : Pool) (who j n : ℕ) (q : Place) (w : T (well_formed 
       elsewhere : (p' : Place) × (pool_of p' ≡ s.before ++ (g ∷ s.after)) × Stays row p p' → GoesIn row (pool_of q) p
       elsewhere x = onto (stays_goes row (s.before ++ (g ∷ s.after)) p x)
 
-      beside : p.before ≡ s.before → p.cls ≡ c → GoesBeside row c who j n s q v.taken p.lower p.state
+      beside : p.before ≡ s.before → p.cls ≡ c → GoesBeside row c j n s q v.taken p.lower p.state
           → GoesIn row (s.before ++ (g ∷ s.after)) p
       beside f i (ls, y, hs, a, b, h) = (
         placed s.before c ls y hs s.after,
@@ -227,7 +227,7 @@ module _ (row : ℕ) (P : Pool) (who j n : ℕ) (q : Place) (w : T (well_formed 
           let i : c ≡ p.cls = cc in
           let l : s.slots ≡ p.lower ++ (p.state ∷ p.upper) = cc in
           let f : p.before ≡ s.before = b ∙ ap (λ z. s.before ++ z) u.0 ∙ append-nil s.before in
-          beside f (sym i) (goes_beside row c who j n s q v.taken p.lower p.state p.upper l)
+          beside f (sym i) (goes_beside row c j n s q v.taken p.lower p.state p.upper l)
 
       opened : Open P c s → GoesIn row (pool_of q) p
       opened o =
@@ -251,7 +251,7 @@ module _ (row : ℕ) (P : Pool) (who j n : ℕ) (q : Place) (w : T (well_formed 
       let (p', a, s, h) = reserve_goes p e in
       (p', a, record { slot = s; state = ⊎_elim (λ k. k.same t) (λ k. absurd (subst T k.idle t)) h })
 
-module _ (row : ℕ) (pos : 0 < row) (P : Pool) (who j n : ℕ) (q : Place) (w : T (well_formed P)) (r : reserve row P who j n ≡ some q) where
+module _ (row : ℕ) (pos : 0 < row) (P : Pool) (j n : ℕ) (q : Place) (w : T (well_formed P)) (r : reserve row P j n ≡ some q) where
   -- the slot that a grant takes is no live block's
   pub reserve_other : (p : Place) → pool_of p ≡ P → T (is_live p.state) → SameSlot row p q → ⊥
   unfolding grant_in
@@ -260,8 +260,8 @@ module _ (row : ℕ) (pos : 0 < row) (P : Pool) (who j n : ℕ) (q : Place) (w :
       c : ℕ
       c = class_of (enlarged j n)
 
-      v : Served row P who j n q
-      v = served row P who j n q w r
+      v : Served row P j n q
+      v = served row P j n q w r
 
       s : Site
       s = v.at

@@ -113,7 +113,7 @@ view_slot_lem c (Idle false k d) t = ap (Idle false k) (number-low 2 d (disp_fit
 view_slot_lem c (Live a) t =
     let t₁ : T (leb (16 * a.disp + a.size) (slot_bytes c - 4)) = search (and_left, and_right) in
     let h : 16 * a.disp ≤ slot_bytes c - 4 = omega (arith, leb→le (16 * a.disp + a.size) (slot_bytes c - 4) t₁) in
-    ap₂ {C = Slot} (λ d n. Live (record { count = a.count; disp = d; size = n; align = a.align; queue = a.queue })) (number-low 2 a.disp (disp_fits c a.disp h))
+    ap₂ {C = Slot} (λ d n. Live (record { count = a.count; disp = d; size = n; align = a.align })) (number-low 2 a.disp (disp_fits c a.disp h))
     (number-low 3 a.size (omega (arith, size_small c (Live a) t)))
 
 view_slots_lem : (c : ℕ) (ss : List Slot) (rest : List ℕ) → T (every (slot_sound c) ss)

@@ -1,13 +1,11 @@
 -- What the calls give back: the numbers of documents 01 and 02, and the number and values of each answer.
-use Rattle.std.specs.Prelude.{ℕ, List, [], ◌∷◌, length, replicate}
+use Rattle.std.specs.Prelude.{ℕ, List, [], ◌∷◌, length}
 use Rattle.model.specs.declared.Refusal.{Refusal}
 use Rattle.model.specs.declared.Refusal.TheVariants.{BadArena, Unsound, TooLarge, NoSuchBlock, AlreadyFree, Stale, HeaderDamaged, Overrun, NoRoom}
-use Rattle.model.specs.declared.Refusal.TheVariants.{NotInPlace, TooLong, BadProposal, BadAlignment, WrongQueue}
+use Rattle.model.specs.declared.Refusal.TheVariants.{NotInPlace, TooLong, BadProposal, BadAlignment}
 use Rattle.model.specs.declared.Reply.{Reply}
 use Rattle.model.specs.declared.Report.{Report}
 use Rattle.model.specs.declared.Totals.{Totals}
-use Rattle.model.specs.declared.QueueTotals.{QueueTotals}
-use Rattle.model.specs.declared.QueueReport.{QueueReport}
 
 -- a number of the table, the values that go with it, and what the call writes to the front of a list that it is lent
 pub record Answer : Type 0 where
@@ -34,8 +32,6 @@ number_of BadAlignment = 13
 number_of Stale = 10
 -- 02 §9
 number_of NotInPlace = 11
--- 02 §10
-number_of WrongQueue = 12
 
 abbrev pub done : List ℕ → Answer
 done vs = record { number = 0; values = vs; lent = [] }
@@ -44,13 +40,12 @@ done vs = record { number = 0; values = vs; lent = [] }
 abbrev pub list_done : List ℕ → Answer
 list_done ls = record { number = 0; values = length ls ∷ []; lent = ls }
 
--- "With a refusal the value is 0 (from report, six zeros)"; 02 §10: from a queue's report "two zeros". Of a call that gives so many values, and of
--- one that gives one
-abbrev pub refusal_of : ℕ → Refusal → Answer
-refusal_of k r = record { number = number_of r; values = replicate k 0; lent = [] }
-
+-- "With a refusal the value is 0 (from report, six zeros)"
 abbrev pub refusal : Refusal → Answer
 refusal r = record { number = number_of r; values = 0 ∷ []; lent = [] }
+
+abbrev pub report_refusal : Refusal → Answer
+report_refusal r = record { number = number_of r; values = 0 ∷ 0 ∷ 0 ∷ 0 ∷ 0 ∷ 0 ∷ []; lent = [] }
 
 -- "Report gives, in this order: live blocks, their requested bytes, rows held, rows free, ready slots, waiting slots"
 abbrev pub listed : Totals → List ℕ
@@ -63,12 +58,4 @@ reply_answer (Reply.Refused r) = refusal r
 
 abbrev pub report_answer : Report → Answer
 report_answer (Report.Counted t) = done (listed t)
-report_answer (Report.Refused r) = refusal_of 6 r
-
--- 02 §10: "A report per queue takes its number and gives the live blocks that record it and their requested bytes"
-abbrev pub queue_listed : QueueTotals → List ℕ
-queue_listed t = t.blocks ∷ t.bytes ∷ []
-
-abbrev pub queue_answer : QueueReport → Answer
-queue_answer (QueueReport.Counted t) = done (queue_listed t)
-queue_answer (QueueReport.Refused r) = refusal_of 2 r
+report_answer (Report.Refused r) = report_refusal r

@@ -6,7 +6,7 @@ use Rattle.mem.specs.Bytes.{zeros, bit, same, part, put}
 use Rattle.classes.specs.Classes.{row_bytes, slots_of, rows_of, class_of}
 use Rattle.model.specs.declared.Slot.{Slot}
 use Rattle.model.specs.declared.Slot.TheVariants.{Fresh, Idle, Live}
-use Rattle.model.specs.Plans.{Request, reports_queue, Call, sets_up, reports, queued}
+use Rattle.model.specs.Plans.{Call, sets_up, grants, grants_aligned, releases, resizes_in_place, moves, measures, reports, grants_list}
 use Rattle.model.specs.Proposals.{accepts, planned}
 use Rattle.model.specs.Tables.{room_bytes, room_for, slot_record}
 use Rattle.model.specs.declared.Totals.{Totals}
@@ -39,28 +39,6 @@ pub data Entry : Type 0 where
   groups : (c slots rows : ℕ) → Entry
   checks : (total cap : ℕ) (sizes : List ℕ) (accepted : ℕ) → Entry
   plans : (total cap number : ℕ) (sizes : List ℕ) → Entry
-
--- 02 §10: "The W rows name queue 0."
-abbrev pub grants : (n : ℕ) → Call
-grants n = queued 0 (Request.grants n)
-
-abbrev pub grants_aligned : (n align : ℕ) → Call
-grants_aligned n a = queued 0 (Request.grants_aligned n a)
-
-abbrev pub releases : (handle : ℕ) → Call
-releases h = queued 0 (Request.releases h)
-
-abbrev pub resizes_in_place : (handle n : ℕ) → Call
-resizes_in_place h n = queued 0 (Request.resizes_in_place h n)
-
-abbrev pub moves : (handle n : ℕ) → Call
-moves h n = queued 0 (Request.moves h n)
-
-abbrev pub measures : (handle : ℕ) → Call
-measures h = queued 0 (Request.measures h)
-
-abbrev pub grants_list : (total cap places : ℕ) → List ℕ → Call
-grants_list total cap places sizes = queued 0 (Request.grants_list total cap places sizes)
 
 -- a call that gives one value, and one that is refused
 abbrev pub gives : Call → ℕ → Line
@@ -296,62 +274,13 @@ sheet_handles =
     ++ (gives (measures 16) 2028 ∷ gives (releases 16) 0 ∷ [])))
     ∷ []
 
--- what 02 §10 adds
-unfoldable pub sheet_queues : List Entry
-sheet_queues =
-    -- "the block's record keeps the granting" queue: "byte 7 of a live slot's record"; a queue's report counts its own blocks. "Answer 12, wrong queue ..
-    -- for a live start with the right handle, if release, measure, in place or move names another queue"; "A move keeps it; release forgets it"
-    fresh 4096 (gives (queued 3 (Request.grants 980)) 16 ∷ gives (queued 7 (Request.grants 981)) 1024 ∷ gives (grants 982) 2032
-    ∷ tables 32 (bytes8 1 1 0 0 212 3 0 3) ∷ tables 40 (bytes8 1 1 0 0 213 3 0 7) ∷ tables 48 (bytes8 1 1 0 0 214 3 0 0)
-    ∷ asks (queued 3 reports_queue) 0 (1 ∷ 980 ∷ []) ∷ asks (queued 7 reports_queue) 0 (1 ∷ 981 ∷ []) ∷ asks (queued 0 reports_queue) 0 (1 ∷ 982 ∷ [])
-    ∷ asks (queued 1 reports_queue) 0 (0 ∷ 0 ∷ []) ∷ asks reports 0 (3 ∷ 2943 ∷ 8 ∷ 0 ∷ 1 ∷ 0 ∷ [])
-    ∷ leaves (queued 7 (Request.releases 16)) 12 ∷ leaves (measures 16) 12 ∷ leaves (resizes_in_place 16 981) 12 ∷ leaves (moves 16 980) 12
-    ∷ gives (queued 3 (Request.measures 16)) 980 ∷ gives (queued 3 (Request.resizes_in_place 16 981)) 16 ∷ tables 32 (bytes8 1 1 0 0 213 3 0 3)
-    ∷ gives (queued 3 (Request.moves 16 982)) 3040 ∷ tables 32 (bytes8 1 1 0 0 0 0 0 0) ∷ tables 56 (bytes8 1 1 0 0 214 3 0 3)
-    ∷ asks (queued 3 reports_queue) 0 (1 ∷ 982 ∷ []) ∷ gives (queued 3 (Request.releases 3040)) 0 ∷ tables 56 (bytes8 1 1 0 0 0 0 0 0)
-    ∷ asks (queued 3 reports_queue) 0 (0 ∷ 0 ∷ []) ∷ gives (queued 6 (Request.grants 980)) 33 ∷ tables 32 (bytes8 1 2 1 0 212 3 0 6) ∷ [])
-    -- "exactly if the number exceeds 7 (right after 2, before 3, 4, 9 and 13, in every call that takes one)": 7 is the last
-    ∷ fresh 512 (leaves (queued 8 (Request.grants 131052)) 12 ∷ leaves (queued 8 (Request.grants 0)) 12 ∷ leaves (queued 256 (Request.grants 0)) 12
-    ∷ leaves (queued 8 (Request.grants_aligned 131052 3)) 12 ∷ leaves (queued 8 (Request.grants_list 18 1 16 (ones 17))) 12
-    ∷ leaves (queued 8 (Request.releases 16)) 12 ∷ leaves (queued 8 (Request.measures 16)) 12 ∷ leaves (queued 8 (Request.resizes_in_place 16 131052)) 12
-    ∷ leaves (queued 8 (Request.moves 16 131052)) 12 ∷ asks (queued 8 reports_queue) 12 (0 ∷ 0 ∷ []) ∷ leaves (queued 7 (Request.grants 131052)) 3
-    ∷ leaves (queued 7 (Request.grants_aligned 131052 3)) 13 ∷ leaves (queued 7 (Request.grants_list 18 1 16 (ones 17))) 9
-    ∷ leaves (queued 7 (Request.releases 16)) 4 ∷ asks (queued 7 reports_queue) 0 (0 ∷ 0 ∷ []) ∷ gives (queued 7 (Request.grants 12)) 16
-    ∷ leaves (queued 8 (Request.releases 16)) 12 ∷ leaves (queued 8 (Request.resizes_in_place 16 131052)) 12 ∷ leaves (queued 15 (Request.measures 16)) 12
-    ∷ spoils 1 2 ∷ leaves (queued 8 (Request.grants 0)) 2 ∷ leaves (queued 8 (Request.grants_aligned 0 3)) 2
-    ∷ leaves (queued 8 (Request.grants_list 18 1 16 (ones 17))) 2 ∷ leaves (queued 8 (Request.releases 16)) 2 ∷ leaves (queued 8 (Request.measures 16)) 2
-    ∷ leaves (queued 8 (Request.resizes_in_place 16 1)) 2 ∷ leaves (queued 8 (Request.moves 16 1)) 2 ∷ asks (queued 8 reports_queue) 2 (0 ∷ 0 ∷ []) ∷ [])
-    -- "(after 10, before 6)": by another queue 3, 4 and 5 come first, and its stale handle is 10; then 12, whatever the bytes and the size are
-    ∷ fresh 4096 (gives (queued 3 (Request.grants 2028)) 16 ∷ gives (queued 3 (Request.grants 2028)) 2048 ∷ leaves (resizes_in_place 16 131052) 3
-    ∷ leaves (moves 16 131052) 3 ∷ leaves (releases 32) 4 ∷ leaves (measures 32) 4 ∷ leaves (resizes_in_place 32 1) 4 ∷ leaves (moves 32 1) 4
-    ∷ leaves (releases 17) 10 ∷ leaves (measures 17) 10 ∷ leaves (resizes_in_place 17 1) 10 ∷ leaves (moves 17 1) 10
-    ∷ leaves (resizes_in_place 16 1) 12 ∷ leaves (moves 16 5000) 12 ∷ leaves (queued 3 (Request.resizes_in_place 16 1)) 11
-    ∷ leaves (queued 3 (Request.moves 16 5000)) 8 ∷ stores 13 7 ∷ leaves (releases 16) 12 ∷ leaves (measures 16) 12 ∷ leaves (resizes_in_place 16 2028) 12
-    ∷ leaves (moves 16 2028) 12 ∷ leaves (queued 3 (Request.releases 16)) 6 ∷ leaves (queued 3 (Request.measures 16)) 6
-    ∷ leaves (queued 3 (Request.resizes_in_place 16 2028)) 6 ∷ leaves (queued 3 (Request.moves 16 2028)) 6
-    ∷ gives (queued 3 (Request.releases 2048)) 0 ∷ leaves (releases 2048) 5 ∷ leaves (measures 2048) 5 ∷ leaves (resizes_in_place 2048 1) 5
-    ∷ leaves (moves 2048 1) 5 ∷ [])
-    ∷ fresh 4096 (gives (queued 3 (Request.grants 160)) 16 ∷ stores 176 1 ∷ leaves (releases 16) 12 ∷ leaves (queued 3 (Request.releases 16)) 7 ∷ [])
-    -- "A list's entries all record the list's queue"
-    ∷ fresh 4096 (lists (queued 5 (Request.grants_list 44 30 20 (1 ∷ 13 ∷ 30 ∷ []))) 3 (replicate 20 7) (16 ∷ 528 ∷ 1552 ∷ replicate 17 7)
-    ∷ tables 39 (5 ∷ []) ∷ tables 303 (5 ∷ []) ∷ tables 831 (5 ∷ []) ∷ asks (queued 5 reports_queue) 0 (3 ∷ 44 ∷ [])
-    ∷ gives (queued 5 (Request.measures 528)) 13 ∷ leaves (measures 528) 12 ∷ [])
-    -- an aligned grant's too, with its alignment
-    ∷ fresh 1536 (gives (queued 4 (Request.grants_aligned 1 32)) 32 ∷ tables 32 (bytes8 2 1 1 0 1 0 0 4) ∷ [])
-    -- "soundness demands it in range", "zero otherwise": of a live slot, one that waits, and one that was never granted
-    ∷ fresh 4096 (gives (grants 980) 16 ∷ gives (grants 980) 1024 ∷ gives (releases 1024) 0 ∷ spoils 39 7 ∷ leaves (measures 16) 12
-    ∷ gives (queued 7 (Request.measures 16)) 980 ∷ spoils 39 8 ∷ leaves (measures 16) 2 ∷ leaves (queued 7 (Request.measures 16)) 2 ∷ spoils 39 255
-    ∷ leaves (measures 16) 2 ∷ spoils 39 0 ∷ spoils 47 1 ∷ leaves (measures 16) 2 ∷ spoils 47 0 ∷ gives (measures 16) 980 ∷ spoils 55 1
-    ∷ leaves (measures 16) 2 ∷ [])
-    ∷ []
-
 -- the tables: their bytes (docs/TABLES.md), the rules of soundness, each broken alone, and what set up takes
 unfoldable pub sheet_sound : List Entry
 sheet_sound =
     -- a slot's record: 0 or the alignment's code, use count, displacement in two bytes, requested size in three, 0
     keeps Fresh (zeros 8) ∷ keeps (Idle true 5 258) (bytes8 1 5 2 1 0 0 0 0) ∷ keeps (Idle false 5 258) (bytes8 1 5 2 1 0 0 0 0)
-    ∷ keeps (Live (record { count = 7; disp = 258; size = 66051; align = 1; queue = 0 })) (bytes8 1 7 2 1 3 2 1 0)
-    ∷ keeps (Live (record { count = 0; disp = 0; size = 0; align = 9; queue = 7 })) (bytes8 9 0 0 0 0 0 0 7)
+    ∷ keeps (Live (record { count = 7; disp = 258; size = 66051; align = 1 })) (bytes8 1 7 2 1 3 2 1 0)
+    ∷ keeps (Live (record { count = 0; disp = 0; size = 0; align = 9 })) (bytes8 9 0 0 0 0 0 0 0)
     -- "its use count modulo 256", "255 becoming 0"
     ∷ fresh 4096 (gives (grants 2028) 16 ∷ gives (grants 2028) 2048 ∷ gives (releases 16) 0 ∷ spoils 33 127 ∷ gives (grants 2028) 31
     ∷ tables 33 (128 ∷ []) ∷ gives (releases 31) 0 ∷ spoils 33 255 ∷ gives (grants 2028) 31 ∷ tables 33 (0 ∷ []) ∷ gives (measures 31) 2028 ∷ [])
@@ -394,11 +323,6 @@ sheet_short =
     ∷ gives (releases 32) 0 ∷ shows 40 (bytes4 0 0 0 0) ∷ gives (grants 0) 48 ∷ gives (resizes_in_place 48 12) 48 ∷ shows 56 (bytes4 0 0 0 0)
     ∷ stores 16 7 ∷ gives (resizes_in_place 16 1) 16 ∷ shows 16 (7 ∷ [])
     ∷ lists (grants_list 1 1 17 (1 ∷ [])) 1 (replicate 17 7) (64 ∷ replicate 16 7) ∷ stores 13 1 ∷ leaves (measures 17) 10 ∷ [])
-    -- queues: no such one, another's block, its handle and its size, what the tables say, a move, a release, a report
-    ∷ fresh 512 (leaves (queued 8 (Request.grants 131052)) 12 ∷ gives (queued 3 (Request.grants 0)) 16 ∷ tables 39 (3 ∷ [])
-    ∷ leaves (resizes_in_place 17 131052) 3 ∷ leaves (measures 17) 10 ∷ leaves (measures 16) 12 ∷ gives (queued 3 (Request.moves 16 1)) 32 ∷ tables 47 (3 ∷ [])
-    ∷ tables 39 (0 ∷ []) ∷ asks (queued 3 reports_queue) 0 (1 ∷ 1 ∷ []) ∷ asks (queued 2 reports_queue) 0 (0 ∷ 0 ∷ []) ∷ spoils 47 8 ∷ leaves (measures 32) 2
-    ∷ spoils 47 3 ∷ spoils 39 1 ∷ leaves (queued 3 (Request.measures 32)) 2 ∷ [])
     -- one spare byte; no live slot in a group
     ∷ fresh 512 (gives (grants 11) 16 ∷ shows 12 (bytes4 0 32 0 0) ∷ [])
     ∷ fresh 512 (gives (grants 0) 16 ∷ spoils 28 1 ∷ writes (six 0 0 1 0 30 1) ∷ leaves (grants 0) 2 ∷ [])
@@ -419,8 +343,8 @@ sheet_short =
     ∷ []
 
 unfoldable pub sheet : List Entry
-unfolding sheet01 sheet_aligned sheet_handles sheet_queues sheet_sound
-sheet = sheet01 ++ (sheet_aligned ++ (sheet_handles ++ (sheet_queues ++ sheet_sound)))
+unfolding sheet01 sheet_aligned sheet_handles sheet_sound
+sheet = sheet01 ++ (sheet_aligned ++ (sheet_handles ++ sheet_sound))
 
 -- the lines that are so, over an arena, a table room and the record
 unfoldable pub passes : List ℕ → KeptBytes → List Line → Bool

@@ -1,5 +1,5 @@
 -- The calls over an arena and what is lent for the tables, whatever form they have; and those of the first engine.
-use Rattle.std.specs.Prelude.{ℕ, ◌*◌, ◌/◌, ◌≡◌, Bool, ◌&&◌, List, [], ◌∷◌, T, eqb, length}
+use Rattle.std.specs.Prelude.{ℕ, ◌*◌, ◌/◌, ◌≡◌, Bool, ◌&&◌, List, [], ◌∷◌, T, eqb, length, replicate}
 use Rattle.std.proofs.Math.Option.{Option, none, some}
 use Rattle.mem.specs.Lists.{choose}
 use Rattle.mem.specs.Bytes.{zeros, same, part, put}
@@ -10,7 +10,7 @@ use Rattle.model.specs.declared.Damage.TheVariants.{Intact, Damaged}
 use Rattle.model.specs.declared.Totals.{Totals}
 use Rattle.model.specs.State.{Pool, Place, well_formed, aligned, rows}
 use Rattle.model.specs.Blocks.{damage}
-use Rattle.model.specs.Answers.{Answer, done, refusal_of, refusal, listed}
+use Rattle.model.specs.Answers.{Answer, number_of, done, refusal, listed}
 use Rattle.model.specs.Plans.{Plan, Write, writes, copies, Call, is_set_up, values_of, plan, fresh_pool, totals}
 use Rattle.model.specs.Tables.{Layout, masks_layout, encode_by, view_by, sound_by, arena_right, room_bytes}
 
@@ -70,7 +70,7 @@ applied F a p = record { answer = p.answer; arena = written a p.changes; kept = 
 
 -- "unsound: arena or table room length wrong, or a soundness rule is broken". "With a refusal the value is 0 (from report, six zeros)"
 abbrev pub unsound : Call → Answer
-unsound c = refusal_of (values_of c) Unsound
+unsound c = record { number = number_of Unsound; values = replicate (values_of c) 0; lent = [] }
 
 -- what is done with a block that is intact, or else with the reason
 unfoldable pub unless : {A : Type 0} → Damage → A → (Refusal → A) → A

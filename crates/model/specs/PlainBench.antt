@@ -5,10 +5,10 @@ use Rattle.mem.specs.Bytes.{zeros, same, part}
 use Rattle.classes.specs.Classes.{row_bytes}
 use Rattle.model.specs.declared.Slot.{Slot}
 use Rattle.model.specs.declared.Slot.TheVariants.{Fresh, Idle, Live}
-use Rattle.model.specs.Plans.{Call, sets_up, reports}
+use Rattle.model.specs.Plans.{Call, sets_up, grants, grants_aligned, releases, resizes_in_place, moves, measures, reports, grants_list}
 use Rattle.model.specs.Tables.{room_bytes}
 use Rattle.model.specs.Plain.{plain_record, plain_call}
-use Rattle.model.specs.Bench.{grants, grants_aligned, releases, resizes_in_place, moves, measures, grants_list, bytes8}
+use Rattle.model.specs.Bench.{bytes8}
 
 -- a line: a call with the number and values due; a call that is refused and leaves every byte of arena and room; bytes due in the room from a
 -- place on, or a store into it
@@ -28,10 +28,10 @@ gives c v = asks c 0 (v ∷ [])
 
 unfoldable pub plain_sheet : List PlainEntry
 plain_sheet =
-    -- condition, use count, displacement in two bytes, requested size in three, queue
+    -- condition, use count, displacement in two bytes, requested size in three, 0
     keeps Fresh (zeros 8) ∷ keeps (Idle true 5 258) (bytes8 1 5 2 1 0 0 0 0) ∷ keeps (Idle false 5 258) (bytes8 2 5 2 1 0 0 0 0)
-    ∷ keeps (Live (record { count = 7; disp = 258; size = 66051; align = 1; queue = 5 })) (bytes8 3 7 2 1 3 2 1 5)
-    ∷ keeps (Live (record { count = 0; disp = 0; size = 0; align = 9; queue = 7 })) (bytes8 11 0 0 0 0 0 0 7)
+    ∷ keeps (Live (record { count = 7; disp = 258; size = 66051; align = 1 })) (bytes8 3 7 2 1 3 2 1 0)
+    ∷ keeps (Live (record { count = 0; disp = 0; size = 0; align = 9 })) (bytes8 11 0 0 0 0 0 0 0)
     -- a fresh room; a group of class 19 with its four slots live, then two of them waiting, then ready again, the lower of them granted; its later rows
     ∷ fresh 4096 (shows 0 (0 ∷ 16 ∷ zeros 278) ∷ gives (grants 1000) 16 ∷ gives (grants 1000) 1024 ∷ gives (grants 1000) 2032
     ∷ shows 16 (1 ∷ 19 ∷ zeros 14) ∷ shows 32 (bytes8 3 1 0 0 232 3 0 0) ∷ shows 56 (zeros 8) ∷ gives (grants 1000) 3040
@@ -59,7 +59,7 @@ plain_sheet =
 unfoldable pub plain_short : List PlainEntry
 plain_short =
     keeps (Idle true 5 258) (bytes8 1 5 2 1 0 0 0 0) ∷ keeps (Idle false 5 258) (bytes8 2 5 2 1 0 0 0 0)
-    ∷ keeps (Live (record { count = 7; disp = 258; size = 66051; align = 1; queue = 5 })) (bytes8 3 7 2 1 3 2 1 5) ∷ []
+    ∷ keeps (Live (record { count = 7; disp = 258; size = 66051; align = 1 })) (bytes8 3 7 2 1 3 2 1 0) ∷ []
 
 -- the lines that are so, over an arena and a table room
 unfoldable pub plain_passes : List ℕ → List ℕ → List PlainLine → Bool

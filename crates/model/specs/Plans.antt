@@ -1,5 +1,5 @@
 -- The calls on the pool's state alone: what each answers, the state after it, and what it writes to the arena. No byte is read.
-use Rattle.std.specs.Prelude.{ℕ, zero, suc, ◌+◌, ◌*◌, ◌-◌, ◌/◌, ◌%◌, ◌≤◌, ◌<◌, min, ◌≡◌, Bool, true, false, ◌&&◌, not, T, ltb, get_or, replicate}
+use Rattle.std.specs.Prelude.{ℕ, zero, suc, ◌+◌, ◌*◌, ◌-◌, ◌/◌, ◌%◌, min, ◌≡◌, Bool, true, false, ◌&&◌, not, T, ltb, get_or, replicate}
 use Rattle.std.proofs.Math.Option.{Option, none, some}
 use mathlib.Core.List.{List, [], ◌∷◌, ◌++◌, map}
 use Rattle.std.proofs.Math.Dec.{leb, eqb}
@@ -12,13 +12,11 @@ use Rattle.model.specs.declared.Slot.{Slot}
 use Rattle.model.specs.declared.Slot.TheVariants.{Fresh, Idle, Live}
 use Rattle.model.specs.declared.Refusal.{Refusal}
 use Rattle.model.specs.declared.Refusal.TheVariants.{TooLarge, NoSuchBlock, AlreadyFree, Stale, NoRoom, NotInPlace, TooLong, BadProposal, BadAlignment}
-use Rattle.model.specs.declared.Refusal.TheVariants.{WrongQueue}
 use Rattle.model.specs.declared.Totals.{Totals}
-use Rattle.model.specs.declared.QueueTotals.{QueueTotals}
-use Rattle.model.specs.State.{Span, Pool, Place, free, group, is_live, is_ready, is_waiting, count, disp, size, align, queues, queue, use_bits}
-use Rattle.model.specs.State.{resized, start_of, pool_of, become, slot_number, places, rows, base, owned, start, handle}
+use Rattle.model.specs.State.{Span, Pool, Place, free, group, is_live, is_ready, is_waiting, count, disp, size, align, use_bits}
+use Rattle.model.specs.State.{start_of, pool_of, become, slot_number, places, rows, base, owned, start, handle}
 use Rattle.model.specs.Blocks.{reserved, header, spare, frame}
-use Rattle.model.specs.Answers.{Answer, done, list_done, refusal_of, refusal, listed, queue_listed}
+use Rattle.model.specs.Answers.{Answer, done, list_done, refusal, listed}
 use Rattle.model.specs.Proposals.{entries, accepts, plannable}
 
 -- bytes written from a place on, or some bytes copied from one place to another
@@ -42,13 +40,6 @@ abbrev pub refused_on : Refusal → Pool → Place → Plan
 refused_on r P p = record { checks = some p; answer = refusal r; pool = P; changes = [] }
 
 -- GRANT
-
--- a queue, an alignment and a size for which a grant is not refused with answer 12, 13 or 3
-pub record Askable (who code n : ℕ) : Type 0 where
-  pub some-queue : who < queues
-  pub some_code : 1 ≤ code
-  pub last_code : code ≤ 9
-  pub small : enlarged code n < size_limit
 
 -- a group of class c, the slots it has, and what lies before and after it
 pub record Site : Type 0 where
@@ -94,11 +85,10 @@ refill ss = let m = map turn_ready ss in choose (any is_ready ss) ss m
 unfoldable pub displaced : (c code n b uses : ℕ) → ℕ
 displaced c k n b j = choose (leb k ordinary) (j % suc ((slot_bytes c - 4 - n) / 16)) ((round_up (align_of k) b - b) / 16)
 
--- "then the count goes up by one, 255 becoming 0." 02 §10: "the block's record keeps the granting" queue
-unfoldable pub grant_slot : (c who code n b : ℕ) → Slot → Slot
+-- "then the count goes up by one, 255 becoming 0."
+unfoldable pub grant_slot : (c code n b : ℕ) → Slot → Slot
 unfolding displaced
-grant_slot c who k n b x =
-    Live (record { count = (count x + 1) % 256; disp = displaced c k n b (count x); size = n; align = k; queue = who })
+grant_slot c k n b x = Live (record { count = (count x + 1) % 256; disp = displaced c k n b (count x); size = n; align = k })
 
 -- the first site, or else the second
 abbrev pub site_or : Option Site → Option Site → Option Site
@@ -133,10 +123,6 @@ on_block P f (some p) = let l = f p in choose (is_live p.state) l (refused Alrea
 abbrev pub by_handle : Pool → (handle : ℕ) → (Place → Plan) → Place → Plan
 by_handle P h f p = let l = f p in choose (eqb (h % 16) (use_bits (count p.state))) l (refused Stale P)
 
--- 02 §10: wrong queue "for a live start with the right handle, if release, measure, in place or move names another queue (after 10, before 6)"
-abbrev pub by_queue : Pool → (who : ℕ) → (Place → Plan) → Place → Plan
-by_queue P who f p = let l = f p in choose (eqb (queue p.state) who) l (refused WrongQueue P)
-
 -- "In place if n is at most s − 4 − 16d and the block's class is at most one above n's class". 02 §6: "if n itself fits as in 01 and the
 -- block's class is that of the enlarged size or the next one up"; of an ordinary block, whose n fits, that is the same
 unfoldable pub fits_in_place : Place → ℕ → Bool
@@ -155,10 +141,6 @@ slot_sum f (group c ss) = sum f ss
 abbrev pub free_row : Span → ℕ
 free_row free = 1
 free_row (group c ss) = 0
-
--- a live slot whose block is of a queue
-abbrev pub of_queue : (who : ℕ) → Slot → Bool
-of_queue who x = is_live x && eqb (queue x) who
 
 -- a pool with no groups
 abbrev pub fresh_pool : ℕ → Pool
@@ -186,22 +168,22 @@ module _ (row : ℕ) where
   site P c = let new = run_from [] c P in site_or (open_from [] c P) new
 
   -- "Take its lowest ready slot.": the place that a grant takes at a site, in the pool that it makes
-  unfoldable pub grant_in : (c who code n : ℕ) → Site → Place
+  unfoldable pub grant_in : (c code n : ℕ) → Site → Place
   unfolding grant_slot
-  grant_in c who k n s =
+  grant_in c k n s =
       let ss = refill s.slots in
       let i = first is_ready ss in
       let b = row * rows row s.before + 16 + i * slot_bytes c in
-      record { before = s.before; cls = c; lower = take i ss; state = grant_slot c who k n b (get_or ss i Fresh); upper = drop (suc i) ss; after = s.after }
+      record { before = s.before; cls = c; lower = take i ss; state = grant_slot c k n b (get_or ss i Fresh); upper = drop (suc i) ss; after = s.after }
 
-  abbrev pub reserve_in : (c who code n : ℕ) → Option Site → Option Place
-  reserve_in c who k n none = none
-  reserve_in c who k n (some s) = some (grant_in c who k n s)
+  abbrev pub reserve_in : (c code n : ℕ) → Option Site → Option Place
+  reserve_in c k n none = none
+  reserve_in c k n (some s) = some (grant_in c k n s)
 
   -- the place that a grant of n bytes takes. 02 §6: "the class and slot are those of n + align − 16"
-  unfoldable pub reserve : Pool → (who code n : ℕ) → Option Place
+  unfoldable pub reserve : Pool → (code n : ℕ) → Option Place
   unfolding site grant_in
-  reserve P who k n = reserve_in (class_of (enlarged k n)) who k n (site P (class_of (enlarged k n)))
+  reserve P k n = reserve_in (class_of (enlarged k n)) k n (site P (class_of (enlarged k n)))
 
   -- "The slot's s owned bytes become zero, then header and guard are written; no other arena byte changes."
   unfoldable pub enframe : Place → Write
@@ -213,22 +195,22 @@ module _ (row : ℕ) where
   grant_at P (some p) = record { checks = none; answer = done (handle row p ∷ []); pool = pool_of p; changes = enframe p ∷ [] }
 
   -- "too large: n is 131,052 or more". 02 §6: "an enlarged size of 131,052 or more is 3"
-  unfoldable pub grant_as : Pool → (who code n : ℕ) → Plan
+  unfoldable pub grant_as : Pool → (code n : ℕ) → Plan
   unfolding reserve enframe
-  grant_as P who k n = let g = grant_at P (reserve P who k n) in choose (leb size_limit (enlarged k n)) (refused TooLarge P) g
+  grant_as P k n = let g = grant_at P (reserve P k n) in choose (leb size_limit (enlarged k n)) (refused TooLarge P) g
 
   -- GRANT ALIGNED (02 §6): "answer 13, tested between 2 and 3"
-  unfoldable pub grant_aligned : Pool → (who n align : ℕ) → Plan
+  unfoldable pub grant_aligned : Pool → (n align : ℕ) → Plan
   unfolding grant_as code_of
-  grant_aligned P who n a = let g = grant_as P who (code_of a) n in choose (ltb 0 (code_of a)) g (refused BadAlignment P)
+  grant_aligned P n a = let g = grant_as P (code_of a) n in choose (ltb 0 (code_of a)) g (refused BadAlignment P)
 
   -- GRANT LIST (02 §3)
 
-  -- "grants its sizes in order": the places that the grants take, all for the list's queue; none where one of them would meet answer 8
-  unfoldable pub reserve_all : Pool → (who : ℕ) → List ℕ → Option (List Place)
+  -- "grants its sizes in order": the places that the grants take, none where one of them would meet answer 8
+  unfoldable pub reserve_all : Pool → List ℕ → Option (List Place)
   unfolding reserve
-  reserve_all P who [] = some []
-  reserve_all P who (n ∷ ns) = placed_by (reserve P who ordinary n) (λ q. reserve_all (pool_of q) who ns)
+  reserve_all P [] = some []
+  reserve_all P (n ∷ ns) = placed_by (reserve P ordinary n) (λ q. reserve_all (pool_of q) ns)
 
   -- "answer 8 exactly if granting the accepted sizes in order would meet it"; "writes the starts to the front of a lent list, keeps its
   -- later places and gives the number of entries"; 02 §7: "List entries .. read handles"
@@ -237,10 +219,10 @@ module _ (row : ℕ) where
   grant_all_at P (some qs) = record { checks = none; answer = list_done (map (handle row) qs); pool = pool_after P qs; changes = map enframe qs }
 
   -- "Order: 2, 9, 17, 8." The lent list has so many places; "Answer 9 .. or the lent list has fewer than 17 places"
-  unfoldable pub grant_list : Pool → (who total cap places : ℕ) → List ℕ → Plan
+  unfoldable pub grant_list : Pool → (total cap places : ℕ) → List ℕ → Plan
   unfolding reserve_all enframe
-  grant_list P who total cap places sizes =
-      let g = grant_all_at P (reserve_all P who sizes) in
+  grant_list P total cap places sizes =
+      let g = grant_all_at P (reserve_all P sizes) in
       let c = choose (accepts total cap sizes) g (refused BadProposal P) in
       choose (plannable total cap && leb entries places) c (refused TooLong P)
 
@@ -251,10 +233,10 @@ module _ (row : ℕ) where
   unfolding places
   lookup P o = find (λ p. eqb (start row p) o) (places P)
 
-  -- a queue's call on the block of a handle: 4 and 5 by the start, "whatever the bits", then 10, then 12
-  unfoldable pub on_handle : Pool → (who handle : ℕ) → (Place → Plan) → Plan
+  -- a call on the block of a handle: 4 and 5 by the start, "whatever the bits", then 10
+  unfoldable pub on_handle : Pool → (handle : ℕ) → (Place → Plan) → Plan
   unfolding lookup
-  on_handle P who h f = on_block P (by_handle P h (by_queue P who f)) (lookup P (start_of h))
+  on_handle P h f = on_block P (by_handle P h f) (lookup P (start_of h))
 
   -- RELEASE
 
@@ -277,11 +259,11 @@ module _ (row : ℕ) where
       } in
       choose (any is_live (p.lower ++ p.upper)) stays goes
 
-  unfoldable pub release : Pool → (who handle : ℕ) → Plan
+  unfoldable pub release : Pool → (handle : ℕ) → Plan
   unfolding on_handle release_at
-  release P who h = on_handle P who h release_at
+  release P h = on_handle P h release_at
 
-  -- the block of a place given back, in a pool that has changed elsewhere since it was found: its bits and its queue are not asked for again
+  -- the block of a place given back, in a pool that has changed elsewhere since it was found: its bits are not asked for again
   unfoldable pub discard : Pool → Place → Plan
   unfolding lookup release_at
   discard P p = on_block P release_at (lookup P (start row p))
@@ -289,10 +271,10 @@ module _ (row : ℕ) where
   -- RESIZE IN PLACE, AND MOVE (02 §9): "one call that only changes in place ..; another that always moves"
 
   -- both on the block of a handle, for a new size of n bytes. 02 §7: "§6's answer 3 goes by the start, whatever the bits"
-  unfoldable pub on_handle_for : Pool → (who handle n : ℕ) → (Place → Plan) → Plan
+  unfoldable pub on_handle_for : Pool → (handle n : ℕ) → (Place → Plan) → Plan
   unfolding on_handle
-  on_handle_for P who h n f =
-      let r = on_handle P who h f in
+  on_handle_for P h n f =
+      let r = on_handle P h f in
       choose (leb size_limit (new_size (lookup P (start_of h)) n)) (refused TooLarge P) r
 
   -- "the first bytes, as many as the lesser of old and new n, stay, all from there to the end become zero, header and guard are
@@ -305,14 +287,14 @@ module _ (row : ℕ) where
       record {
         checks = some p;
         answer = done (handle row p ∷ []);
-        pool = pool_of (become p (resized p.state n));
+        pool = pool_of (become p (Live (record { count = count p.state; disp = d; size = n; align = align p.state })));
         changes =
             writes (start row p - 4) (header c (slot_number p) d n)
             ∷ writes (start row p + kept) (zeros (n - kept) ++ spare (reserved c d n)) ∷ [];
       }
 
   -- "a grant of n is made while the old block is live, that many bytes are copied, then the old is released." 02 §6: "Resize of an
-  -- aligned block keeps the boundary": the grant has the block's alignment, and its queue
+  -- aligned block keeps the boundary": the grant has the block's alignment
   abbrev pub move_to : Pool → Place → ℕ → Option Place → Plan
   move_to P p n none = refused_on NoRoom P p
   move_to P p n (some q) =
@@ -326,29 +308,29 @@ module _ (row : ℕ) where
 
   unfoldable pub move_at : Pool → ℕ → Place → Plan
   unfolding reserve discard enframe
-  move_at P n p = move_to P p n (reserve P (queue p.state) (align p.state) n)
+  move_at P n p = move_to P p n (reserve P (align p.state) n)
 
   -- "refuses with 11 exactly if 01's in-place conditions (or §6's) fail, tested after 7"
   unfoldable pub in_place_at : Pool → ℕ → Place → Plan
   unfolding resize_at
   in_place_at P n p = let r = resize_at p n in choose (fits_in_place p n) r (refused_on NotInPlace P p)
 
-  unfoldable pub resize_in_place : Pool → (who handle n : ℕ) → Plan
+  unfoldable pub resize_in_place : Pool → (handle n : ℕ) → Plan
   unfolding on_handle_for in_place_at
-  resize_in_place P who h n = on_handle_for P who h n (in_place_at P n)
+  resize_in_place P h n = on_handle_for P h n (in_place_at P n)
 
-  unfoldable pub move : Pool → (who handle n : ℕ) → Plan
+  unfoldable pub move : Pool → (handle n : ℕ) → Plan
   unfolding on_handle_for move_at
-  move P who h n = on_handle_for P who h n (move_at P n)
+  move P h n = on_handle_for P h n (move_at P n)
 
   -- MEASURE AND REPORT
 
   abbrev pub measure_at : Pool → Place → Plan
   measure_at P p = record { checks = some p; answer = done (size p.state ∷ []); pool = P; changes = [] }
 
-  unfoldable pub measure : Pool → (who handle : ℕ) → Plan
+  unfoldable pub measure : Pool → (handle : ℕ) → Plan
   unfolding on_handle
-  measure P who h = on_handle P who h (measure_at P)
+  measure P h = on_handle P h (measure_at P)
 
   abbrev pub held_rows : Span → ℕ
   held_rows free = 0
@@ -369,86 +351,58 @@ module _ (row : ℕ) where
   unfolding totals
   report P = record { checks = none; answer = done (listed (totals P)); pool = P; changes = [] }
 
-  -- 02 §10: "A report per queue takes its number and gives the live blocks that record it and their requested bytes"
-  unfoldable pub queue_totals : Pool → (who : ℕ) → QueueTotals
-  queue_totals P who = record {
-    blocks = sum (slot_sum (λ x. bit (of_queue who x))) P;
-    bytes = sum (slot_sum (λ x. choose (of_queue who x) (size x) 0)) P;
-  }
-
-  unfoldable pub report_queue : Pool → (who : ℕ) → Plan
-  unfolding queue_totals
-  report_queue P who = record { checks = none; answer = done (queue_listed (queue_totals P who)); pool = P; changes = [] }
-
   -- "Set up writes zero over the whole arena and makes tables with no groups."
   abbrev pub set_up_again : Pool → Plan
   set_up_again P = record { checks = none; answer = done (0 ∷ []); pool = fresh_pool (rows row P); changes = writes 0 (zeros (row * rows row P)) ∷ [] }
 
 -- THE MODEL OF DEMAND 3
 
--- 02 §10: "Every call on a block, grants and lists included, names a queue": what a queue asks for
-pub data Request : Type 0 where
-  grants : (n : ℕ) → Request
-  grants_aligned : (n align : ℕ) → Request
-  releases : (handle : ℕ) → Request
-  resizes_in_place : (handle n : ℕ) → Request
-  moves : (handle n : ℕ) → Request
-  measures : (handle : ℕ) → Request
-  -- of the list that it is lent, a list call is told the number of places
-  grants_list : (total cap places : ℕ) (sizes : List ℕ) → Request
-  reports_queue : Request
-
 pub data Call : Type 0 where
   sets_up : Call
+  grants : (n : ℕ) → Call
+  grants_aligned : (n align : ℕ) → Call
+  releases : (handle : ℕ) → Call
+  resizes_in_place : (handle n : ℕ) → Call
+  moves : (handle n : ℕ) → Call
+  measures : (handle : ℕ) → Call
   reports : Call
-  queued : (who : ℕ) (asked : Request) → Call
+  -- of the list that it is lent, a list call is told the number of places
+  grants_list : (total cap places : ℕ) (sizes : List ℕ) → Call
 
 -- set up alone does not ask for sound tables
 abbrev pub is_set_up : Call → Bool
 is_set_up sets_up = true
+is_set_up (grants n) = false
+is_set_up (grants_aligned n b) = false
+is_set_up (releases h) = false
+is_set_up (resizes_in_place h n) = false
+is_set_up (moves h n) = false
+is_set_up (measures h) = false
 is_set_up reports = false
-is_set_up (queued who r) = false
+is_set_up (grants_list total cap places sizes) = false
 
--- how many values a call gives: report "in this order: live blocks, their requested bytes, rows held, rows free, ready slots, waiting slots", a queue's
--- report its live blocks and their requested bytes
-abbrev pub values_asked : Request → ℕ
-values_asked (grants n) = 1
-values_asked (grants_aligned n b) = 1
-values_asked (releases h) = 1
-values_asked (resizes_in_place h n) = 1
-values_asked (moves h n) = 1
-values_asked (measures h) = 1
-values_asked (grants_list total cap places sizes) = 1
-values_asked reports_queue = 2
-
--- a request by a number past the last queue's
-abbrev pub no_queue : Request → Pool → Plan
-no_queue r P = record { checks = none; answer = refusal_of (values_asked r) WrongQueue; pool = P; changes = [] }
-
+-- how many values a call gives: report "in this order: live blocks, their requested bytes, rows held, rows free, ready slots, waiting slots"
 abbrev pub values_of : Call → ℕ
 values_of sets_up = 1
+values_of (grants n) = 1
+values_of (grants_aligned n b) = 1
+values_of (releases h) = 1
+values_of (resizes_in_place h n) = 1
+values_of (moves h n) = 1
+values_of (measures h) = 1
 values_of reports = 6
-values_of (queued who r) = values_asked r
+values_of (grants_list total cap places sizes) = 1
 
 module _ (row : ℕ) where
-  -- what is asked for by a queue that there is
-  unfoldable pub plan_for : Pool → (who : ℕ) → Request → Plan
-  unfolding grant_as grant_aligned grant_list release resize_in_place move measure report_queue
-  plan_for P who (grants n) = grant_as row P who ordinary n
-  plan_for P who (grants_aligned n a) = grant_aligned row P who n a
-  plan_for P who (releases h) = release row P who h
-  plan_for P who (resizes_in_place h n) = resize_in_place row P who h n
-  plan_for P who (moves h n) = move row P who h n
-  plan_for P who (measures h) = measure row P who h
-  plan_for P who (grants_list total cap places sizes) = grant_list row P who total cap places sizes
-  plan_for P who reports_queue = report_queue row P who
-
-  -- "Every call steps on that state and its arguments alone". 02 §10: "Answer 12, wrong queue, is given exactly if the number exceeds 7 (right after 2,
-  -- before 9 and 13, in every call that takes one)"
+  -- "Every call steps on that state and its arguments alone"
   unfoldable pub plan : Pool → Call → Plan
-  unfolding plan_for report
+  unfolding grant_as grant_aligned grant_list release resize_in_place move measure report
   plan P sets_up = set_up_again row P
+  plan P (grants n) = grant_as row P ordinary n
+  plan P (grants_aligned n a) = grant_aligned row P n a
+  plan P (releases h) = release row P h
+  plan P (resizes_in_place h n) = resize_in_place row P h n
+  plan P (moves h n) = move row P h n
+  plan P (measures h) = measure row P h
   plan P reports = report row P
-  plan P (queued who r) =
-      let yes = plan_for P who r in
-      choose (ltb who queues) yes (no_queue r P)
+  plan P (grants_list total cap places sizes) = grant_list row P total cap places sizes

@@ -59,29 +59,15 @@ align Fresh = ordinary
 align (Idle r k d) = ordinary
 align (Live a) = a.align
 
--- 02 §10: "Eight queues share a pool. Every call on a block .. names a queue, 0 to 7"
-abbrev pub queues : ℕ
-queues = 8
-
--- "the block's record keeps the granting one"; a slot that is not live keeps none
-abbrev pub queue : Slot → ℕ
-queue Fresh = 0
-queue (Idle r k d) = 0
-queue (Live a) = a.queue
-
--- a live slot with another size: it keeps alignment and queue
-abbrev pub resized : Slot → (n : ℕ) → Slot
-resized x n = Live (record { count = count x; disp = disp x; size = n; align = align x; queue = queue x })
-
 -- "a live slot was granted, has 16d + n at most s − 4, and its class is that of n or the next one up; a slot granted but not
 -- live has 16d at most s − 4; a live n is below 131,052; a slot never granted is ready with count 0." 02 §6: "soundness reads the
--- enlarged size where it speaks of a live block's class", and as there is no class past 131,051, that size too is below 131,052. 02 §10: "and soundness demands it in range", the queue
+-- enlarged size where it speaks of a live block's class", and as there is no class past 131,051, that size too is below 131,052
 unfoldable pub slot_sound : ℕ → Slot → Bool
 slot_sound c Fresh = true
 slot_sound c (Idle r k d) = ltb k 256 && leb (16 * d) (slot_bytes c - 4)
 slot_sound c (Live a) =
     ltb a.count 256 && leb (16 * a.disp + a.size) (slot_bytes c - 4) && (leb 1 a.align && leb a.align 9)
-    && ltb (enlarged a.align a.size) size_limit && own_class c (enlarged a.align a.size) && ltb a.queue queues
+    && ltb (enlarged a.align a.size) size_limit && own_class c (enlarged a.align a.size)
 
 -- "each group has a live slot"
 unfoldable pub span_sound : Span → Bool

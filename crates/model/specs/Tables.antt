@@ -29,7 +29,7 @@ slots_at = 16
 abbrev pub slot_record_bytes : ℕ
 slot_record_bytes = 8
 
--- in a slot's record: its kind, which is 0 if it was never granted, use count, displacement, requested size, queue
+-- in a slot's record: its kind, which is 0 if it was never granted, use count, displacement, requested size
 abbrev pub kind_at : ℕ
 kind_at = 0
 
@@ -41,9 +41,6 @@ disp_at = 2
 
 abbrev pub size_at : ℕ
 size_at = 4
-
-abbrev pub queue_at : ℕ
-queue_at = 7
 
 abbrev pub most_slots : ℕ
 most_slots = 31
@@ -60,12 +57,12 @@ row_at i = head_bytes + row_record_bytes * i
 unfoldable pub room_bytes : ℕ → ℕ
 room_bytes n = row_at n
 
--- a slot's record: its kind, the alignment's code if it is live, 1 if it was granted and is not; use count, displacement in two bytes; if it is
--- live, the requested size in three bytes and its queue, else zeros
+-- a slot's record: its kind, the alignment's code if it is live, 1 if it was granted and is not; use count, displacement in two bytes, the
+-- requested size in three if it is live, 0
 unfoldable pub slot_record : Slot → List ℕ
 slot_record Fresh = zeros slot_record_bytes
 slot_record (Idle r k d) = 1 ∷ k ∷ (low 2 d ++ zeros 4)
-slot_record (Live a) = a.align ∷ a.count ∷ (low 2 a.disp ++ (low 3 a.size ++ (a.queue ∷ [])))
+slot_record (Live a) = a.align ∷ a.count ∷ (low 2 a.disp ++ (low 3 a.size ++ (0 ∷ [])))
 
 -- who holds a row, 2 bytes: 0 free, 1 first with its class, 2 later with its distance
 abbrev pub holder_bytes : Holder → List ℕ
@@ -89,13 +86,7 @@ unfoldable pub view_slot : Bool → Bool → List ℕ → Slot
 view_slot true w r = choose (eqb (get_or r kind_at 0) 0) Fresh (Idle true (get_or r count_at 0) (number (part disp_at 2 r)))
 view_slot false true r = Idle false (get_or r count_at 0) (number (part disp_at 2 r))
 view_slot false false r =
-    Live (record {
-      count = get_or r count_at 0;
-      disp = number (part disp_at 2 r);
-      size = number (part size_at 3 r);
-      align = get_or r kind_at 0;
-      queue = get_or r queue_at 0;
-    })
+    Live (record { count = get_or r count_at 0; disp = number (part disp_at 2 r); size = number (part size_at 3 r); align = get_or r kind_at 0 })
 
 -- n slots, from the two masks and the records
 unfoldable pub view_slots : ℕ → ℕ → ℕ → List ℕ → List Slot

@@ -1,14 +1,13 @@
 // The types that the definitions in specs/ and the calls share, and where things stand in the table room.
 
-// What the tables know of a live block: its slot's use count modulo 256, the displacement of its start in units, the requested size, the
-// code of its alignment (1 for 16 bytes, 2 to 9 for 32 to 4,096), and the queue that it was granted to.
+// What the tables know of a live block: its slot's use count modulo 256, the displacement of its start in units, the requested size, and
+// the code of its alignment (1 for 16 bytes, 2 to 9 for 32 to 4,096).
 #[derive(Drop)]
 pub struct Alloc {
     pub count: u8,
     pub disp: usize,
     pub size: usize,
     pub align: u8,
-    pub queue: u8,
 }
 
 // A slot of a group: never granted in this group, so ready with use count 0; granted before and not live, ready or else waiting,
@@ -44,7 +43,6 @@ pub enum Refusal {
     TooLong,
     BadProposal,
     BadAlignment,
-    WrongQueue,
 }
 
 // Whether the header and the guard of a block are those due, or why a call on it is refused.
@@ -75,14 +73,6 @@ pub struct Totals {
     pub waiting: usize,
 }
 
-// What a queue has: its live blocks, and their requested bytes.
-#[repr(C)]
-#[derive(Drop)]
-pub struct QueueTotals {
-    pub blocks: usize,
-    pub bytes: usize,
-}
-
 // What a call answers, and the totals after it.
 #[derive(Drop)]
 pub struct Answered {
@@ -97,19 +87,8 @@ pub enum Report {
     Refused(Refusal),
 }
 
-// What a queue's report answers.
-#[derive(Drop)]
-pub enum QueueReport {
-    Counted(QueueTotals),
-    Refused(Refusal),
-}
-
-// Queues are numbered from 0 on.
-pub const QUEUES: usize = 8;
-
 // The layout of the table room (docs/TABLES.md): the head, then a record for each row. A group's first row keeps its masks and its
-// slots' records; a slot's record has its kind, which is 0 if it was never granted, its use count, displacement, requested
-// size and queue.
+// slots' records; a slot's record has its kind, which is 0 if it was never granted, its use count, displacement and requested size.
 pub const HEAD: usize = 16;
 
 pub const ROW_RECORD: usize = 264;
@@ -129,8 +108,6 @@ pub const COUNT: usize = 1;
 pub const DISP: usize = 2;
 
 pub const SIZE: usize = 4;
-
-pub const QUEUE: usize = 7;
 
 pub const MOST_SLOTS: usize = 31;
 

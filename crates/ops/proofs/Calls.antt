@@ -1,16 +1,17 @@
 -- The first engine's calls by what the code finds: those over any form (frames/proofs/Calls), for tables that are lent with their totals.
-use Rattle.mem.proofs.Prelude.{◌∙◌, ◌≡◌, sym, ap, ap₂, subst, true, Bool, false, not, not-false, not-true, Option, List, ℕ, ◌≤◌, length}
+use Rattle.mem.proofs.Prelude.{◌∙◌, ◌≡◌, sym, ap, ap₂, subst, true, Bool, false, not, not-false, not-true, Option, List, ℕ, length}
 use Rattle.mem.specs.Bytes.{put}
 use Rattle.classes.specs.Classes.{Lawful, row_bytes}
+use Rattle.classes.specs.Alignments.{Askable}
 use Rattle.classes.proofs.Laws.{card_row}
-use Rattle.model.specs.declared.Refusal.TheVariants.{NoRoom, WrongQueue}
+use Rattle.model.specs.declared.Refusal.TheVariants.{NoRoom}
 use Rattle.model.specs.declared.Reply.{Reply}
 use Rattle.model.specs.declared.Totals.{Totals}
-use Rattle.model.specs.State.{Pool, Place, queues, start_of, pool_of}
+use Rattle.model.specs.State.{Pool, Place, start_of, pool_of}
 use Rattle.model.specs.Blocks.{frame}
-use Rattle.model.specs.Plans.{Plan, Request, Call, queued, values_asked, grant_as, reserve, totals, Askable}
+use Rattle.model.specs.Plans.{Plan, Call, grant_as, reserve, totals}
 use Rattle.model.specs.Tables.{masks_layout, view, sound}
-use Rattle.model.specs.Answers.{refusal_of, reply_answer}
+use Rattle.model.specs.Answers.{reply_answer}
 use Rattle.model.specs.Calls.{KeptBytes, kept_in, left, engine, sound_kept, call, call_by, unsound, keeps}
 use Rattle.model.proofs.Kept.{kept_sound, kept_totals, engine_lawful}
 use Rattle.model.proofs.Calls.{Asks, call-unsound}
@@ -46,27 +47,22 @@ module _ (a : List ℕ) (t : KeptBytes) {w : Bool} (e : w ≡ sound_kept 512 (le
   unfolding row_bytes
   refusing c k h = sym (call-unsound row_bytes (engine row_bytes) a t c k (sym e ∙ not-true w h))
 
-  -- and by the number of a queue that there is not
-  pub wrong_queue : not w ≡ false → (who : ℕ) (q : Request) → queues ≤ who
-      → keeps (refusal_of (values_asked q) WrongQueue) a t ≡ call row_bytes a t (queued who q)
-  wrong_queue h who q l = sym (any.no_queue_lem (checked h).form who q l)
-
 module _ {row : ℕ} {a : List ℕ} {t : KeptBytes} (r : Checked row a t) where
   -- ---- grant
 
-  module _ (who k n : ℕ) (small : Askable who k n) where
+  module _ (k n : ℕ) (small : Askable k n) where
     -- the plan of a grant, with an alignment, and the place that it finds
     abbrev asked : Plan
-    asked = grant_as row (view row t.tables) who k n
+    asked = grant_as row (view row t.tables) k n
 
     abbrev found : Option Place
-    found = reserve row (view row t.tables) who k n
+    found = reserve row (view row t.tables) k n
 
     pub granted-none : {u : List ℕ} → reserved_as row found ≡ reserved.NoRoom → u ≡ next_room row t.tables found
         → CarriedOutBy (engine row) a asked (Reply.Refused NoRoom) a (kept_in u t.totals)
     granted-none e f =
         let q = reserved-none row found e in
-        rw (f ∙ ap (next_room row t.tables) q) (any.granted-none r.form who k n small q)
+        rw (f ∙ ap (next_room row t.tables) q) (any.granted-none r.form k n small q)
 
     -- what a grant of a reserved block leaves, and where the block stands
     pub record GrantedAt (b : Block) (z : Totals) (u : List ℕ) : Type 0 where
@@ -78,32 +74,32 @@ module _ {row : ℕ} {a : List ℕ} {t : KeptBytes} (r : Checked row a t) where
     granted_at {b} {z} {u} e g =
         let (q, f, h, k₀) = reserved_place row found b z e in
         record {
-          result = any.granted_at r.form who k n small q f b (sym h) (kept_in u z) (ap₂ kept_in (g ∙ ap (next_room row t.tables) f) (sym k₀));
-          stands = subst (Standing row (length a)) h (reserved_stands r.room who k n small q f);
+          result = any.granted_at r.form k n small q f b (sym h) (kept_in u z) (ap₂ kept_in (g ∙ ap (next_room row t.tables) f) (sym k₀));
+          stands = subst (Standing row (length a)) h (reserved_stands r.room k n small q f);
         }
 
   -- ---- a call on a block: the tables hold it
 
-  pub holds : {who h : ℕ} {k : Place → Plan} {named : (p : Place) → (k p).checks ≡ Option.some p} {b : Block} (d : any.Called r.form who h k named b)
+  pub holds : {h : ℕ} {k : Place → Plan} {named : (p : Place) → (k p).checks ≡ Option.some p} {b : Block} (d : any.Called r.form h k named b)
       → Holds masks_layout row t.tables b d.place
-  holds {h = h} {b = b} d = found_holds r.room (start_of h) d.place d.looked_up d.live b d.block
+  holds {h} {b = b} d = found_holds r.room (start_of h) d.place d.looked_up d.live b d.block
 
 -- ---- a call for another size, by the block that is found
 
-module _ {row : ℕ} (law : Lawful row) (a : List ℕ) (t : KeptBytes) {who h n : ℕ} {f : Pool → ℕ → Place → Plan} {c : Call}
-    (s : any.GivesSize row (view row t.tables) who h n f c) {b : Block} (e : At b ≡ found_for row (engine row) a t who h n) where
+module _ {row : ℕ} (law : Lawful row) (a : List ℕ) (t : KeptBytes) {h n : ℕ} {f : Pool → ℕ → Place → Plan} {c : Call}
+    (s : any.GivesSize row (view row t.tables) h n f c) {b : Block} (e : At b ≡ found_for row (engine row) a t h n) where
   passed : Checked row a t
   passed = by_check a t (any.found_sound (engine row) a t s e).0 law
 
-  block : any.CalledFor passed.form who h (f (view row t.tables) n) s.names passed.room.pos n b
-  block = any.called_for passed.form who h (f (view row t.tables) n) s.names passed.room.pos n b (any.found_sound (engine row) a t s e).1
+  block : any.CalledFor passed.form h (f (view row t.tables) n) s.names passed.room.pos n b
+  block = any.called_for passed.form h (f (view row t.tables) n) s.names passed.room.pos n b (any.found_sound (engine row) a t s e).1
 
   held : Holds masks_layout row t.tables b block.block.place
   held = holds passed block.block
 
   -- what an operation on it requires
   pub size-asked : ((sound row (length a) t.tables ≡ true) × (t.totals ≡ totals row (view row t.tables)))
-      × (((p : Place) × Holds masks_layout row t.tables b p) × (Askable b.alloc.queue b.alloc.align n × Lawful row))
+      × (((p : Place) × Holds masks_layout row t.tables b p) × (Askable b.alloc.align n × Lawful row))
   size-asked = ((passed.room.sound, passed.counts), ((block.block.place, held), (block.askable, law)))
 
   -- and what the call leaves by what it ensures

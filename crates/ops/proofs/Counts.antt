@@ -4,7 +4,7 @@ use Rattle.mem.specs.Lists.{choose, any, sum}
 use Rattle.mem.specs.Bytes.{bit}
 use Rattle.classes.specs.Classes.{rows_of, size_limit}
 use Rattle.model.specs.declared.Totals.{Totals}
-use Rattle.model.specs.State.{Place, group, is_ready, is_waiting, is_live, count, disp, size, align, queue, pool_of}
+use Rattle.model.specs.State.{Place, group, is_ready, is_waiting, is_live, count, disp, size, align, pool_of}
 use Rattle.model.specs.Plans.{release_at, resize_at, totals}
 use Rattle.model.specs.Tables.{masks_layout, view}
 use Rattle.model.proofs.Tables.{masks_laws, view-encode}
@@ -83,5 +83,5 @@ module _ {row : ℕ} {t : List ℕ} {b : Block} {p : Place} (h : Holds masks_lay
   unfolding resize_at size_limit
   sized_counts n l =
       let d : Sizes b.alloc.size n s (totals row (resize_at row p n).pool) =
-      rw (there, wide) (sized-totals row p h.live (record { count = count p.state; disp = disp p.state; size = n; align = align p.state; queue = queue p.state })) in
+      rw (there, wide) (sized-totals row p h.live (record { count = count p.state; disp = disp p.state; size = n; align = align p.state })) in
       (d, sized-small b.alloc.size n s (totals row (resize_at row p n).pool) d few (omega arith))

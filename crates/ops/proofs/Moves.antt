@@ -1,12 +1,13 @@
 -- A block that moves, and one that stays as it was, with the totals.
 use Rattle.mem.proofs.Prelude.{◌∙◌, ◌≡◌, sym, ap, ap₂, refl, some, List, ℕ, min}
 use Rattle.mem.specs.Bytes.{put, part}
+use Rattle.classes.specs.Alignments.{Askable}
 use Rattle.model.specs.declared.Refusal.{Refusal}
 use Rattle.model.specs.declared.Reply.{Reply}
 use Rattle.model.specs.declared.Totals.{Totals}
-use Rattle.model.specs.State.{Place, align, queue, pool_of}
+use Rattle.model.specs.State.{Place, align, pool_of}
 use Rattle.model.specs.Blocks.{frame}
-use Rattle.model.specs.Plans.{refused_on, reserve, release_at, move_at, totals, Askable}
+use Rattle.model.specs.Plans.{refused_on, reserve, release_at, move_at, totals}
 use Rattle.model.specs.Tables.{masks_layout, view, encode}
 use Rattle.model.specs.Calls.{kept_in, engine, written}
 use Rattle.rows.specs.declared.Block.{Block}
@@ -16,21 +17,21 @@ use Rattle.frames.proofs.Places.{held_pool}
 use Rattle.frames.proofs.Moves.{beside, moved_pool}
 use Rattle.frames.proofs.Moves as frames
 
-module _ {row len : ℕ} {t : List ℕ} (r : Lent masks_layout row len t) (who v n : ℕ) (small : Askable who v n) (q : Place)
-    (found : reserve row (view row t) who v n ≡ some q) {b : Block} {p : Place} (h : Holds masks_layout row t b p) where
+module _ {row len : ℕ} {t : List ℕ} (r : Lent masks_layout row len t) (v n : ℕ) (small : Askable v n) (q : Place)
+    (found : reserve row (view row t) v n ≡ some q) {b : Block} {p : Place} (h : Holds masks_layout row t b p) where
   pub moved : (c : Block) (a a₁ a₂ a₃ u : List ℕ) (s : ℕ) (z : Totals) → block_of row q ≡ c
       → a₁ ≡ put (owned_at row c) (frame c.class c.slot c.alloc.disp c.alloc.size) a
       → a₂ ≡ put (start_at row c) (part (start_at row b) (min b.alloc.size n) a₁) a₁
-      → a₃ ≡ written a₂ (release_at row (beside r who v n small q found h).place).changes → u ≡ encode row (release_at row
-      (beside r who v n small q found h).place).pool
-      → z ≡ totals row (release_at row (beside r who v n small q found h).place).pool → s ≡ handle_at row c
-      → who ≡ queue p.state → v ≡ align p.state → CarriedOutBy (engine row) a (move_at row (pool_of p) n p) (Reply.Done s) a₃ (kept_in u z)
-  moved c a a₁ a₂ a₃ u s z ec e₁ e₂ e₃ eu ez es eo ev =
-      let d = frames.moved r who v n small q found h c a a₁ a₂ a₃ u s ec e₁ e₂ e₃ eu es eo ev in
+      → a₃ ≡ written a₂ (release_at row (beside r v n small q found h).place).changes → u ≡ encode row (release_at row
+      (beside r v n small q found h).place).pool
+      → z ≡ totals row (release_at row (beside r v n small q found h).place).pool → s ≡ handle_at row c
+      → v ≡ align p.state → CarriedOutBy (engine row) a (move_at row (pool_of p) n p) (Reply.Done s) a₃ (kept_in u z)
+  moved c a a₁ a₂ a₃ u s z ec e₁ e₂ e₃ eu ez es ev =
+      let d = frames.moved r v n small q found h c a a₁ a₂ a₃ u s ec e₁ e₂ e₃ eu es ev in
       record {
         answer = d.answer;
         arena = d.arena;
-        kept = ap₂ kept_in d.kept (ez ∙ ap (totals row) (sym (moved_pool r who v n small q found h eo ev)));
+        kept = ap₂ kept_in d.kept (ez ∙ ap (totals row) (sym (moved_pool r v n small q found h ev)));
       }
 
 -- a refusal that names the block: nothing changes, and the totals are those of the tables

@@ -2,12 +2,13 @@
 // the tables takes the totals of those that are lent, and gives the totals of those that it leaves.
 ghost use Rattle.std.specs.Prelude.{◌≡◌, true, length};
 ghost use Rattle.classes.specs.Classes.{Lawful};
+ghost use Rattle.classes.specs.Alignments.{Askable};
 ghost use Rattle.model.specs.State.{Place, start_of, pool_of};
-ghost use Rattle.model.specs.Plans.{lookup, release_at, in_place_at, move_at, totals, Askable};
+ghost use Rattle.model.specs.Plans.{lookup, release_at, in_place_at, move_at, totals};
 ghost use Rattle.model.specs.Tables.{masks_layout, sound, view, encode};
 ghost use Rattle.model.specs.Calls.{kept_in, engine, written};
 ghost use Rattle.rows.specs.Rows.{Holds};
-ghost use Rattle.frames.specs.Blocks.{located, located_for, for_queue, CarriedOutBy};
+ghost use Rattle.frames.specs.Blocks.{located, located_for, CarriedOutBy};
 
 use changes::Left;
 use frames::Located;
@@ -15,48 +16,30 @@ use model::{Answered, Refusal, Reply, Totals};
 use reserving::Reserved;
 use rows::Block;
 
-// The block of a handle, if it is live, the handle its present one, the queue its own, and undamaged. A number past the last queue's is the first
-// reason.
-pub fn locate(row: usize, arena: &[u8], room: &[u8], queue: usize, handle: usize) -> Located
+// The block of a handle, if it is live, the handle its present one, and undamaged.
+pub fn locate(row: usize, arena: &[u8], room: &[u8], handle: usize) -> Located
     requires room_value { sound row (length arena.now) room.now ≡ true }
     requires lawful { Lawful row }
-    ensures { result
-        ≡ for_queue row queue (located row arena.now queue handle (lookup row (view row room.now) (start_of handle))) }
+    ensures { result ≡ located row arena.now handle (lookup row (view row room.now) (start_of handle)) }
 {
-    if model::QUEUES <= queue {
-        return Located::Refused(Refusal::WrongQueue);
-    }
     frames::judge(
         row,
         arena,
         search::find_block(row, arena.len(), room, frames::start_in(handle)),
-        queue,
         handle,
     )
 }
 
 // The same for a block that is to have n bytes.
-pub fn locate_for(
-    row: usize,
-    arena: &[u8],
-    room: &[u8],
-    queue: usize,
-    handle: usize,
-    n: usize,
-) -> Located
+pub fn locate_for(row: usize, arena: &[u8], room: &[u8], handle: usize, n: usize) -> Located
     requires room_value { sound row (length arena.now) room.now ≡ true }
     requires lawful { Lawful row }
-    ensures { result
-        ≡ for_queue row queue (located_for row arena.now queue handle n (lookup row (view row room.now) (start_of handle))) }
+    ensures { result ≡ located_for row arena.now handle n (lookup row (view row room.now) (start_of handle)) }
 {
-    if model::QUEUES <= queue {
-        return Located::Refused(Refusal::WrongQueue);
-    }
     frames::judge_for(
         row,
         arena,
         search::find_block(row, arena.len(), room, frames::start_in(handle)),
-        queue,
         handle,
         n,
     )
@@ -94,7 +77,7 @@ pub fn resize_in_place(
 ) -> Answered
     requires room_value { (sound row (length arena.old) room.old ≡ true) × (t ≡ totals row (view row room.old)) }
     requires holds { (p : Place) × Holds masks_layout row room.old b p }
-    requires askable { Askable b.alloc.queue b.alloc.align n }
+    requires askable { Askable b.alloc.align n }
     requires lawful { Lawful row }
     ensures { (p : Place) → Holds masks_layout row room.old b p
         → CarriedOutBy (engine row) arena.old (in_place_at row (pool_of p) n p) result.reply arena.new
@@ -131,21 +114,14 @@ pub fn move_block(
 ) -> Answered
     requires room_value { (sound row (length arena.old) room.old ≡ true) × (t ≡ totals row (view row room.old)) }
     requires holds { (p : Place) × Holds masks_layout row room.old b p }
-    requires askable { Askable b.alloc.queue b.alloc.align n }
+    requires askable { Askable b.alloc.align n }
     requires lawful { Lawful row }
     ensures { (p : Place) → Holds masks_layout row room.old b p
         → CarriedOutBy (engine row) arena.old (move_at row (pool_of p) n p) result.reply arena.new
         (kept_in room.new result.totals) }
 {
-    let Reserved::Taken(q, s) = reserving::reserve_slot(
-        row,
-        arena.len(),
-        room,
-        t,
-        b.alloc.queue,
-        b.alloc.align,
-        n,
-    ) else {
+    let Reserved::Taken(q, s) = reserving::reserve_slot(row, arena.len(), room, t, b.alloc.align, n)
+    else {
         return totals::refused(Refusal::NoRoom, t);
     };
     let handle = frames::lay_out(row, arena, q);

@@ -35,11 +35,11 @@ fn displacement(c: usize, code: u8, n: usize, begin: usize, uses: u8) -> usize
     (classes::round_up(classes::align_of(code), begin) - begin) / 16
 }
 
-// What becomes of a slot by a queue's grant of n bytes: its use count goes up by one, 255 becoming 0.
-pub fn grant_slot(c: usize, queue: u8, code: u8, n: usize, begin: usize, x: Slot) -> Alloc
+// What becomes of a slot by a grant of n bytes: its use count goes up by one, 255 becoming 0.
+pub fn grant_slot(c: usize, code: u8, n: usize, begin: usize, x: Slot) -> Alloc
     requires c_bound { (c < 48) × (n + 4 ≤ slot_bytes c) }
     requires code_bound { (code ≤ 9) × (begin < 16777216) }
-    ensures { Slot.Live result ≡ grant_slot c queue code n begin x }
+    ensures { Slot.Live result ≡ grant_slot c code n begin x }
 {
     let k = count_of(x);
     Alloc {
@@ -47,6 +47,5 @@ pub fn grant_slot(c: usize, queue: u8, code: u8, n: usize, begin: usize, x: Slot
         disp: displacement(c, code, n, begin, k),
         size: n,
         align: code,
-        queue: queue,
     }
 }

@@ -1,10 +1,9 @@
 -- What the proofs of the plain pool's calls share: names, the tables as the calls over any form take them, and what is counted.
 pub use Rattle.mem.proofs.Prelude.{◌∙◌, ◌≡◌, sym, ap, refl, subst, some, [], ◌∷◌, ◌<◌, now, needs, arith, lit≤, leb-true, leb-false, not-false, length}
 unfoldable pub use Rattle.classes.specs.Classes.{row_bytes, size_limit}
-pub use Rattle.classes.specs.Alignments.{enlarged}
+pub use Rattle.classes.specs.Alignments.{enlarged, Askable}
 pub use Rattle.classes.proofs.Laws.{card_row, card_some}
 pub use Rattle.model.specs.Answers.{done}
-pub use Rattle.model.specs.Plans.{Askable}
 pub use Rattle.model.specs.Tables.{view_by}
 pub use Rattle.model.specs.Plain.{slots_layout, plain_form, plain_call}
 pub use Rattle.frames.specs.Blocks.{found_for, CarriedOutBy}
@@ -31,26 +30,26 @@ use Rattle.frames.proofs.Calls.{GivesSize, CalledFor, called_for, found_sound}
 use Rattle.frames.proofs.Calls as any
 
 -- the tables hold the block that is located
-pub holds : {a t : List ℕ} (r : Sound a t) {who h : ℕ} {k : Place → Plan} {named : (p : Place) → (k p).checks ≡ some p} {b : Block} (d : Called r who h k named b)
+pub holds : {a t : List ℕ} (r : Sound a t) {h : ℕ} {k : Place → Plan} {named : (p : Place) → (k p).checks ≡ some p} {b : Block} (d : Called r h k named b)
     → Holds slots_layout row_bytes t b d.place
-holds r {h = h} {b = b} d = found_holds (by_slots r.sound card_row) (start_of h) d.place d.looked_up d.live b d.block
+holds r {h} {b = b} d = found_holds (by_slots r.sound card_row) (start_of h) d.place d.looked_up d.live b d.block
 
 -- ---- a call for another size, by the block that is found
 
-module _ (a t : List ℕ) {who h n : ℕ} {f : Pool → ℕ → Place → Plan} {c : Call} (s : GivesSize row_bytes (view_by slots_layout row_bytes t) who h n f c) {b : Block}
-    (e : At b ≡ found_for row_bytes (plain_form row_bytes) a t who h n) where
+module _ (a t : List ℕ) {h n : ℕ} {f : Pool → ℕ → Place → Plan} {c : Call} (s : GivesSize row_bytes (view_by slots_layout row_bytes t) h n f c) {b : Block}
+    (e : At b ≡ found_for row_bytes (plain_form row_bytes) a t h n) where
   passed : Sound a t
   passed = by_check a t (found_sound (plain_form row_bytes) a t s e).0
 
-  block : CalledFor passed who h (f (view_by slots_layout row_bytes t) n) s.names card_some n b
-  block = called_for passed who h (f (view_by slots_layout row_bytes t) n) s.names card_some n b (found_sound (plain_form row_bytes) a t s e).1
+  block : CalledFor passed h (f (view_by slots_layout row_bytes t) n) s.names card_some n b
+  block = called_for passed h (f (view_by slots_layout row_bytes t) n) s.names card_some n b (found_sound (plain_form row_bytes) a t s e).1
 
   held : Holds slots_layout row_bytes t b block.block.place
   held = holds passed block.block
 
   -- what an operation on it requires
   pub size-asked : (sound_by slots_layout row_bytes (length a) t ≡ true)
-      × (((p : Place) × Holds slots_layout row_bytes t b p) × (Askable b.alloc.queue b.alloc.align n × Lawful row_bytes))
+      × (((p : Place) × Holds slots_layout row_bytes t b p) × (Askable b.alloc.align n × Lawful row_bytes))
   size-asked = (passed.sound, ((block.block.place, held), (block.askable, card_row)))
 
   -- and what the call leaves by what it ensures

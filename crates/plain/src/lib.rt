@@ -1,17 +1,16 @@
-// The calls of the plain pool, over a lent arena and a lent table room. Each takes any bytes, queue, handle and size, and one equation says what it answers
+// The calls of the plain pool, over a lent arena and a lent table room. Each takes any bytes, handle and size, and one equation says what it answers
 // and leaves: what the model's call does on these bytes (plain_call, crates/model/specs/Plain.antt). Lists are plain_gather's. For C: slotpool_plain.
-ghost use Rattle.std.specs.Prelude.{◌≡◌, true, ◌≤◌, ◌<◌, length};
+ghost use Rattle.std.specs.Prelude.{◌≡◌, true, ◌≤◌, length};
 ghost use Rattle.classes.specs.Classes.{row_bytes};
-ghost use Rattle.model.specs.Answers.{reply_answer, report_answer, queue_answer};
-ghost use Rattle.model.specs.Plans.{sets_up, grants, grants_aligned, releases, resizes_in_place, moves, measures, reports, reports_queue, queued, grant_as};
-ghost use Rattle.model.specs.State.{queues};
+ghost use Rattle.model.specs.Answers.{reply_answer, report_answer};
+ghost use Rattle.model.specs.Plans.{sets_up, grants, grants_aligned, releases, resizes_in_place, moves, measures, reports, grant_as};
 ghost use Rattle.model.specs.Tables.{sound_by, view_by};
 ghost use Rattle.model.specs.Plain.{slots_layout, plain_form, plain_call};
 ghost use Rattle.model.specs.Calls.{left};
 ghost use Rattle.frames.specs.Blocks.{found_for, CarriedOutBy};
 
 use frames::Located;
-use model::{QueueReport, Refusal, Reply, Report};
+use model::{Refusal, Reply, Report};
 use plain_ops::Reserved;
 use rows::Counted;
 
@@ -34,73 +33,59 @@ pub fn set_up(arena: &mut [u8], room: &mut [u8]) -> Reply
     Reply::Done(0)
 }
 
-// An ordinary block of n bytes for a queue. Answers are tested in this order: "grant 2, 3, 8". 02 §10: 12 "if the number exceeds 7 (right after 2,
-// before 9 and 13, in every call that takes one)"
-pub fn grant(arena: &mut [u8], room: &mut [u8], queue: usize, n: usize) -> Reply
+// An ordinary block of n bytes. Answers are tested in this order: "grant 2, 3, 8".
+pub fn grant(arena: &mut [u8], room: &mut [u8], n: usize) -> Reply
     ensures { left (reply_answer result) arena.new room.new
-        ≡ plain_call row_bytes arena.old room.old (queued queue (grants n)) }
+        ≡ plain_call row_bytes arena.old room.old (grants n) }
 {
     if !plain_sound::sound(classes::ROW, arena.len(), room) {
         return Reply::Refused(Refusal::Unsound);
     }
-    if model::QUEUES <= queue {
-        return Reply::Refused(Refusal::WrongQueue);
-    }
-    grant_as(arena, room, queue, classes::ORDINARY, n)
+    grant_as(arena, room, classes::ORDINARY, n)
 }
 
 // 02 §6: "Alignments 1, 2, 4, 8 and 16 are an ordinary grant. Any other that is not a power of two up to 4,096 is answer 13, tested between 2 and 3"
-pub fn grant_aligned(
-    arena: &mut [u8],
-    room: &mut [u8],
-    queue: usize,
-    n: usize,
-    align: usize,
-) -> Reply
+pub fn grant_aligned(arena: &mut [u8], room: &mut [u8], n: usize, align: usize) -> Reply
     ensures { left (reply_answer result) arena.new room.new
-        ≡ plain_call row_bytes arena.old room.old (queued queue (grants_aligned n align)) }
+        ≡ plain_call row_bytes arena.old room.old (grants_aligned n align) }
 {
     if !plain_sound::sound(classes::ROW, arena.len(), room) {
         return Reply::Refused(Refusal::Unsound);
-    }
-    if model::QUEUES <= queue {
-        return Reply::Refused(Refusal::WrongQueue);
     }
     let code = classes::code_of(align);
     if code == 0 {
         return Reply::Refused(Refusal::BadAlignment);
     }
-    grant_as(arena, room, queue, code, n)
+    grant_as(arena, room, code, n)
 }
 
 // A grant on sound tables. 02 §6: "an enlarged size of 131,052 or more is 3". First a slot is taken in the tables, then its block laid out in the arena:
 // "The slot's s owned bytes become zero, then header and guard are written; no other arena byte changes. The value is the start.", 02 §7: as a handle.
-fn grant_as(arena: &mut [u8], room: &mut [u8], queue: usize, code: u8, n: usize) -> Reply
+fn grant_as(arena: &mut [u8], room: &mut [u8], code: u8, n: usize) -> Reply
     requires room_value { sound_by slots_layout row_bytes (length arena.old) room.old ≡ true }
-    requires queue_lt_queues { (queue < queues) × (1 ≤ code) × (code ≤ 9) }
-    ensures { CarriedOutBy (plain_form row_bytes) arena.old (grant_as row_bytes (view_by slots_layout row_bytes room.old) queue code n)
+    requires le_code { (1 ≤ code) × (code ≤ 9) }
+    ensures { CarriedOutBy (plain_form row_bytes) arena.old (grant_as row_bytes (view_by slots_layout row_bytes room.old) code n)
         result arena.new room.new }
 {
     if classes::too_large(code, n) {
         return Reply::Refused(Refusal::TooLarge);
     }
     let len = arena.len();
-    let Reserved::Taken(b) = plain_ops::reserve_slot(classes::ROW, len, room, queue as u8, code, n)
-    else {
+    let Reserved::Taken(b) = plain_ops::reserve_slot(classes::ROW, len, room, code, n) else {
         return Reply::Refused(Refusal::NoRoom);
     };
     Reply::Done(frames::lay_out(classes::ROW, arena, b))
 }
 
-// Answers: "release and measure 2, 4, 5, 6, 7", 10 before 6 (02 §7) and 12 after 10 (02 §10). "Set up and release, when done, give the value 0"
-pub fn release(arena: &mut [u8], room: &mut [u8], queue: usize, handle: usize) -> Reply
+// Answers: "release and measure 2, 4, 5, 6, 7", and 10 before 6 (02 §7). "Set up and release, when done, give the value 0"
+pub fn release(arena: &mut [u8], room: &mut [u8], handle: usize) -> Reply
     ensures { left (reply_answer result) arena.new room.new
-        ≡ plain_call row_bytes arena.old room.old (queued queue (releases handle)) }
+        ≡ plain_call row_bytes arena.old room.old (releases handle) }
 {
     if !plain_sound::sound(classes::ROW, arena.len(), room) {
         return Reply::Refused(Refusal::Unsound);
     }
-    match plain_ops::locate(classes::ROW, arena, room, queue, handle) {
+    match plain_ops::locate(classes::ROW, arena, room, handle) {
         Located::At(b) => {
             plain_ops::discard(classes::ROW, arena, room, b);
             Reply::Done(0)
@@ -110,53 +95,46 @@ pub fn release(arena: &mut [u8], room: &mut [u8], queue: usize, handle: usize) -
 }
 
 // 02 §9: "one call that only changes in place, and refuses with 11"
-pub fn resize_in_place(
-    arena: &mut [u8],
-    room: &mut [u8],
-    queue: usize,
-    handle: usize,
-    n: usize,
-) -> Reply
+pub fn resize_in_place(arena: &mut [u8], room: &mut [u8], handle: usize, n: usize) -> Reply
     ensures { left (reply_answer result) arena.new room.new
-        ≡ plain_call row_bytes arena.old room.old (queued queue (resizes_in_place handle n)) }
+        ≡ plain_call row_bytes arena.old room.old (resizes_in_place handle n) }
 {
-    match find(arena, room, queue, handle, n) {
+    match find(arena, room, handle, n) {
         Located::At(b) => plain_ops::resize_in_place(classes::ROW, arena, room, b, n),
         Located::Refused(r) => Reply::Refused(r),
     }
 }
 
 // 02 §9: "another that always moves and can answer 8"
-pub fn move_block(arena: &mut [u8], room: &mut [u8], queue: usize, handle: usize, n: usize) -> Reply
+pub fn move_block(arena: &mut [u8], room: &mut [u8], handle: usize, n: usize) -> Reply
     ensures { left (reply_answer result) arena.new room.new
-        ≡ plain_call row_bytes arena.old room.old (queued queue (moves handle n)) }
+        ≡ plain_call row_bytes arena.old room.old (moves handle n) }
 {
-    match find(arena, room, queue, handle, n) {
+    match find(arena, room, handle, n) {
         Located::At(b) => plain_ops::move_block(classes::ROW, arena, room, b, n),
         Located::Refused(r) => Reply::Refused(r),
     }
 }
 
 // The block of a handle that is to have n bytes, or why both calls are refused. 02 §7: "Order: 2, 3, 4, 5, 10, 6, 7, 8", of which 8 is a move's.
-// 02 §10 puts 12 after 2 or after 10.
-fn find(arena: &[u8], room: &[u8], queue: usize, handle: usize, n: usize) -> Located
-    ensures { result ≡ found_for row_bytes (plain_form row_bytes) arena.now room.now queue handle n }
+fn find(arena: &[u8], room: &[u8], handle: usize, n: usize) -> Located
+    ensures { result ≡ found_for row_bytes (plain_form row_bytes) arena.now room.now handle n }
 {
     if !plain_sound::sound(classes::ROW, arena.len(), room) {
         return Located::Refused(Refusal::Unsound);
     }
-    plain_ops::locate_for(classes::ROW, arena, room, queue, handle, n)
+    plain_ops::locate_for(classes::ROW, arena, room, handle, n)
 }
 
 // "Measure gives n."
-pub fn measure(arena: &[u8], room: &[u8], queue: usize, handle: usize) -> Reply
+pub fn measure(arena: &[u8], room: &[u8], handle: usize) -> Reply
     ensures { left (reply_answer result) arena.now room.now
-        ≡ plain_call row_bytes arena.now room.now (queued queue (measures handle)) }
+        ≡ plain_call row_bytes arena.now room.now (measures handle) }
 {
     if !plain_sound::sound(classes::ROW, arena.len(), room) {
         return Reply::Refused(Refusal::Unsound);
     }
-    match plain_ops::locate(classes::ROW, arena, room, queue, handle) {
+    match plain_ops::locate(classes::ROW, arena, room, handle) {
         Located::At(b) => Reply::Done(b.alloc.size),
         Located::Refused(r) => Reply::Refused(r),
     }
@@ -171,19 +149,4 @@ pub fn report(arena: &[u8], room: &[u8]) -> Report
         Counted::Sound(t) => Report::Counted(t),
         Counted::Unsound => Report::Refused(Refusal::Unsound),
     }
-}
-
-// 02 §10: "A report per queue takes its number and gives the live blocks that record it and their requested bytes, two zeros with a refusal"
-pub fn report_queue(arena: &[u8], room: &[u8], queue: usize) -> QueueReport
-    ensures { left (queue_answer result) arena.now room.now
-        ≡ plain_call row_bytes arena.now room.now (queued queue reports_queue) }
-{
-    let len = arena.len();
-    if !plain_sound::sound(classes::ROW, len, room) {
-        return QueueReport::Refused(Refusal::Unsound);
-    }
-    if model::QUEUES <= queue {
-        return QueueReport::Refused(Refusal::WrongQueue);
-    }
-    QueueReport::Counted(plain_tables::queue_totals(classes::ROW, len, room, queue))
 }

@@ -9,7 +9,7 @@ use Rattle.classes.proofs.Laws.{slots_small}
 use Rattle.model.specs.declared.Alloc.{Alloc}
 use Rattle.model.specs.declared.Slot.{Slot}
 use Rattle.model.specs.declared.Slot.TheVariants.{Idle, Live}
-use Rattle.model.specs.State.{Place, is_ready, is_live, align, slot_sound, resized, pool_of, become, slot_number, rows, beginning}
+use Rattle.model.specs.State.{Place, is_ready, is_live, align, slot_sound, pool_of, become, slot_number, rows, beginning}
 use Rattle.model.specs.Tables.{row_at, row_record_bytes, encode_by}
 use Rattle.model.specs.Plain.{plain_group, slots_layout}
 use Rattle.model.specs.Plans.{Site, turn_ready, refill, grant_slot, grant_in, vacant, release_at}
@@ -19,7 +19,7 @@ use Rattle.model.proofs.Counts.{none-live}
 use Rattle.model.proofs.Formed.{any_middle, vacant-sound, code_kept}
 use Rattle.model.proofs.Reserve as reserve
 use Rattle.rows.specs.declared.Block.{Block}
-use Rattle.rows.specs.Rows.{block_of, Holds, Offers}
+use Rattle.rows.specs.Rows.{block_of, resized, Holds, Offers}
 use Rattle.rows.proofs.Spans.{dropped-encode}
 use Rattle.rows.proofs.Held.{held_fits, held_first, held_class, held_slot, taken_begins, block_taken}
 use Rattle.plain_slots.specs.Slots.{slot_in, stored}
@@ -88,14 +88,14 @@ module _ {row i c : ℕ} {t : List ℕ} {g : Site} (o : Offers slots_layout row 
 
   -- ---- the slot is taken
 
-  pub taken_slot : (who v n j : ℕ) (x : Slot) (a : Alloc) (t₁ u : List ℕ) → j ≡ first is_ready (refill g.slots) → t₁ ≡ offered (refill g.slots)
-      → x ≡ slot_in j (drop (row_at i) t₁) → Live a ≡ grant_slot c who v n (row * i + 16 + j * slot_bytes c) x → u ≡ stored (row_at i) j (Live a) t₁
-      → (◌≡◌ {A = Block} (record { first = i; class = c; slot = j; alloc = a }) (block_of row (grant_in row c who v n g)))
-      × (u ≡ encode_by slots_layout row (pool_of (grant_in row c who v n g)))
+  pub taken_slot : (v n j : ℕ) (x : Slot) (a : Alloc) (t₁ u : List ℕ) → j ≡ first is_ready (refill g.slots) → t₁ ≡ offered (refill g.slots)
+      → x ≡ slot_in j (drop (row_at i) t₁) → Live a ≡ grant_slot c v n (row * i + 16 + j * slot_bytes c) x → u ≡ stored (row_at i) j (Live a) t₁
+      → (◌≡◌ {A = Block} (record { first = i; class = c; slot = j; alloc = a }) (block_of row (grant_in row c v n g)))
+      × (u ≡ encode_by slots_layout row (pool_of (grant_in row c v n g)))
   unfolding grant_in
-  taken_slot who v n j x a t₁ u ej e₁ ex ea eu =
-      let q : Place = grant_in row c who v n g in
-      let k : reserve.Taken row c who v n g q = reserve.grant-taken row c who v n g o.spare in
+  taken_slot v n j x a t₁ u ej e₁ ex ea eu =
+      let q : Place = grant_in row c v n g in
+      let k : reserve.Taken row c v n g q = reserve.grant-taken row c v n g o.spare in
       let fj : j ≡ slot_number q = ej ∙ sym k.number in
       let f₁ : t₁ ≡ offered (q.lower ++ (k.old ∷ q.upper)) = e₁ ∙ ap offered k.slots in
       let s : T (every (slot_sound c) (q.lower ++ (k.old ∷ q.upper))) =
@@ -105,18 +105,18 @@ module _ {row i c : ℕ} {t : List ℕ} {g : Site} (o : Offers slots_layout row 
       o.first
       ∙ read_slot row o.pos g.before c g.after o.before q.lower k.old q.upper s in
       let fb : row * i + 16 + j * slot_bytes c ≡ beginning row q =
-      ap₂ (λ r s. row * r + 16 + s * slot_bytes c) o.first fj ∙ taken_begins row i c who v n g in
-      let fa : Live a ≡ q.state = ea ∙ ap₂ (grant_slot c who v n) fb fx ∙ sym k.state in (
-        block_taken row i c who v n g j a o.first fj fa,
+      ap₂ (λ r s. row * r + 16 + s * slot_bytes c) o.first fj ∙ taken_begins row i c v n g in
+      let fa : Live a ≡ q.state = ea ∙ ap₂ (grant_slot c v n) fb fx ∙ sym k.state in (
+        block_taken row i c v n g j a o.first fj fa,
         eu ∙ ap₂ (λ m l. stored (row_at i) m (Live a) l) fj f₁
             ∙ ap₂ (λ r y. stored (row_at r) (slot_number q) y (offered (q.lower ++ (k.old ∷ q.upper)))) o.first fa
             ∙ write_slot row o.pos g.before c g.after o.before q.lower q.state k.old q.upper,
       )
 
 -- the alignment's code of a block that is granted
-pub granted_code : (c who v n b : ℕ) (x : Slot) (a : Alloc) → Live a ≡ grant_slot c who v n b x → a.align ≡ v
+pub granted_code : (c v n b : ℕ) (x : Slot) (a : Alloc) → Live a ≡ grant_slot c v n b x → a.align ≡ v
 unfolding grant_slot
-granted_code c who v n b x a e = ap align e
+granted_code c v n b x a e = ap align e
 
 -- ---- a slot is given back, or gets another size
 
@@ -138,9 +138,9 @@ module _ (row : ℕ) (t : List ℕ) (b : Block) (p : Place) (h : Holds slots_lay
   pub held_code : b.alloc.align ≤ 9
   held_code = omega (arith, ap (λ b. b.alloc.align) h.block, (code_kept p.cls p.state h.live f.state).1)
 
-  pub resized_slot : (n : ℕ) (a : Alloc) (u : List ℕ) → Live a ≡ resized p.state n → u ≡ stored (row_at b.first) b.slot (Live a) t
-      → u ≡ encode_by slots_layout row (pool_of (become p (resized p.state n)))
-  resized_slot n a u ea eu = eu ∙ ap (λ x. stored (row_at b.first) b.slot x t) ea ∙ written (resized p.state n)
+  pub resized_slot : (n : ℕ) (a : Alloc) (u : List ℕ) → Live a ≡ resized p n → u ≡ stored (row_at b.first) b.slot (Live a) t
+      → u ≡ encode_by slots_layout row (pool_of (become p (resized p n)))
+  resized_slot n a u ea eu = eu ∙ ap (λ x. stored (row_at b.first) b.slot x t) ea ∙ written (resized p n)
 
   module _ (u : List ℕ) (eu : u ≡ stored (row_at b.first) b.slot (Idle false b.alloc.count b.alloc.disp) t) where
     slots : List Slot

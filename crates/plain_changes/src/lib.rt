@@ -5,36 +5,28 @@ ghost use Rattle.mem.specs.Lists.{any, first};
 ghost use Rattle.mem.specs.Bytes.{put};
 ghost use Rattle.classes.specs.Classes.{Lawful, slot_bytes, slots_of, rows_of};
 ghost use Rattle.model.specs.declared.Slot.{Slot};
-ghost use Rattle.model.specs.State.{Place, group, is_ready, is_live, resized, pool_of, become};
+ghost use Rattle.model.specs.State.{Place, group, is_ready, is_live, pool_of, become};
 ghost use Rattle.model.specs.Plans.{Site, turn_ready, refill, grant_in, release_at};
 ghost use Rattle.model.specs.Tables.{row_at, row_record_bytes, span_records_by, encode_by, most_rows};
 ghost use Rattle.model.specs.Plain.{plain_group, slots_layout};
-ghost use Rattle.rows.specs.Rows.{block_of, Holds, Offers};
+ghost use Rattle.rows.specs.Rows.{block_of, resized, Holds, Offers};
 ghost use Rattle.plain_changes.specs.Changes.{turned};
 
 use model::{Holder, Slot};
 use rows::Block;
 
-// A slot for a queue's n bytes with an alignment, in the group of class c at row i.
+// A slot for n bytes with an alignment, in the group of class c at row i.
 // "d is the slot's count modulo (t + 1); then the count goes up by one, 255 becoming 0."
-pub fn take_slot(
-    row: usize,
-    room: &mut [u8],
-    i: usize,
-    c: usize,
-    queue: u8,
-    code: u8,
-    n: usize,
-) -> Block
+pub fn take_slot(row: usize, room: &mut [u8], i: usize, c: usize, code: u8, n: usize) -> Block
     requires offers { (g : Site) × Offers slots_layout row room.old i c g }
     requires code_bound { (code ≤ 9) × (n + 4 ≤ slot_bytes c) }
     requires lawful { Lawful row }
     ensures { (g : Site) → Offers slots_layout row room.old i c g
-        → (result ≡ block_of row (grant_in row c queue code n g)) × (room.new ≡ encode_by slots_layout row (pool_of (grant_in row c queue code n g))) }
+        → (result ≡ block_of row (grant_in row c code n g)) × (room.new ≡ encode_by slots_layout row (pool_of (grant_in row c code n g))) }
 {
     let j = ready_slot(room, i, c);
     let begin = row * i + 16 + j * (16 * classes::units(c));
-    let a = placing::grant_slot(c, queue, code, n, begin, plain_slots::slot_at(room, i, j));
+    let a = placing::grant_slot(c, code, n, begin, plain_slots::slot_at(room, i, j));
     plain_slots::store(room, i, j, Slot::Live(a));
     Block {
         first: i,
@@ -153,7 +145,7 @@ pub fn give_slot(row: usize, room: &mut [u8], b: Block) -> bool
 pub fn resize_slot(room: &mut [u8], b: Block, n: usize)
     requires { (row : ℕ) × (p : Place) × Holds slots_layout row room.old b p }
     ensures { (row : ℕ) (p : Place) → Holds slots_layout row room.old b p
-        → room.new ≡ encode_by slots_layout row (pool_of (become p (resized p.state n))) }
+        → room.new ≡ encode_by slots_layout row (pool_of (become p (resized p n))) }
 {
     let mut a = b.alloc;
     a.size = n;

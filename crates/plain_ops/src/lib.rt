@@ -4,13 +4,14 @@ mod list;
 
 ghost use Rattle.std.specs.Prelude.{◌≡◌, true, ◌<◌, length};
 ghost use Rattle.classes.specs.Classes.{Lawful};
+ghost use Rattle.classes.specs.Alignments.{Askable};
 ghost use Rattle.model.specs.State.{Place, start_of, pool_of};
-ghost use Rattle.model.specs.Plans.{site, reserve, lookup, release_at, in_place_at, move_at, Askable};
+ghost use Rattle.model.specs.Plans.{site, reserve, lookup, release_at, in_place_at, move_at};
 ghost use Rattle.model.specs.Tables.{sound_by, view_by, encode_by};
 ghost use Rattle.model.specs.Plain.{slots_layout, plain_form};
 ghost use Rattle.model.specs.Calls.{written};
 ghost use Rattle.rows.specs.Rows.{site_found, Holds};
-ghost use Rattle.frames.specs.Blocks.{located, located_for, for_queue, site_room_by, next_room_by, CarriedOutBy};
+ghost use Rattle.frames.specs.Blocks.{located, located_for, site_room_by, next_room_by, CarriedOutBy};
 ghost use Rattle.plain_ops.specs.Reserves.{reserved_as};
 
 use frames::Located;
@@ -25,25 +26,18 @@ pub enum Reserved {
 }
 
 // 02 §6: "the class and slot are those of n + align − 16"; for an ordinary block, those of n. "Larger classes are not tried."
-pub fn reserve_slot(
-    row: usize,
-    len: usize,
-    room: &mut [u8],
-    queue: u8,
-    code: u8,
-    n: usize,
-) -> Reserved
+pub fn reserve_slot(row: usize, len: usize, room: &mut [u8], code: u8, n: usize) -> Reserved
     requires room_value { sound_by slots_layout row len room.old ≡ true }
-    requires askable { Askable queue code n }
+    requires askable { Askable code n }
     requires lawful { Lawful row }
-    ensures value { result ≡ reserved_as row (reserve row (view_by slots_layout row room.old) queue code n) }
-    ensures room_after { room.new ≡ next_room_by slots_layout row room.old (reserve row (view_by slots_layout row room.old) queue code n) }
+    ensures value { result ≡ reserved_as row (reserve row (view_by slots_layout row room.old) code n) }
+    ensures room_after { room.new ≡ next_room_by slots_layout row room.old (reserve row (view_by slots_layout row room.old) code n) }
 {
     let c = classes::class_of(classes::enlarged(code, n));
     let Found::At(i) = site_for(row, len, room, c) else {
         return Reserved::NoRoom;
     };
-    Reserved::Taken(plain_changes::take_slot(row, room, i, c, queue, code, n))
+    Reserved::Taken(plain_changes::take_slot(row, room, i, c, code, n))
 }
 
 // "Of the groups of n's class with a slot not live, take the one with the lowest first row."
@@ -65,49 +59,31 @@ fn site_for(row: usize, len: usize, room: &mut [u8], c: usize) -> Found
     Found::At(i)
 }
 
-// The live block of a queue's handle, undamaged, or else why not, in the order 4, 5, 10, 12, 6, 7. 02 §7: "starts are handles with the low four bits
-// cleared". 02 §10: 12 goes first "if the number exceeds 7"
-pub fn locate(row: usize, arena: &[u8], room: &[u8], queue: usize, handle: usize) -> Located
+// The live block of a handle, undamaged, or else why not, in the order 4, 5, 10, 6, 7. 02 §7: "starts are handles with the low four bits cleared"
+pub fn locate(row: usize, arena: &[u8], room: &[u8], handle: usize) -> Located
     requires room_value { sound_by slots_layout row (length arena.now) room.now ≡ true }
     requires lawful { Lawful row }
-    ensures { result ≡ for_queue row queue
-        (located row arena.now queue handle (lookup row (view_by slots_layout row room.now) (start_of handle))) }
+    ensures { result ≡ located row arena.now handle (lookup row (view_by slots_layout row room.now) (start_of handle)) }
 {
-    if model::QUEUES <= queue {
-        return Located::Refused(Refusal::WrongQueue);
-    }
     frames::judge(
         row,
         arena,
         plain_tables::find_block(row, arena.len(), room, frames::start_in(handle)),
-        queue,
         handle,
     )
 }
 
-// The same for a block that is to have n bytes, with 3 after the number of the queue and before 4. 02 §6: "answer 3 reads the enlarged new size where the offset starts such a live
+// The same for a block that is to have n bytes, with 3 before 4. 02 §6: "answer 3 reads the enlarged new size where the offset starts such a live
 // block"; 02 §7: "whatever the bits"
-pub fn locate_for(
-    row: usize,
-    arena: &[u8],
-    room: &[u8],
-    queue: usize,
-    handle: usize,
-    n: usize,
-) -> Located
+pub fn locate_for(row: usize, arena: &[u8], room: &[u8], handle: usize, n: usize) -> Located
     requires room_value { sound_by slots_layout row (length arena.now) room.now ≡ true }
     requires lawful { Lawful row }
-    ensures { result ≡ for_queue row queue
-        (located_for row arena.now queue handle n (lookup row (view_by slots_layout row room.now) (start_of handle))) }
+    ensures { result ≡ located_for row arena.now handle n (lookup row (view_by slots_layout row room.now) (start_of handle)) }
 {
-    if model::QUEUES <= queue {
-        return Located::Refused(Refusal::WrongQueue);
-    }
     frames::judge_for(
         row,
         arena,
         plain_tables::find_block(row, arena.len(), room, frames::start_in(handle)),
-        queue,
         handle,
         n,
     )
@@ -134,7 +110,7 @@ pub fn discard(row: usize, arena: &mut [u8], room: &mut [u8], b: Block)
 pub fn resize_in_place(row: usize, arena: &mut [u8], room: &mut [u8], b: Block, n: usize) -> Reply
     requires room_value { sound_by slots_layout row (length arena.old) room.old ≡ true }
     requires holds { (p : Place) × Holds slots_layout row room.old b p }
-    requires askable { Askable b.alloc.queue b.alloc.align n }
+    requires askable { Askable b.alloc.align n }
     requires lawful { Lawful row }
     ensures { (p : Place) → Holds slots_layout row room.old b p
         → CarriedOutBy (plain_form row) arena.old (in_place_at row (pool_of p) n p) result arena.new room.new }
@@ -157,17 +133,16 @@ pub fn resize_in_place(row: usize, arena: &mut [u8], room: &mut [u8], b: Block, 
 }
 
 // "a grant of n is made while the old block is live, that many bytes are copied, then the old is released."
-// 02 §6: "Resize of an aligned block keeps the boundary"; and the block keeps its queue.
+// 02 §6: "Resize of an aligned block keeps the boundary"
 pub fn move_block(row: usize, arena: &mut [u8], room: &mut [u8], b: Block, n: usize) -> Reply
     requires room_value { sound_by slots_layout row (length arena.old) room.old ≡ true }
     requires holds { (p : Place) × Holds slots_layout row room.old b p }
-    requires askable { Askable b.alloc.queue b.alloc.align n }
+    requires askable { Askable b.alloc.align n }
     requires lawful { Lawful row }
     ensures { (p : Place) → Holds slots_layout row room.old b p
         → CarriedOutBy (plain_form row) arena.old (move_at row (pool_of p) n p) result arena.new room.new }
 {
-    let Reserved::Taken(q) = reserve_slot(row, arena.len(), room, b.alloc.queue, b.alloc.align, n)
-    else {
+    let Reserved::Taken(q) = reserve_slot(row, arena.len(), room, b.alloc.align, n) else {
         return Reply::Refused(Refusal::NoRoom);
     };
     let handle = frames::lay_out(row, arena, q);

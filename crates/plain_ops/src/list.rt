@@ -3,7 +3,7 @@ ghost use Rattle.std.specs.Prelude.{◌≡◌, true, map, ◌≤◌, ◌<◌, lt
 ghost use Rattle.mem.specs.Lists.{every, is_some};
 ghost use Rattle.mem.specs.Bytes.{put};
 ghost use Rattle.classes.specs.Classes.{Lawful, size_limit};
-ghost use Rattle.model.specs.State.{handle, queues};
+ghost use Rattle.model.specs.State.{handle};
 ghost use Rattle.model.specs.Plans.{reserve_all, reserve, enframe, pool_after};
 ghost use Rattle.model.specs.Tables.{sound_by, view_by, encode_by};
 ghost use Rattle.model.specs.Plain.{slots_layout};
@@ -14,45 +14,44 @@ ghost use Rattle.frames.specs.Grants.{granted, handle_or, next_arena};
 
 use crate::Reserved;
 
-// 02 §3: "grants its sizes in order, writes the starts to the front of a lent list, keeps its later places"; all of them are the list's queue's.
+// 02 §3: "grants its sizes in order, writes the starts to the front of a lent list, keeps its later places"
 pub fn grant_all(
     row: usize,
     arena: &mut [u8],
     room: &mut [u8],
-    queue: u8,
     sizes: &[usize],
     handles: &mut [usize],
 )
     requires room_value { sound_by slots_layout row (length arena.old) room.old ≡ true }
-    requires queue_lt_queues { (queue < queues) × (every (λ n. ltb n size_limit) sizes.now ≡ true) × (length sizes.now ≤ length handles.old) }
-    requires sizes_value { is_some (reserve_all row (view_by slots_layout row room.old) queue sizes.now) ≡ true }
+    requires sizes_value { (every (λ n. ltb n size_limit) sizes.now ≡ true) × (length sizes.now ≤ length handles.old) }
+    requires sizes_value_2 { is_some (reserve_all row (view_by slots_layout row room.old) sizes.now) ≡ true }
     requires lawful { Lawful row }
     ensures arena_after { arena.new
-        ≡ written arena.old (map (enframe row) (granted (reserve_all row (view_by slots_layout row room.old) queue sizes.now))) }
+        ≡ written arena.old (map (enframe row) (granted (reserve_all row (view_by slots_layout row room.old) sizes.now))) }
     ensures room_after { room.new ≡ encode_by slots_layout row
-        (pool_after (view_by slots_layout row room.old) (granted (reserve_all row (view_by slots_layout row room.old) queue sizes.now))) }
+        (pool_after (view_by slots_layout row room.old) (granted (reserve_all row (view_by slots_layout row room.old) sizes.now))) }
     ensures handles_after { handles.new
-        ≡ put 0 (map (handle row) (granted (reserve_all row (view_by slots_layout row room.old) queue sizes.now))) handles.old }
+        ≡ put 0 (map (handle row) (granted (reserve_all row (view_by slots_layout row room.old) sizes.now))) handles.old }
 {
     let mut i = 0;
     while i < sizes.len() {
         let n = sizes[i];
-        handles[i] = grant_one(row, arena, room, queue, n);
+        handles[i] = grant_one(row, arena, room, n);
         i += 1;
     }
 }
 
 // The handle of one block more; 0 where there is no room.
-fn grant_one(row: usize, arena: &mut [u8], room: &mut [u8], queue: u8, n: usize) -> usize
+fn grant_one(row: usize, arena: &mut [u8], room: &mut [u8], n: usize) -> usize
     requires room_value { sound_by slots_layout row (length arena.old) room.old ≡ true }
-    requires queue_lt_queues { (queue < queues) × (n < size_limit) }
+    requires n_lt_too_large { n < size_limit }
     requires lawful { Lawful row }
-    ensures value { result ≡ handle_or row (reserve row (view_by slots_layout row room.old) queue ordinary n) }
-    ensures arena_after { arena.new ≡ next_arena row arena.old (reserve row (view_by slots_layout row room.old) queue ordinary n) }
-    ensures room_after { room.new ≡ next_room_by slots_layout row room.old (reserve row (view_by slots_layout row room.old) queue ordinary n) }
+    ensures value { result ≡ handle_or row (reserve row (view_by slots_layout row room.old) ordinary n) }
+    ensures arena_after { arena.new ≡ next_arena row arena.old (reserve row (view_by slots_layout row room.old) ordinary n) }
+    ensures room_after { room.new ≡ next_room_by slots_layout row room.old (reserve row (view_by slots_layout row room.old) ordinary n) }
 {
     let len = arena.len();
-    let Reserved::Taken(b) = crate::reserve_slot(row, len, room, queue, classes::ORDINARY, n) else {
+    let Reserved::Taken(b) = crate::reserve_slot(row, len, room, classes::ORDINARY, n) else {
         return 0;
     };
     frames::lay_out(row, arena, b)

@@ -61,10 +61,6 @@ fn live_sound(c: usize, begin: usize, a: Alloc) -> bool
     if !own_class(c, classes::enlarged(a.align, a.size)) {
         return false;
     }
-    // 02 §10: "the block's record keeps the granting" queue, "and soundness demands it in range"
-    if model::QUEUES <= mem::wide(a.queue) {
-        return false;
-    }
     // 02 §6: "and demands the boundary"
     (begin + 16 * a.disp) % classes::align_of(a.align) == 0
 }

@@ -1,5 +1,5 @@
 // The second engine, 02 §8: "with a plain record per slot, walked one by one, without masks or stored totals". Here: that record, read and written.
-// It has eight bytes: the slot's condition, its use count, the displacement in two bytes, the requested size in three, its queue.
+// It has eight bytes: the slot's condition, its use count, the displacement in two bytes, the requested size in three, 0.
 // In each crate a function stands above those that it calls. Read next: plain_rules.
 ghost use Rattle.std.specs.Prelude.{◌≡◌, ◌+◌, ◌*◌, ◌≤◌, ◌<◌, length, drop};
 ghost use Rattle.mem.specs.Lists.{choose};
@@ -23,7 +23,6 @@ pub fn slot_at(room: &[u8], i: usize, j: usize) -> Slot
         room[at + model::COUNT],
         mem::get2(room, at + model::DISP),
         mem::get3(room, at + model::SIZE),
-        room[at + model::QUEUE],
     )
 }
 
@@ -36,12 +35,11 @@ pub fn slot_place(i: usize, j: usize) -> usize
 }
 
 // "For each slot also: whether it was ever granted in this group, its use count modulo 256 (grants in this group), and, once granted, the
-// displacement d in units of its last start; for a live slot the requested n." And 02 §6: "The tables keep the alignment"; 02 §10: "the block's
-// record keeps the granting" queue.
+// displacement d in units of its last start; for a live slot the requested n." And 02 §6: "The tables keep the alignment".
 // The condition is 0 if it was never granted, 1 if it is ready, 2 if it waits, and from 3 on live, with the alignment's code from 1 on.
-fn slot_of(condition: u8, count: u8, disp: usize, size: usize, queue: u8) -> Slot
+fn slot_of(condition: u8, count: u8, disp: usize, size: usize) -> Slot
     requires { (disp < 65536) × (size < 16777216) }
-    ensures value { result ≡ plain_slot condition count disp size queue }
+    ensures value { result ≡ plain_slot condition count disp size }
     ensures small { Small result }
 {
     if condition == 0 {
@@ -57,7 +55,6 @@ fn slot_of(condition: u8, count: u8, disp: usize, size: usize, queue: u8) -> Slo
         disp,
         size,
         align,
-        queue,
     })
 }
 
@@ -96,7 +93,7 @@ pub fn slot_record(x: Slot) -> [u8; 8]
             (a.size % 256) as u8,
             (a.size / 256 % 256) as u8,
             (a.size / 256 / 256 % 256) as u8,
-            a.queue,
+            0,
         ],
     }
 }

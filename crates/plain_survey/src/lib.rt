@@ -1,9 +1,9 @@
 // Whether all of a list fits, found without a change of the tables. Read next: plain_ops.
-ghost use Rattle.std.specs.Prelude.{◌≡◌, true, [], ◌∷◌, ◌++◌, ℕ, ◌/◌, ◌<◌, ltb};
+ghost use Rattle.std.specs.Prelude.{◌≡◌, true, [], ◌∷◌, ◌++◌, ℕ, ◌/◌, ltb};
 ghost use Rattle.mem.specs.Lists.{every, is_some};
 ghost use Rattle.mem.specs.Bytes.{zeros};
 ghost use Rattle.classes.specs.Classes.{Lawful, size_limit};
-ghost use Rattle.model.specs.State.{Span, Pool, rows_in, queues};
+ghost use Rattle.model.specs.State.{Span, Pool, rows_in};
 ghost use Rattle.model.specs.Plans.{reserve_all};
 ghost use Rattle.model.specs.Tables.{sound_by, view_by};
 ghost use Rattle.model.specs.Plain.{slots_layout};
@@ -13,12 +13,12 @@ ghost use Rattle.serving.specs.Walk.{Next, Noted};
 use model::Holder;
 
 // 02 §3: "answer 8 exactly if granting the accepted sizes in order would meet it". Noted are, for each class, how many slots are not live, and the
-// free rows; the sizes are then served from these notes, for every queue alike.
+// free rows; the sizes are then served from these notes.
 pub fn fits(row: usize, len: usize, room: &[u8], sizes: &[usize]) -> bool
     requires room_value { sound_by slots_layout row len room.now ≡ true }
     requires sizes_value { every (λ n. ltb n size_limit) sizes.now ≡ true }
     requires lawful { Lawful row }
-    ensures { (who : ℕ) → who < queues → result ≡ is_some (reserve_all row (view_by slots_layout row room.now) who sizes.now) }
+    ensures { result ≡ is_some (reserve_all row (view_by slots_layout row room.now) sizes.now) }
 {
     let mut spare = [0usize; 48];
     let mut gaps = [0u8; 512];

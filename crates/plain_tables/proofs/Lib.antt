@@ -1,4 +1,3 @@
 pub mod Walks
 pub mod Opens
 pub mod Blocks
-pub mod Tallies

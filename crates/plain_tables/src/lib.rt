@@ -1,7 +1,5 @@
-// Searches in sound plain tables: a group that can serve a class, and the block at an offset; then, in queues.rt, what a queue has. Groups and
-// slots are walked one by one. Read next: plain_changes.
-mod queues;
-
+// Searches in sound plain tables: a group that can serve a class, and the block at an offset. Groups and slots are walked one by one.
+// Read next: plain_changes.
 ghost use Rattle.std.specs.Prelude.{◌≡◌, true, [], ◌+◌, ◌*◌, ◌≤◌, ◌<◌, length, drop};
 ghost use Rattle.mem.specs.Bytes.{bit};
 ghost use Rattle.classes.specs.Classes.{Lawful};
@@ -13,7 +11,6 @@ ghost use Rattle.rows.specs.Rows.{class_held, site_found, looked};
 ghost use Rattle.plain_tables.specs.Found.{live_in, opens_in, is_absent, slot_looked, slots_looked, row_looked};
 
 use model::{Holder, Slot};
-pub use queues::queue_totals;
 use rows::{Block, Found, Looked};
 
 // "Of the groups of n's class with a slot not live, take the one with the lowest first row."

@@ -5,7 +5,7 @@ use Rattle.mem.proofs.Tests.{true-T, and_left, and_right}
 use Rattle.classes.specs.Classes.{row_bytes}
 use Rattle.model.specs.declared.Refusal.TheVariants.{Unsound}
 use Rattle.model.specs.declared.Totals.{Totals}
-use Rattle.model.specs.Answers.{Answer, done, refusal_of, listed}
+use Rattle.model.specs.Answers.{Answer, done, report_refusal, listed}
 use Rattle.model.specs.Plans.{reports, plan, report, totals}
 use Rattle.model.specs.Tables.{masks_layout, arena_right, sound, view}
 use Rattle.model.specs.Calls.{KeptBytes, Result, engine, sound_kept, call}
@@ -38,7 +38,7 @@ abbrev short : Answer → Type 0
 short r = length (line_text (Line.told r)) ≤ 45
 
 -- tables that are not sound: the number and six zeros
-unsound-short : short (refusal_of 6 Unsound)
+unsound-short : short (report_refusal Unsound)
 unfolding line_text field decimal decimal_in choose
 unsound-short = lit≤ tt
 

@@ -62,13 +62,11 @@ fn perform(arena: &mut [u8], room: &mut [u8], t: Totals, trace: &[u8], op: Op) -
         ≡ performed row_bytes arena.old (kept_in room.old t) (operation_of trace.now op) }
 {
     match op {
-        Op::Grant(queue, n) => tell(pool::grant(arena, room, t, queue as usize, n)),
-        Op::Release(queue, handle) => tell(pool::release(arena, room, t, queue as usize, handle)),
-        Op::ResizeInPlace(queue, handle, n) => {
-            tell(resizing::resize_in_place(arena, room, t, queue as usize, handle, n))
-        }
-        Op::Measure(queue, handle) => Played {
-            told: Said::One(pool::measure(arena, room, t, queue as usize, handle)),
+        Op::Grant(n) => tell(pool::grant(arena, room, t, n)),
+        Op::Release(handle) => tell(pool::release(arena, room, t, handle)),
+        Op::ResizeInPlace(handle, n) => tell(resizing::resize_in_place(arena, room, t, handle, n)),
+        Op::Measure(handle) => Played {
+            told: Said::One(pool::measure(arena, room, t, handle)),
             totals: t,
         },
         Op::Store { offset, from, to } => {
@@ -88,9 +86,7 @@ fn perform(arena: &mut [u8], room: &mut [u8], t: Totals, trace: &[u8], op: Op) -
             told: Said::Six(pool::report(arena, room, t)),
             totals: t,
         },
-        Op::Move(queue, handle, n) => {
-            tell(resizing::move_block(arena, room, t, queue as usize, handle, n))
-        }
+        Op::Move(handle, n) => tell(resizing::move_block(arena, room, t, handle, n)),
     }
 }
 

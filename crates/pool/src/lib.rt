@@ -1,19 +1,18 @@
 // The calls of the slot pool, over a lent arena, a lent table room and the totals in the record beside it, by value: a call that can change
 // them gives those after it back. Resize in place and move are the crate resizing's, the calls for gather lists are gather's.
 //
-// Each is a paragraph of document 01; each but set up and report is asked for by a queue (02 §10). One equation says what it answers and what it leaves of arena, room and totals, for any bytes, totals,
+// Each is a paragraph of document 01. One equation says what it answers and what it leaves of arena, room and totals, for any bytes, totals,
 // handle and size: what the model's call does on them (call, crates/model/specs/Calls.antt).
 ghost use Rattle.std.specs.Prelude.{◌≡◌, true, ◌≤◌, ◌<◌, length};
 ghost use Rattle.classes.specs.Classes.{row_bytes};
-ghost use Rattle.model.specs.Answers.{reply_answer, report_answer, queue_answer};
-ghost use Rattle.model.specs.Plans.{sets_up, grants, grants_aligned, releases, measures, reports_queue, reports, queued, grant_as};
+ghost use Rattle.model.specs.Answers.{reply_answer, report_answer};
+ghost use Rattle.model.specs.Plans.{sets_up, grants, grants_aligned, releases, measures, reports, grant_as};
 ghost use Rattle.model.specs.Tables.{room_for, view};
-ghost use Rattle.model.specs.State.{queues};
 ghost use Rattle.model.specs.Calls.{kept_in, engine, sound_kept, left, call};
 ghost use Rattle.frames.specs.Blocks.{CarriedOutBy};
 
 use frames::Located;
-use model::{Answered, QueueReport, Refusal, Reply, Report, Totals};
+use model::{Answered, Refusal, Reply, Report, Totals};
 use reserving::Reserved;
 
 // The exact size of the table room for an arena, or 0 where the arena's length is outside the rule.
@@ -52,25 +51,18 @@ pub fn set_up(arena: &mut [u8], room: &mut [u8], t: Totals) -> Answered
 }
 
 // A grant on sound tables: a slot is reserved in the tables, and its block laid out in the arena.
-fn grant_as(arena: &mut [u8], room: &mut [u8], t: Totals, queue: u8, code: u8, n: usize) -> Answered
+fn grant_as(arena: &mut [u8], room: &mut [u8], t: Totals, code: u8, n: usize) -> Answered
     requires t_value { sound_kept row_bytes (length arena.old) (kept_in room.old t) ≡ true }
-    requires le_code { (1 ≤ code) × (code ≤ 9) × (queue < queues) }
-    ensures { CarriedOutBy (engine row_bytes) arena.old (grant_as row_bytes (view row_bytes room.old) queue code n)
+    requires le_code { (1 ≤ code) × (code ≤ 9) }
+    ensures { CarriedOutBy (engine row_bytes) arena.old (grant_as row_bytes (view row_bytes room.old) code n)
         result.reply arena.new (kept_in room.new result.totals) }
 {
     if classes::too_large(code, n) {
         return totals::refused(Refusal::TooLarge, t);
     }
     let len = arena.len();
-    let Reserved::Taken(b, taken) = reserving::reserve_slot(
-        classes::ROW,
-        len,
-        room,
-        t,
-        queue,
-        code,
-        n,
-    ) else {
+    let Reserved::Taken(b, taken) = reserving::reserve_slot(classes::ROW, len, room, t, code, n)
+    else {
         return totals::refused(Refusal::NoRoom, t);
     };
     let handle = frames::lay_out(classes::ROW, arena, b);
@@ -81,17 +73,14 @@ fn grant_as(arena: &mut [u8], room: &mut [u8], t: Totals, queue: u8, code: u8, n
 }
 
 // Grant: an ordinary block.
-pub fn grant(arena: &mut [u8], room: &mut [u8], t: Totals, queue: usize, n: usize) -> Answered
+pub fn grant(arena: &mut [u8], room: &mut [u8], t: Totals, n: usize) -> Answered
     ensures { left (reply_answer result.reply) arena.new (kept_in room.new result.totals)
-        ≡ call row_bytes arena.old (kept_in room.old t) (queued queue (grants n)) }
+        ≡ call row_bytes arena.old (kept_in room.old t) (grants n) }
 {
     if !soundness::sound(classes::ROW, arena.len(), room, t) {
         return totals::refused(Refusal::Unsound, t);
     }
-    if model::QUEUES <= queue {
-        return totals::refused(Refusal::WrongQueue, t);
-    }
-    grant_as(arena, room, t, queue as u8, classes::ORDINARY, n)
+    grant_as(arena, room, t, classes::ORDINARY, n)
 }
 
 // Grant aligned: a block whose start is on a boundary of 32 to 4,096 bytes; with an alignment up to 16, an ordinary one.
@@ -99,41 +88,31 @@ pub fn grant_aligned(
     arena: &mut [u8],
     room: &mut [u8],
     t: Totals,
-    queue: usize,
     n: usize,
     align: usize,
 ) -> Answered
     ensures { left (reply_answer result.reply) arena.new (kept_in room.new result.totals)
-        ≡ call row_bytes arena.old (kept_in room.old t) (queued queue (grants_aligned n align)) }
+        ≡ call row_bytes arena.old (kept_in room.old t) (grants_aligned n align) }
 {
     if !soundness::sound(classes::ROW, arena.len(), room, t) {
         return totals::refused(Refusal::Unsound, t);
-    }
-    if model::QUEUES <= queue {
-        return totals::refused(Refusal::WrongQueue, t);
     }
     let code = classes::code_of(align);
     if code == 0 {
         return totals::refused(Refusal::BadAlignment, t);
     }
-    grant_as(arena, room, t, queue as u8, code, n)
+    grant_as(arena, room, t, code, n)
 }
 
 // Release: the slot waits and its bytes become zero, or the group goes with its last live slot.
-pub fn release(
-    arena: &mut [u8],
-    room: &mut [u8],
-    t: Totals,
-    queue: usize,
-    handle: usize,
-) -> Answered
+pub fn release(arena: &mut [u8], room: &mut [u8], t: Totals, handle: usize) -> Answered
     ensures { left (reply_answer result.reply) arena.new (kept_in room.new result.totals)
-        ≡ call row_bytes arena.old (kept_in room.old t) (queued queue (releases handle)) }
+        ≡ call row_bytes arena.old (kept_in room.old t) (releases handle) }
 {
     if !soundness::sound(classes::ROW, arena.len(), room, t) {
         return totals::refused(Refusal::Unsound, t);
     }
-    match ops::locate(classes::ROW, arena, room, queue, handle) {
+    match ops::locate(classes::ROW, arena, room, handle) {
         Located::At(b) => {
             let left = ops::discard(classes::ROW, arena, room, t, b);
             Answered {
@@ -146,14 +125,14 @@ pub fn release(
 }
 
 // Measure: the requested size.
-pub fn measure(arena: &[u8], room: &[u8], t: Totals, queue: usize, handle: usize) -> Reply
+pub fn measure(arena: &[u8], room: &[u8], t: Totals, handle: usize) -> Reply
     ensures { left (reply_answer result) arena.now (kept_in room.now t)
-        ≡ call row_bytes arena.now (kept_in room.now t) (queued queue (measures handle)) }
+        ≡ call row_bytes arena.now (kept_in room.now t) (measures handle) }
 {
     if !soundness::sound(classes::ROW, arena.len(), room, t) {
         return Reply::Refused(Refusal::Unsound);
     }
-    match ops::locate(classes::ROW, arena, room, queue, handle) {
+    match ops::locate(classes::ROW, arena, room, handle) {
         Located::At(b) => Reply::Done(b.alloc.size),
         Located::Refused(r) => Reply::Refused(r),
     }
@@ -168,19 +147,4 @@ pub fn report(arena: &[u8], room: &[u8], t: Totals) -> Report
         return Report::Refused(Refusal::Unsound);
     }
     Report::Counted(t)
-}
-
-// A queue's report: its live blocks and their requested bytes, counted from the tables.
-pub fn report_queue(arena: &[u8], room: &[u8], t: Totals, queue: usize) -> QueueReport
-    ensures { left (queue_answer result) arena.now (kept_in room.now t)
-        ≡ call row_bytes arena.now (kept_in room.now t) (queued queue reports_queue) }
-{
-    let len = arena.len();
-    if !soundness::sound(classes::ROW, len, room, t) {
-        return QueueReport::Refused(Refusal::Unsound);
-    }
-    if model::QUEUES <= queue {
-        return QueueReport::Refused(Refusal::WrongQueue);
-    }
-    QueueReport::Counted(queues::count(classes::ROW, len, room, queue))
 }

@@ -51,7 +51,6 @@ pub fn slot_at(room: &[u8], i: usize, m: Masks, j: u32) -> Slot
         disp: mem::get2(room, at + model::DISP),
         size: mem::get3(room, at + model::SIZE),
         align: room[at + model::KIND],
-        queue: room[at + model::QUEUE],
     })
 }
 
@@ -83,7 +82,7 @@ fn slot_record(x: Slot) -> [u8; 8]
             (a.size % 256) as u8,
             (a.size / 256 % 256) as u8,
             (a.size / 256 / 256 % 256) as u8,
-            a.queue,
+            0,
         ],
     }
 }

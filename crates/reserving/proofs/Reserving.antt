@@ -4,12 +4,12 @@ use Rattle.mem.proofs.Prelude.{replicate}
 use Rattle.mem.specs.Lists.{any}
 use Rattle.mem.specs.Bytes.{put}
 use Rattle.classes.specs.Classes.{class_of, slots_of, rows_of}
-use Rattle.classes.specs.Alignments.{enlarged}
+use Rattle.classes.specs.Alignments.{enlarged, Askable}
 use Rattle.classes.proofs.Laws.{slots_small}
 use Rattle.model.specs.declared.Slot.TheVariants.{Fresh}
 use Rattle.model.specs.declared.Totals.{Totals}
 use Rattle.model.specs.State.{group, is_live, pool_of, rows}
-use Rattle.model.specs.Plans.{Site, open_from, run_from, site_or, site, reserve_in, reserve, grant_in, totals, Askable}
+use Rattle.model.specs.Plans.{Site, open_from, run_from, site_or, site, reserve_in, reserve, grant_in, totals}
 use Rattle.model.specs.Tables.{row_at, masks_layout, encode, view, span_records}
 use Rattle.model.proofs.Reserve.{open_found, New, run_found_lem, reserve_formed}
 use Rattle.model.proofs.Counts.{totals_few}
@@ -93,31 +93,31 @@ site_offers {row} {len} {t} r c i s u h l e eu =
 
 -- ---- what is reserved, by the site of the size's class
 
-module _ (row : ℕ) (t : List ℕ) (who v n c : ℕ) (class : c ≡ class_of (enlarged v n)) where
-  reserve-site : reserve row (view row t) who v n ≡ reserve_in row c who v n (site row (view row t) c)
+module _ (row : ℕ) (t : List ℕ) (v n c : ℕ) (class : c ≡ class_of (enlarged v n)) where
+  reserve-site : reserve row (view row t) v n ≡ reserve_in row c v n (site row (view row t) c)
   unfolding reserve
-  reserve-site = ap (λ c. reserve_in row c who v n (site row (view row t) c)) (sym class)
+  reserve-site = ap (λ c. reserve_in row c v n (site row (view row t) c)) (sym class)
 
   pub reserved_nothing : (u : List ℕ) → Nowhere ≡ opened row c (site row (view row t) c) → u ≡ site_room row c t (site row (view row t) c)
-      → (NoRoom ≡ reserved_as row (reserve row (view row t) who v n)) × (u ≡ next_room row t (reserve row (view row t) who v n))
+      → (NoRoom ≡ reserved_as row (reserve row (view row t) v n)) × (u ≡ next_room row t (reserve row (view row t) v n))
   reserved_nothing u e eu =
       let s : site row (view row t) c ≡ none = opened_nowhere row c (site row (view row t) c) (sym e) in
-      let q : reserve row (view row t) who v n ≡ none = reserve-site ∙ ap (reserve_in row c who v n) s in
+      let q : reserve row (view row t) v n ≡ none = reserve-site ∙ ap (reserve_in row c v n) s in
       (ap (reserved_as row) (sym q), eu ∙ ap (site_room row c t) s ∙ ap (next_room row t) (sym q))
 
   module _ (g : Site) (s : site row (view row t) c ≡ some g) where
-    served : reserve row (view row t) who v n ≡ some (grant_in row c who v n g)
-    served = reserve-site ∙ ap (reserve_in row c who v n) s
+    served : reserve row (view row t) v n ≡ some (grant_in row c v n g)
+    served = reserve-site ∙ ap (reserve_in row c v n) s
 
     -- what the taken slot does to the totals
-    pub reserved_counts : {len : ℕ} → Lent masks_layout row len t → Askable who v n → T (any (λ x. not (is_live x)) g.slots)
-        → Takes n (refills g.slots) (totals row (g.before ++ (group c g.slots ∷ g.after))) (totals row (pool_of (grant_in row c who v n g)))
-        × Small (totals row (pool_of (grant_in row c who v n g)))
+    pub reserved_counts : {len : ℕ} → Lent masks_layout row len t → Askable v n → T (any (λ x. not (is_live x)) g.slots)
+        → Takes n (refills g.slots) (totals row (g.before ++ (group c g.slots ∷ g.after))) (totals row (pool_of (grant_in row c v n g)))
+        × Small (totals row (pool_of (grant_in row c v n g)))
     reserved_counts r h spare =
-        let w = reserve_formed row (view row t) who v n (grant_in row c who v n g) (facts r).formed h served in
-        (taken-totals row c who v n g spare, totals-small row r.pos (pool_of (grant_in row c who v n g)) w.formed (omega (arith, w.long, few_rows r)))
+        let w = reserve_formed row (view row t) v n (grant_in row c v n g) (facts r).formed h served in
+        (taken-totals row c v n g spare, totals-small row r.pos (pool_of (grant_in row c v n g)) w.formed (omega (arith, w.long, few_rows r)))
 
-    pub reserved_slot : (b : Block) (u : List ℕ) (z : Totals) → b ≡ block_of row (grant_in row c who v n g) → u ≡ encode row (pool_of (grant_in row c who v n g))
-        → z ≡ totals row (pool_of (grant_in row c who v n g))
-        → (Taken b z ≡ reserved_as row (reserve row (view row t) who v n)) × (u ≡ next_room row t (reserve row (view row t) who v n))
+    pub reserved_slot : (b : Block) (u : List ℕ) (z : Totals) → b ≡ block_of row (grant_in row c v n g) → u ≡ encode row (pool_of (grant_in row c v n g))
+        → z ≡ totals row (pool_of (grant_in row c v n g))
+        → (Taken b z ≡ reserved_as row (reserve row (view row t) v n)) × (u ≡ next_room row t (reserve row (view row t) v n))
     reserved_slot b u z eb eu ez = (ap₂ {C = Reserved} Taken eb ez ∙ ap (reserved_as row) (sym served), eu ∙ ap (next_room row t) (sym served))

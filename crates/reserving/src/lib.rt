@@ -2,8 +2,8 @@
 // lent, and gives the totals of those that it leaves.
 ghost use Rattle.std.specs.Prelude.{◌≡◌, true, ◌<◌};
 ghost use Rattle.classes.specs.Classes.{Lawful, class_of};
-ghost use Rattle.classes.specs.Alignments.{enlarged};
-ghost use Rattle.model.specs.Plans.{site, reserve, totals, Askable};
+ghost use Rattle.classes.specs.Alignments.{enlarged, Askable};
+ghost use Rattle.model.specs.Plans.{site, reserve, totals};
 ghost use Rattle.model.specs.Tables.{masks_layout, sound, view};
 ghost use Rattle.rows.specs.Rows.{NoneOpen};
 ghost use Rattle.reserving.specs.Reserves.{opened, site_room, reserved_as, next_room};
@@ -44,50 +44,48 @@ fn site_for(row: usize, len: usize, room: &mut [u8], t: Totals, c: usize, from: 
     Opened::In(i, totals::made(t, classes::rows(row, c), classes::slots(c)))
 }
 
-// Reserves a slot for a queue's n bytes with an alignment, c being the class of the enlarged size. No group of the class before row `from` serves.
+// Reserves a slot for n bytes with an alignment, c being the class of the enlarged size. No group of the class before row `from` serves.
 pub fn reserve_in(
     row: usize,
     len: usize,
     room: &mut [u8],
     t: Totals,
     c: usize,
-    queue: u8,
     code: u8,
     n: usize,
     from: usize,
 ) -> Reserved
     requires room_value { sound row len room.old ≡ true }
-    requires askable { Askable queue code n }
+    requires askable { Askable code n }
     requires c_value { (c ≡ class_of (enlarged code n)) × (c < 48) × NoneOpen masks_layout row room.old c from × (t ≡ totals row (view row room.old)) }
     requires lawful { Lawful row }
-    ensures value { result ≡ reserved_as row (reserve row (view row room.old) queue code n) }
-    ensures room_after { room.new ≡ next_room row room.old (reserve row (view row room.old) queue code n) }
+    ensures value { result ≡ reserved_as row (reserve row (view row room.old) code n) }
+    ensures room_after { room.new ≡ next_room row room.old (reserve row (view row room.old) code n) }
 {
     let Opened::In(i, s) = site_for(row, len, room, t, c, from) else {
         return Reserved::NoRoom;
     };
-    let taken = changes::take_slot(row, room, i, c, queue, code, n);
+    let taken = changes::take_slot(row, room, i, c, code, n);
     let block = taken.block;
     Reserved::Taken(block, totals::taken(s, n, taken.refilled))
 }
 
-// Reserves a slot for a queue's n bytes with an alignment.
+// Reserves a slot for n bytes with an alignment.
 pub fn reserve_slot(
     row: usize,
     len: usize,
     room: &mut [u8],
     t: Totals,
-    queue: u8,
     code: u8,
     n: usize,
 ) -> Reserved
     requires room_value { sound row len room.old ≡ true }
-    requires askable { Askable queue code n }
+    requires askable { Askable code n }
     requires t_value { t ≡ totals row (view row room.old) }
     requires lawful { Lawful row }
-    ensures value { result ≡ reserved_as row (reserve row (view row room.old) queue code n) }
-    ensures room_after { room.new ≡ next_room row room.old (reserve row (view row room.old) queue code n) }
+    ensures value { result ≡ reserved_as row (reserve row (view row room.old) code n) }
+    ensures room_after { room.new ≡ next_room row room.old (reserve row (view row room.old) code n) }
 {
     let c = classes::class_of(classes::enlarged(code, n));
-    reserve_in(row, len, room, t, c, queue, code, n, 0)
+    reserve_in(row, len, room, t, c, code, n, 0)
 }

@@ -3,7 +3,7 @@
 ghost use Rattle.std.specs.Prelude.{◌≡◌};
 ghost use Rattle.classes.specs.Classes.{row_bytes};
 ghost use Rattle.model.specs.Answers.{reply_answer};
-ghost use Rattle.model.specs.Plans.{resizes_in_place, moves, queued};
+ghost use Rattle.model.specs.Plans.{resizes_in_place, moves};
 ghost use Rattle.model.specs.Calls.{kept_in, left, call};
 
 use frames::Located;
@@ -14,38 +14,30 @@ pub fn resize_in_place(
     arena: &mut [u8],
     room: &mut [u8],
     t: Totals,
-    queue: usize,
     handle: usize,
     n: usize,
 ) -> Answered
     ensures { left (reply_answer result.reply) arena.new (kept_in room.new result.totals)
-        ≡ call row_bytes arena.old (kept_in room.old t) (queued queue (resizes_in_place handle n)) }
+        ≡ call row_bytes arena.old (kept_in room.old t) (resizes_in_place handle n) }
 {
     if !soundness::sound(classes::ROW, arena.len(), room, t) {
         return totals::refused(Refusal::Unsound, t);
     }
-    match ops::locate_for(classes::ROW, arena, room, queue, handle, n) {
+    match ops::locate_for(classes::ROW, arena, room, handle, n) {
         Located::At(b) => ops::resize_in_place(classes::ROW, arena, room, t, b, n),
         Located::Refused(r) => totals::refused(r, t),
     }
 }
 
 // Move: always to another place, also where the block's slot serves the new size.
-pub fn move_block(
-    arena: &mut [u8],
-    room: &mut [u8],
-    t: Totals,
-    queue: usize,
-    handle: usize,
-    n: usize,
-) -> Answered
+pub fn move_block(arena: &mut [u8], room: &mut [u8], t: Totals, handle: usize, n: usize) -> Answered
     ensures { left (reply_answer result.reply) arena.new (kept_in room.new result.totals)
-        ≡ call row_bytes arena.old (kept_in room.old t) (queued queue (moves handle n)) }
+        ≡ call row_bytes arena.old (kept_in room.old t) (moves handle n) }
 {
     if !soundness::sound(classes::ROW, arena.len(), room, t) {
         return totals::refused(Refusal::Unsound, t);
     }
-    match ops::locate_for(classes::ROW, arena, room, queue, handle, n) {
+    match ops::locate_for(classes::ROW, arena, room, handle, n) {
         Located::At(b) => ops::move_block(classes::ROW, arena, room, t, b, n),
         Located::Refused(r) => totals::refused(r, t),
     }

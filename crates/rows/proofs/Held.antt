@@ -4,14 +4,14 @@ use Rattle.classes.specs.Classes.{slot_bytes, rows_of}
 use Rattle.classes.proofs.Laws.{slots_small, rows_pos}
 use Rattle.model.specs.declared.Alloc.{Alloc}
 use Rattle.model.specs.declared.Slot.TheVariants.{Live}
-use Rattle.model.specs.State.{Place, group, pool_of, slot_number, rows, beginning}
+use Rattle.model.specs.State.{Place, group, count, disp, size, align, pool_of, slot_number, rows, beginning}
 use Rattle.model.specs.Tables.{Layout, row_at, room_bytes, row_record_bytes}
 use Rattle.model.specs.Plans.{Site, grant_in}
 use Rattle.model.proofs.Tables.{encode-length}
 use Rattle.model.proofs.Rooms.{rows_append}
 use Rattle.model.proofs.Lookup.{Fits, fits}
 use Rattle.rows.specs.declared.Block.{Block}
-use Rattle.rows.specs.Rows.{alloc_of, block_of, Holds, Offers}
+use Rattle.rows.specs.Rows.{block_of, Holds, Offers}
 
 module _ {L : Layout} (row : ℕ) (t : List ℕ) (b : Block) (p : Place) (h : Holds L row t b p) where
   pub held_fits : Fits p
@@ -50,21 +50,21 @@ offered_inside row t i c g o = let k = rows_pos row c o.pos in (omega (arith, o.
 
 -- ---- the block of a slot that is taken
 
-module _ (row i c who v n : ℕ) (g : Site) where
+module _ (row i c v n : ℕ) (g : Site) where
   -- where it begins
-  pub taken_begins : row * rows row g.before + 16 + slot_number (grant_in row c who v n g) * slot_bytes c ≡ beginning row (grant_in row c who v n g)
+  pub taken_begins : row * rows row g.before + 16 + slot_number (grant_in row c v n g) * slot_bytes c ≡ beginning row (grant_in row c v n g)
   unfolding grant_in
   taken_begins = refl
 
-  pub block_taken : (j : ℕ) (a : Alloc) → i ≡ rows row g.before → j ≡ slot_number (grant_in row c who v n g) → Live a ≡ (grant_in row c who v n g).state
-      → ◌≡◌ {A = Block} (record { first = i; class = c; slot = j; alloc = a }) (block_of row (grant_in row c who v n g))
+  pub block_taken : (j : ℕ) (a : Alloc) → i ≡ rows row g.before → j ≡ slot_number (grant_in row c v n g) → Live a ≡ (grant_in row c v n g).state
+      → ◌≡◌ {A = Block} (record { first = i; class = c; slot = j; alloc = a }) (block_of row (grant_in row c v n g))
   unfolding grant_in
   block_taken j a f k e =
-      let z : Place = grant_in row c who v n g in
+      let z : Place = grant_in row c v n g in
       ap₂ {C = Block} (λ f k. record { first = f; class = c; slot = k; alloc = a }) f k
       ∙ ap {B = Block} (λ x. record {
         first = rows row g.before;
         class = c;
         slot = slot_number z;
-        alloc = alloc_of x;
+        alloc = record { count = count x; disp = disp x; size = size x; align = align x };
       }) e

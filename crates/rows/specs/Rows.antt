@@ -5,9 +5,9 @@ use Rattle.mem.specs.Lists.{choose, every, any}
 use Rattle.classes.specs.Classes.{slot_bytes, slots_of, rows_of}
 use Rattle.model.specs.declared.Holder.{Holder}
 use Rattle.model.specs.declared.Holder.TheVariants.{Free, First, Later}
-use Rattle.model.specs.declared.Alloc.{Alloc}
 use Rattle.model.specs.declared.Slot.{Slot}
-use Rattle.model.specs.State.{Pool, Place, group, is_live, count, disp, size, align, queue, slot_sound, well_formed, use_bits, pool_of, slot_number, rows}
+use Rattle.model.specs.declared.Slot.TheVariants.{Live}
+use Rattle.model.specs.State.{Pool, Place, group, is_live, count, disp, size, align, slot_sound, well_formed, use_bits, pool_of, slot_number, rows}
 use Rattle.model.specs.Plans.{Site, open_from}
 use Rattle.model.specs.Tables.{Layout, LayoutLaws, row_at, arena_right, encode_by, view_by, sound_by, most_rows}
 use Rattle.rows.specs.declared.Found.{Found}
@@ -45,10 +45,6 @@ first_of i Free = Nothing
 first_of i (First c) = At i
 first_of i (Later k) = At (i - k)
 
--- what the tables know of a live slot's block
-abbrev pub alloc_of : Slot → Alloc
-alloc_of x = record { count = count x; disp = disp x; size = size x; align = align x; queue = queue x }
-
 module _ (row : ℕ) where
   -- the rows of the span that a row begins
   abbrev pub rows_held : Holder → ℕ
@@ -73,7 +69,7 @@ module _ (row : ℕ) where
     first = rows row p.before;
     class = p.cls;
     slot = slot_number p;
-    alloc = alloc_of p.state;
+    alloc = record { count = count p.state; disp = disp p.state; size = size p.state; align = align p.state };
   }
 
   -- what is looked up, as the code has it
@@ -89,6 +85,10 @@ module _ (row : ℕ) where
 
   abbrev pub handle_at : Block → ℕ
   handle_at b = start_at b + use_bits b.alloc.count
+
+-- a live slot with another size
+abbrev pub resized : Place → ℕ → Slot
+resized p n = Live (record { count = count p.state; disp = disp p.state; size = n; align = align p.state })
 
 -- the spans of the first i rows, which do not matter: what is looked for, behind what was passed by, is in what is left
 pub record Passed {A : Type 0} (L : Layout) (row : ℕ) (t : List ℕ) (f : Pool → Pool → A) (i : ℕ) : Type 0 where

@@ -13,7 +13,7 @@ use Rattle.classes.specs.Alignments.{ordinary}
 use Rattle.classes.proofs.Laws.{class_facts, rows_pos}
 use Rattle.model.specs.declared.Slot.{Slot}
 use Rattle.model.specs.declared.Slot.TheVariants.{Fresh, Idle, Live}
-use Rattle.model.specs.State.{Span, queues, Pool, Place, free, group, is_live, is_ready, well_formed, pool_of, rows, beginning}
+use Rattle.model.specs.State.{Span, Pool, Place, free, group, is_live, is_ready, well_formed, pool_of, rows, beginning}
 use Rattle.model.specs.Plans.{Site, slots_in, opens, open_from, run, turn_ready, refill, grant_slot, grant_in, run_from, site_or, site, reserve_in, reserve, fresh_pool}
 use Rattle.model.proofs.Rooms.{rows_append}
 use Rattle.model.proofs.Reserve.{plain, Open, open_found, New, run_found_lem, ground, Taken, grant-taken, reserve_formed}
@@ -58,14 +58,14 @@ spare_ready Fresh t = refl
 spare_ready (Idle r k d) t = refl
 spare_ready (Live a) t = absurd t
 
-spare-granted : (c who k n b : ℕ) (x : Slot) → spare (grant_slot c who k n b x) ≡ 0
+spare-granted : (c k n b : ℕ) (x : Slot) → spare (grant_slot c k n b x) ≡ 0
 unfolding grant_slot
-spare-granted c who k n b x = refl
+spare-granted c k n b x = refl
 
 -- a slot that is taken is one less
-spare-taken : (row c who k n : ℕ) (s : Site) (q : Place) → Taken row c who k n s q → sum spare (q.lower ++ (q.state ∷ q.upper)) + 1 ≡ sum spare s.slots
-spare-taken row c who v n s q k =
-    let a : spare q.state ≡ 0 = ap spare k.state ∙ spare-granted c who v n (beginning row q) k.old in
+spare-taken : (row c k n : ℕ) (s : Site) (q : Place) → Taken row c k n s q → sum spare (q.lower ++ (q.state ∷ q.upper)) + 1 ≡ sum spare s.slots
+spare-taken row c v n s q k =
+    let a : spare q.state ≡ 0 = ap spare k.state ∙ spare-granted c v n (beginning row q) k.old in
     let b : sum spare (refill s.slots) ≡ sum spare (q.lower ++ (k.old ∷ q.upper)) = ap (sum spare) k.slots in
     omega (
       arith,
@@ -254,30 +254,30 @@ one_less true m n e = e
 one_less false m n e = refl
 
 -- the pool that a grant makes at a site
-module _ (row c who n : ℕ) (s : Site) (t : T (any (λ x. not (is_live x)) s.slots)) where
-  slots-taken : (k : ℕ) → open_slots k (pool_of (grant_in row c who ordinary n s)) + bit (eqb k c)
+module _ (row c n : ℕ) (s : Site) (t : T (any (λ x. not (is_live x)) s.slots)) where
+  slots-taken : (k : ℕ) → open_slots k (pool_of (grant_in row c ordinary n s)) + bit (eqb k c)
       ≡ open_slots k s.before + (choose (eqb k c) (sum spare s.slots) 0 + open_slots k s.after)
   unfolding grant_in
   slots-taken k =
-      let q : Place = grant_in row c who ordinary n s in
+      let q : Place = grant_in row c ordinary n s in
       let ss : List Slot = q.lower ++ (q.state ∷ q.upper) in
-      let l : sum spare ss + 1 ≡ sum spare s.slots = spare-taken row c who ordinary n s q (grant-taken row c who ordinary n s t) in
+      let l : sum spare ss + 1 ≡ sum spare s.slots = spare-taken row c ordinary n s q (grant-taken row c ordinary n s t) in
       omega (arith, slots_around k s.before c ss s.after, one_less (eqb k c) (sum spare ss) (sum spare s.slots) l)
 
-  map-taken : map_of row (pool_of (grant_in row c who ordinary n s)) ≡ map_of row s.before ++ (zeros (rows_of row c) ++ map_of row s.after)
+  map-taken : map_of row (pool_of (grant_in row c ordinary n s)) ≡ map_of row s.before ++ (zeros (rows_of row c) ++ map_of row s.after)
   unfolding grant_in
   map-taken =
-      let q : Place = grant_in row c who ordinary n s in
+      let q : Place = grant_in row c ordinary n s in
       map_around row s.before c (q.lower ++ (q.state ∷ q.upper)) s.after
 
-module _ (row : ℕ) (P : Pool) (who n c : ℕ) (class : c ≡ class_of n) where
-  reserve-site : reserve row P who ordinary n ≡ reserve_in row c who ordinary n (site row P c)
+module _ (row : ℕ) (P : Pool) (n c : ℕ) (class : c ≡ class_of n) where
+  reserve-site : reserve row P ordinary n ≡ reserve_in row c ordinary n (site row P c)
   unfolding reserve
-  reserve-site = ap (λ k. reserve_in row k who ordinary n (site row P k)) (sym class)
+  reserve-site = ap (λ k. reserve_in row k ordinary n (site row P k)) (sym class)
 
   -- a slot of a group that is there
   pub record FromOpen (q : Place) : Type 0 where
-    pub found : reserve row P who ordinary n ≡ some q
+    pub found : reserve row P ordinary n ≡ some q
     pub slots : (k : ℕ) → open_slots k (pool_of q) + bit (eqb k c) ≡ open_slots k P
     pub gaps : map_of row (pool_of q) ≡ map_of row P
 
@@ -286,17 +286,17 @@ module _ (row : ℕ) (P : Pool) (who n c : ℕ) (class : c ≡ class_of n) where
   from_open h =
       let (s, e) = open_there c [] P h in
       let o : Open P c s = open_found [] P c s e in (
-        grant_in row c who ordinary n s,
+        grant_in row c ordinary n s,
         record {
-          found = reserve-site ∙ ap (λ o. reserve_in row c who ordinary n (site_or o (run_from row [] c P))) e;
-          slots = λ k. slots-taken row c who n s o.room k ∙ sym (slots_around k s.before c s.slots s.after) ∙ ap (open_slots k) (sym o.split);
-          gaps = map-taken row c who n s o.room ∙ sym (map_around row s.before c s.slots s.after) ∙ ap (map_of row) (sym o.split);
+          found = reserve-site ∙ ap (λ o. reserve_in row c ordinary n (site_or o (run_from row [] c P))) e;
+          slots = λ k. slots-taken row c n s o.room k ∙ sym (slots_around k s.before c s.slots s.after) ∙ ap (open_slots k) (sym o.split);
+          gaps = map-taken row c n s o.room ∙ sym (map_around row s.before c s.slots s.after) ∙ ap (map_of row) (sym o.split);
         },
       )
 
   -- the first slot of a new group
   pub record FromNew (r : ℕ) (q : Place) : Type 0 where
-    pub found : reserve row P who ordinary n ≡ some q
+    pub found : reserve row P ordinary n ≡ some q
     pub own : open_slots c (pool_of q) ≡ slots_of c - 1
     pub others : (k : ℕ) → (k ≡ c → ⊥) → open_slots k (pool_of q) ≡ open_slots k P
     pub gaps : map_of row (pool_of q) ≡ put r (zeros (rows_of row c)) (map_of row P)
@@ -317,16 +317,16 @@ module _ (row : ℕ) (P : Pool) (who n c : ℕ) (class : c ≡ class_of n) where
         let d : (k : ℕ) → open_slots k P ≡ open_slots k s.before + open_slots k s.after =
         λ k. ap (open_slots k) m.split ∙ slots_apart k s.before (rows_of row c) s.after in
         let b : eqb c c ≡ true = eq-eqb c c refl in (
-          grant_in row c who ordinary n s,
+          grant_in row c ordinary n s,
           record {
-            found = reserve-site ∙ ap (reserve_in row c who ordinary n) i;
-            own = omega (arith, slots-taken row c who n s t c, ap bit b, choose-true (eqb c c) (sum spare s.slots) 0 b, l, d c, shut);
+            found = reserve-site ∙ ap (reserve_in row c ordinary n) i;
+            own = omega (arith, slots-taken row c n s t c, ap bit b, choose-true (eqb c c) (sum spare s.slots) 0 b, l, d c, shut);
             others =
                 λ k no.
                 let a : eqb k c ≡ false = ne_eqb k c no in
-                omega (arith, slots-taken row c who n s t k, ap bit a, choose-false (eqb k c) (sum spare s.slots) 0 a, d k);
+                omega (arith, slots-taken row c n s t k, ap bit a, choose-false (eqb k c) (sum spare s.slots) 0 a, d k);
             gaps =
-                map-taken row c who n s t
+                map-taken row c n s t
                 ∙ sym (ap (put r (zeros (rows_of row c))) (ap (map_of row) m.split ∙ map_apart row s.before (rows_of row c) s.after)
                 ∙ put_at r (map_of row s.before) (replicate (rows_of row c) 1) (zeros (rows_of row c)) (map_of row s.after)
                 (map-length row s.before ∙ h) (zeros-length (rows_of row c) ∙ sym (length-replicate {A = ℕ} (rows_of row c) 1)));
@@ -334,12 +334,12 @@ module _ (row : ℕ) (P : Pool) (who n c : ℕ) (class : c ≡ class_of n) where
           },
         )
 
-    pub from_none : lowest_run (rows_of row c) 0 (map_of row P) ≡ none → reserve row P who ordinary n ≡ none
-    from_none e = reserve-site ∙ ap (reserve_in row c who ordinary n) (site-run ∙ none-run row pos c P e)
+    pub from_none : lowest_run (rows_of row c) 0 (map_of row P) ≡ none → reserve row P ordinary n ≡ none
+    from_none e = reserve-site ∙ ap (reserve_in row c ordinary n) (site-run ∙ none-run row pos c P e)
 
 -- ---- what counts and a map tell after a grant
 
-module _ (row : ℕ) (P : Pool) (who n c : ℕ) (os m : List ℕ) (t : NotesOf row P os m) (b : who < queues) (class : c ≡ class_of n) (small : n < size_limit) where
+module _ (row : ℕ) (P : Pool) (n c : ℕ) (os m : List ℕ) (t : NotesOf row P os m) (class : c ≡ class_of n) (small : n < size_limit) where
   inside_counts : c < length os
   inside_counts = omega (arith, t.classes, (class_facts n small).inside)
 
@@ -347,10 +347,10 @@ module _ (row : ℕ) (P : Pool) (who n c : ℕ) (os m : List ℕ) (t : NotesOf r
   own_count = t.counts c (omega (arith, (class_facts n small).inside))
 
   -- a grant after which class c has v open slots, and the others as many as before
-  granted : (q : Place) (v : ℕ) (l : List ℕ) → reserve row P who ordinary n ≡ some q → open_slots c (pool_of q) ≡ v
-      → ((k : ℕ) → (k ≡ c → ⊥) → open_slots k (pool_of q) ≡ open_slots k P) → l ≡ map_of row (pool_of q) → Serves row P who n true (set os c v) l
+  granted : (q : Place) (v : ℕ) (l : List ℕ) → reserve row P ordinary n ≡ some q → open_slots c (pool_of q) ≡ v
+      → ((k : ℕ) → (k ≡ c → ⊥) → open_slots k (pool_of q) ≡ open_slots k P) → l ≡ map_of row (pool_of q) → Serves row P n true (set os c v) l
   granted q v l e own others kept =
-      let f = reserve_formed row P who ordinary n q t.formed (plain b small) e in
+      let f = reserve_formed row P ordinary n q t.formed (plain small) e in
       let told : NotesOf row (pool_of q) (set os c v) l =
       record {
         formed = f.formed;
@@ -372,22 +372,22 @@ module _ (row : ℕ) (P : Pool) (who n c : ℕ) (os m : List ℕ) (t : NotesOf r
           let i : k ≡ c → ⊥ = eqb-false k c g in
           get_or-set_other os c k v 0 i ∙ t.counts k h ∙ sym (others k i)
 
-  pub serves_open : 0 < get_or os c 0 → Serves row P who n true (set os c (get_or os c 0 - 1)) m
+  pub serves_open : 0 < get_or os c 0 → Serves row P n true (set os c (get_or os c 0 - 1)) m
   serves_open h =
-      let (q, f) = from_open row P who n c class (omega (arith, own_count)) in
-      let o : eqb c c ≡ true = eq-eqb c c refl in
-      granted q (get_or os c 0 - 1) m f.found (omega (arith, f.slots c, ap bit o, own_count))
+      let (q, f) = from_open row P n c class (omega (arith, own_count)) in
+      let b : eqb c c ≡ true = eq-eqb c c refl in
+      granted q (get_or os c 0 - 1) m f.found (omega (arith, f.slots c, ap bit b, own_count))
       (λ k i. let a : eqb k c ≡ false = ne_eqb k c i in omega (arith, f.slots k, ap bit a)) (t.rows-free ∙ sym f.gaps)
 
   module _ (pos : 0 < row) (shut : get_or os c 0 ≡ 0) where
-    pub serves_new : (r : ℕ) → lowest_run (rows_of row c) 0 m ≡ some r → Serves row P who n true (set os c (slots_of c - 1)) (put r (zeros (rows_of row c)) m)
+    pub serves_new : (r : ℕ) → lowest_run (rows_of row c) 0 m ≡ some r → Serves row P n true (set os c (slots_of c - 1)) (put r (zeros (rows_of row c)) m)
     serves_new r e =
-        let (q, f) = from_new row P who n c class pos (sym own_count ∙ shut) t.formed r (ap (lowest_run (rows_of row c) 0) (sym t.rows-free) ∙ e) in
+        let (q, f) = from_new row P n c class pos (sym own_count ∙ shut) t.formed r (ap (lowest_run (rows_of row c) 0) (sym t.rows-free) ∙ e) in
         granted q (slots_of c - 1) (put r (zeros (rows_of row c)) m) f.found f.own f.others
         (ap (put r (zeros (rows_of row c))) t.rows-free ∙ sym f.gaps)
 
-    pub serves_none : lowest_run (rows_of row c) 0 m ≡ none → Serves row P who n false os m
+    pub serves_none : lowest_run (rows_of row c) 0 m ≡ none → Serves row P n false os m
     serves_none e =
-        let g : reserve row P who ordinary n ≡ none = from_none row P who n c class pos (sym own_count ∙ shut)
+        let g : reserve row P ordinary n ≡ none = from_none row P n c class pos (sym own_count ∙ shut)
         (ap (lowest_run (rows_of row c) 0) (sym t.rows-free) ∙ e) in
         record { found = ap is_some (sym g); left = λ q f. let z : ◌≡◌ {A = ℕ} 0 1 = cc in absurd (omega arith) }

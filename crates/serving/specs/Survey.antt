@@ -45,7 +45,7 @@ module _ (row : ℕ) where
     pub counts : (c : ℕ) → c < 48 → get_or spare c 0 ≡ open_slots c P
     pub rows-free : gaps ≡ map_of P
 
-  -- what a queue's grant of n bytes would find, and what counts and map then tell
-  pub record Serves (P : Pool) (who n : ℕ) (r : Bool) (spare gaps : List ℕ) : Type 0 where
-    pub found : r ≡ is_some (reserve row P who ordinary n)
-    pub left : (q : Place) → reserve row P who ordinary n ≡ some q → NotesOf (pool_of q) spare gaps
+  -- what a grant of n bytes would find, and what counts and map then tell
+  pub record Serves (P : Pool) (n : ℕ) (r : Bool) (spare gaps : List ℕ) : Type 0 where
+    pub found : r ≡ is_some (reserve row P ordinary n)
+    pub left : (q : Place) → reserve row P ordinary n ≡ some q → NotesOf (pool_of q) spare gaps

@@ -1,9 +1,9 @@
 // Whether slots for sizes can be taken one after the other, by notes of the tables: the slots of each class that are not live, and the rows
-// that are free. No table is read, and it is the same for every queue.
+// that are free. No table is read.
 ghost use Rattle.std.specs.Prelude.{◌≡◌, true, ℕ, ◌≤◌, ◌<◌, ltb};
 ghost use Rattle.mem.specs.Lists.{every, is_some};
 ghost use Rattle.classes.specs.Classes.{Lawful, class_of, size_limit};
-ghost use Rattle.model.specs.State.{Pool, queues};
+ghost use Rattle.model.specs.State.{Pool};
 ghost use Rattle.model.specs.Plans.{reserve_all};
 ghost use Rattle.serving.specs.Survey.{lowest_run, run_found, NotesOf, Serves};
 
@@ -34,8 +34,8 @@ fn serve(row: usize, c: usize, spare: &mut [usize], gaps: &mut [u8]) -> bool
     requires notes_of { (P : Pool) × NotesOf row P spare.old gaps.old }
     requires c_bound { c < 48 }
     requires lawful { Lawful row }
-    ensures { (P : Pool) (who n : ℕ) → NotesOf row P spare.old gaps.old → who < queues → c ≡ class_of n → n < size_limit
-        → Serves row P who n result spare.new gaps.new }
+    ensures { (P : Pool) (n : ℕ) → NotesOf row P spare.old gaps.old → c ≡ class_of n → n < size_limit
+        → Serves row P n result spare.new gaps.new }
 {
     let k = spare[c];
     if 0 < k {
@@ -56,8 +56,7 @@ pub fn serve_all(row: usize, sizes: &[usize], spare: &mut [usize], gaps: &mut [u
     requires notes_of { (P : Pool) × NotesOf row P spare.old gaps.old }
     requires sizes_value { every (λ n. ltb n size_limit) sizes.now ≡ true }
     requires lawful { Lawful row }
-    ensures { (P : Pool) (who : ℕ) → NotesOf row P spare.old gaps.old → who < queues
-        → result ≡ is_some (reserve_all row P who sizes.now) }
+    ensures { (P : Pool) → NotesOf row P spare.old gaps.old → result ≡ is_some (reserve_all row P sizes.now) }
 {
     let mut last = Sized { size: 0, class: 0 };
     let mut i = 0;

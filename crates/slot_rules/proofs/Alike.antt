@@ -1,6 +1,6 @@
 -- Slots whose live blocks all have one alignment: what passes their test passes every rule.
 use Rattle.mem.proofs.Prelude.{◌∙◌, ◌≡◌, sym, ap, subst, true, false, Bool, ◌&&◌, ◌||◌, ℕ, ◌+◌, ◌*◌, ◌-◌, ◌/◌, ◌%◌, ◌^◌, ◌<◌, ◌≤◌, mul_comm, arith, T}
-use Rattle.mem.proofs.Prelude.{eqb, leb, ltb, eqb→eq, lt→ltb, le→leb}
+use Rattle.mem.proofs.Prelude.{eqb, leb, ltb, eqb→eq, ltb→lt, le→leb}
 use lib.Bits.{bit_and, and_mask}
 use lib.Pow.{pow-add}
 use Rattle.mem.specs.Lists.{choose}
@@ -8,7 +8,7 @@ use Rattle.mem.proofs.Tests.{and_left, and_right, and_both}
 use Rattle.classes.specs.Classes.{size_limit}
 use Rattle.classes.specs.Alignments.{align_of, enlarged}
 use Rattle.classes.proofs.Alignments.{enlarged_by}
-use Rattle.slot_rules.specs.Rules.{queue_right, record_checked, live_checked, alike_checked, exact_checked}
+use Rattle.slot_rules.specs.Rules.{record_checked, live_checked, alike_checked, exact_checked}
 
 -- an alignment is a power of two, so its boundary is tested by a mask
 pub boundary_mask : (x k a : ℕ) → a ≡ align_of k → bit_and x (a - 1) ≡ x % a
@@ -28,7 +28,7 @@ live_as most least b k d n =
     && eqb ((b + 16 * d) % align_of k) 0
 
 live_alike : (most least b k lo hi : ℕ) → 1 < k → k ≤ 9 → T (alike_checked most least b k false false lo hi)
-    → T (live_as most least b (lo % 256) (lo / 65536) (hi % 16777216) && queue_right hi)
+    → T (live_as most least b (lo % 256) (lo / 65536) hi)
 unfolding alike_checked size_limit
 live_alike most least b k lo hi h l t =
     let d : ℕ = lo / 65536 in
@@ -40,18 +40,19 @@ live_alike most least b k lo hi h l t =
     let t₃ : T (leb e most) = search (and_left, and_right) in
     let t₄ : T (ltb least (e + 4)) = search (and_left, and_right) in
     let t₅ : T (ltb e 131052) = search (and_left, and_right) in
-    let t₆ : T (queue_right hi) = search (and_left, and_right) in
+    let t₆ : T (ltb hi 131052) = search (and_left, and_right) in
     let t₇ : T (eqb ((b + 16 * d) % align_of k) 0) = search (and_left, and_right) in
     let tag : lo % 256 ≡ k = eqb→eq (lo % 256) k (or-false (eqb (lo % 256) k) (or-false (eqb (lo % 256) k || false) t₁)) in
-    let big : e ≡ enlarged k n = sym (enlarged_by k n h) in
+    let whole : n ≡ hi = omega (arith, ltb→lt hi 131052 t₆) in
+    let big : e ≡ enlarged k hi = ap (λ m. m + (align_of k - 16)) whole ∙ sym (enlarged_by k hi h) in
     let u₁ : T (leb 1 k) = le→leb 1 k (omega arith) in
     let u₂ : T (leb k 9) = le→leb k 9 l in
-    let u₄ : T (ltb (enlarged k n) 131052) = subst (λ m. T (ltb m 131052)) big t₅ in
-    let u₅ : T (leb (enlarged k n) most) = subst (λ m. T (leb m most)) big t₃ in
-    let u₆ : T (ltb least (enlarged k n + 4)) = subst (λ m. T (ltb least (m + 4))) big t₄ in
-    let live : T (live_as most least b k d n) = search and_both in
-    let at-k : T (live_as most least b k d n && queue_right hi) = and_both (live_as most least b k d n) (queue_right hi) live t₆ in
-    subst (λ j. T (live_as most least b j d n && queue_right hi)) (sym tag) at-k
+    let u₃ : T (leb (16 * d + hi) most) = subst (λ m. T (leb (16 * d + m) most)) whole t₂ in
+    let u₄ : T (ltb (enlarged k hi) 131052) = subst (λ m. T (ltb m 131052)) big t₅ in
+    let u₅ : T (leb (enlarged k hi) most) = subst (λ m. T (leb m most)) big t₃ in
+    let u₆ : T (ltb least (enlarged k hi + 4)) = subst (λ m. T (ltb least (m + 4))) big t₄ in
+    let at-k : T (live_as most least b k d hi) = search and_both in
+    subst (λ j. T (live_as most least b j d hi)) (sym tag) at-k
 
 pub alike_exact : (most least b k : ℕ) (r w : Bool) (lo hi : ℕ) → 1 < k → k ≤ 9 → T (alike_checked most least b k r w lo hi)
     → T (exact_checked most least b r w lo hi)
@@ -61,14 +62,12 @@ alike_exact most least b k true false lo hi h l t =
     let t₁ : T (eqb (lo % 256) 1 || eqb lo 0) = search (and_left, and_right) in
     let t₂ : T (leb (16 * (lo / 65536) + hi % 16777216) most) = search (and_left, and_right) in
     let t₃ : T (eqb hi 0) = search (and_left, and_right) in
-    let t₄ : T (ltb (hi % 16777216) 131052) = lt→ltb (hi % 16777216) 131052 (omega (arith, eqb→eq hi 0 t₃)) in
-    let t₅ : T (ltb hi 134217728) = search (and_left, and_right) in
+    let t₄ : T (ltb hi 131052) = search (and_left, and_right) in
     search and_both
 alike_exact most least b k false true lo hi h l t =
     let t₁ : T (eqb (lo % 256) 1 || false) = search (and_left, and_right) in
     let t₂ : T (leb (16 * (lo / 65536) + hi % 16777216) most) = search (and_left, and_right) in
     let t₃ : T (eqb hi 0) = search (and_left, and_right) in
-    let t₄ : T (ltb (hi % 16777216) 131052) = lt→ltb (hi % 16777216) 131052 (omega (arith, eqb→eq hi 0 t₃)) in
-    let t₅ : T (ltb hi 134217728) = search (and_left, and_right) in
+    let t₄ : T (ltb hi 131052) = search (and_left, and_right) in
     search and_both
 alike_exact most least b k false false lo hi h l t = live_alike most least b k lo hi h l t

@@ -3,9 +3,6 @@ ghost use Rattle.std.specs.Prelude.{◌≡◌, ◌≤◌, ◌<◌};
 ghost use Rattle.classes.specs.Alignments.{align_of};
 ghost use Rattle.slot_rules.specs.Rules.{record_checked, alike_checked, live_checked, exact_checked};
 
-// The second half holds the size in three bytes and the queue in the fourth: from here on there is no such queue.
-const NO_QUEUE: u32 = 16777216 * model::QUEUES as u32;
-
 // The record of a slot, as the numbers in its two halves, with its bits of the two masks. A displacement and a size have at most
 // `most` bytes together; the class two below has `least`. Every rule is tested, with no branch between them, so that the loop over
 // the slots is vectorised.
@@ -26,8 +23,8 @@ pub fn record_sound(lo: u32, hi: u32, ready: bool, waiting: bool, most: u32, lea
     let own_class = idle | (least < size + 4);
     // A slot that is not live has no size.
     let cleared = !idle | (hi == 0);
-    // The size is one that can be asked for, and the queue is one that there is.
-    let allowed = (size < classes::TOO_LARGE as u32) & (hi < NO_QUEUE);
+    // The size is one that can be asked for, and the byte after it is 0.
+    let allowed = hi < classes::TOO_LARGE as u32;
     one_set & begun & fits & own_class & cleared & allowed
 }
 
@@ -44,15 +41,11 @@ fn live_sound(lo: u32, hi: u32, most: u32, least: u32, begin: usize) -> bool
     if 9 < code {
         return false;
     }
-    // There is such a queue.
-    if NO_QUEUE <= hi {
+    // The size is one that can be asked for, and the byte after it is 0.
+    if classes::TOO_LARGE <= hi as usize {
         return false;
     }
-    // The size is one that can be asked for.
-    let size = (hi % 16777216) as usize;
-    if classes::TOO_LARGE <= size {
-        return false;
-    }
+    let size = hi as usize;
     let enlarged = classes::enlarged(code, size);
     if classes::TOO_LARGE <= enlarged {
         return false;
@@ -113,7 +106,7 @@ pub fn record_alike(
         & (least < enlarged + 4)
         & (enlarged < classes::TOO_LARGE as u32);
     let cleared = !idle | (hi == 0);
-    let owned = hi < NO_QUEUE;
+    let in_range = hi < classes::TOO_LARGE as u32;
     let aligned = (begin + 16 * displacement) & (align - 1) == 0;
-    one_set & begun & fits & (idle | own_class) & cleared & owned & (idle | aligned)
+    one_set & begun & fits & (idle | own_class) & cleared & in_range & (idle | aligned)
 }

@@ -15,7 +15,7 @@ use Rattle.classes.specs.Alignments.{align_of, enlarged}
 use Rattle.classes.proofs.Laws.{near_test, class_facts, class-past, bytes-units, bytes_least}
 use Rattle.model.specs.declared.Slot.{Slot}
 use Rattle.model.specs.declared.Slot.TheVariants.{Fresh, Idle, Live}
-use Rattle.model.specs.State.{queues, is_ready, is_waiting, is_live, count, slot_sound, aligned_slot, slots_aligned}
+use Rattle.model.specs.State.{is_ready, is_waiting, is_live, count, slot_sound, aligned_slot, slots_aligned}
 use Rattle.model.specs.Tables.{slot_record, view_slot, view_slots}
 use Rattle.model.proofs.Tables.{slot_length}
 use Rattle.slot_walks.specs.Slots.{slot_fits, slot_checked, slots_checked, slots_exactly}
@@ -50,9 +50,6 @@ module _ (s : List ℕ) (B : (i : ℕ) → get_or s i 0 < 256) (at : ℕ) (fit :
   pub size_at_lem : part 4 3 (part at 8 s) ≡ part (at + 4) 3 s
   size_at_lem = part-part at 8 4 3 s (lit≤ tt)
 
-  pub queue_at_lem : get_or (part at 8 s) 7 0 ≡ get_or s (at + 7) 0
-  queue_at_lem = get_d_part at 8 s 7 0 (lit≤ tt)
-
   -- the record of a granted slot
   pub granted-starts : (k : ℕ) (x : List ℕ) → starts (drop at s) (k ∷ get_or (part at 8 s) 1 0 ∷ (low 2 (number (part 2 2 (part at 8 s))) ++ x))
       ≡ (eqb (get_or s at 0) k && starts (drop (at + 4) s) x)
@@ -63,16 +60,16 @@ module _ (s : List ℕ) (B : (i : ℕ) → get_or s i 0 < 256) (at : ℕ) (fit :
       ∙ ap₂ (λ (a b : Bool). eqb (get_or s at 0) k && (a && b)) (self (get_or s (at + 1) 0))
       (starts-read s B (at + 2) 2 x (omega arith) ∙ ap (λ (p : ℕ). starts (drop p s) x) e))
 
-  -- the record of a live slot says itself
-  pub live_form : starts (drop at s) (slot_record (view_slot false false (part at 8 s))) ≡ true
+  -- the record of a live slot says itself, but for the byte after the size
+  pub live_form : starts (drop at s) (slot_record (view_slot false false (part at 8 s))) ≡ eqb (get_or s (at + 7) 0) 0
   unfolding view_slot slot_record
   live_form =
       let n = number (part (at + 4) 3 s) in
-      let q = get_or s (at + 7) 0 in
       let e : at + 4 + 3 ≡ at + 7 = omega arith in
-      rw (size_at_lem, queue_at_lem)
-      (granted-starts (get_or (part at 8 s) 0 0) (low 3 n ++ (q ∷ []))
-      ∙ rw (tag_at, self (get_or s at 0), starts-read s B (at + 4) 3 (q ∷ []) (omega arith), e, drop-cons s (at + 7) 0 (omega arith)) (rw (self q)))
+      rw (size_at_lem)
+      (granted-starts (get_or (part at 8 s) 0 0) (low 3 n ++ (0 ∷ []))
+      ∙ rw (tag_at, self (get_or s at 0), starts-read s B (at + 4) 3 (0 ∷ []) (omega arith), e, drop-cons s (at + 7) 0 (omega arith))
+      (and-true (eqb (get_or s (at + 7) 0) 0)))
 
   module _ (most least : ℕ) where
     pub fresh_law : get_or s at 0 ≡ 0 → slot_checked most least true false (drop at s) ≡ same (part at 8 s) (zeros 8)
@@ -91,10 +88,11 @@ module _ (s : List ℕ) (B : (i : ℕ) → get_or s i 0 < 256) (at : ℕ) (fit :
         (granted-starts 1 (zeros 4) ∙ ap (λ (b : Bool). eqb (get_or s at 0) 1 && b) (sym (starts-zeros (at + 4) 4 s))) disp_at_lem
 
     pub live_law : slot_checked most least false false (drop at s)
-        ≡ (eqb (get_or s at 0) 1 && leb (16 * number (part (at + 2) 2 s) + number (part (at + 4) 3 s)) most
-        && ltb least (number (part (at + 4) 3 s) + 4) && ltb (number (part (at + 4) 3 s)) size_limit && ltb (get_or s (at + 7) 0) queues)
+        ≡ (eqb (get_or s (at + 7) 0) 0
+        && (eqb (get_or s at 0) 1 && leb (16 * number (part (at + 2) 2 s) + number (part (at + 4) 3 s)) most
+        && ltb least (number (part (at + 4) 3 s) + 4) && ltb (number (part (at + 4) 3 s)) size_limit))
     unfolding slot_checked view_slot slot_fits
-    live_law = ap (λ b. b && slot_fits most least (view_slot false false (part at 8 s))) live_form ∙ rw (tag_at, disp_at_lem, size_at_lem, queue_at_lem)
+    live_law = ap (λ b. b && slot_fits most least (view_slot false false (part at 8 s))) live_form ∙ rw (tag_at, disp_at_lem, size_at_lem)
 
 -- ---- the slots of a group
 
@@ -222,27 +220,25 @@ near c e h l = go (leb e (slot_bytes c - 4)) refl
         let p : c < class_of e = class-past e (class_facts e l) c h (omega (arith, leb-false e (slot_bytes c - 4) q)) in
         rw (ne_eqb c (class_of e) (λ z. omega arith), ne_eqb c (suc (class_of e)) (λ z. omega arith))
 
-live_order : (a k l o q n z : Bool) → (T l → o ≡ n) → (a && k && l && o && q && z) ≡ (k && a && l && n && z && q)
-live_order a k true o true n z f = rw (f tt) (simp (and_assoc, and-left_comm, and-true))
-live_order a k true o false n z f = simp (and_assoc, and-false)
-live_order a k false o q n z f = simp (and_assoc, and-false)
+live_order : (a k l o n z : Bool) → (T l → o ≡ n) → (a && k && l && o && z) ≡ (k && a && l && n && z)
+live_order a k true o n z f = rw (f tt) (simp (and_assoc, and-left_comm))
+live_order a k false o n z f = simp (and_assoc, and-false)
 
--- a live slot that begins at b, with the alignment k, the displacement d, the size n and the queue q
-abbrev pub live_rule : (most least b k d n q : ℕ) → Bool
-live_rule most least b k d n q =
+-- a live slot that begins at b, with the alignment k, the displacement d and the size n
+abbrev pub live_rule : (most least b k d n : ℕ) → Bool
+live_rule most least b k d n =
     let e = enlarged k n in
     (leb 1 k && leb k 9) && leb (16 * d + n) most && ltb e size_limit && (leb e most && ltb least (e + 4)) && eqb ((b + 16 * d) % align_of k) 0
-    && ltb q queues
 
 -- it is sound and on its boundary by that rule
-pub live_rule_lem : (c b : ℕ) → c < 48 → (j k d n q : ℕ) → j < 256
-    → (let x = Live (record { count = j; disp = d; size = n; align = k; queue = q }) in
-    (slot_sound c x && aligned_slot b x) ≡ live_rule (slot_bytes c - 4) (below2 c) b k d n q)
+pub live_rule_lem : (c b : ℕ) → c < 48 → (j k d n : ℕ) → j < 256
+    → (let x = Live (record { count = j; disp = d; size = n; align = k }) in
+    (slot_sound c x && aligned_slot b x) ≡ live_rule (slot_bytes c - 4) (below2 c) b k d n)
 unfolding slot_sound
-live_rule_lem c b h j k d n q f =
+live_rule_lem c b h j k d n f =
     let e = enlarged k n in
     rw (lt-ltb j 256 f)
-    (live_order (leb (16 * d + n) (slot_bytes c - 4)) (leb 1 k && leb k 9) (ltb e size_limit) (own_class c e) (ltb q queues)
+    (live_order (leb (16 * d + n) (slot_bytes c - 4)) (leb 1 k && leb k 9) (ltb e size_limit) (own_class c e)
     (leb e (slot_bytes c - 4) && ltb (below2 c) (e + 4)) (eqb ((b + 16 * d) % align_of k) 0) (λ t. near c e h (ltb→lt e size_limit t)))
 
 -- a slot that is not live has no boundary
@@ -253,12 +249,11 @@ idle_fits c b (Idle r k d) l f = rw (lt-ltb k 256 f) (and-true (leb (16 * d) (sl
 idle_fits c b (Live a) l f = absurd (true≢false l)
 
 -- an ordinary block in a slot that begins on a unit is on its boundary
-ordinary_rule : (most least b d n q : ℕ) → b % 16 ≡ 0 → 16 * d + n ≤ most → least < n + 4 → n < size_limit → T (ltb q queues)
-    → T (live_rule most least b 1 d n q)
+ordinary_rule : (most least b d n : ℕ) → b % 16 ≡ 0 → 16 * d + n ≤ most → least < n + 4 → n < size_limit → T (live_rule most least b 1 d n)
 unfolding align_of
-ordinary_rule most least b d n q e f l s w =
+ordinary_rule most least b d n e f l s =
     let z : (b + 16 * d) % 16 ≡ 0 = omega arith in
-    rw (le-leb (16 * d + n) most f, lt-ltb n size_limit s, le-leb n most (omega arith), lt-ltb least (n + 4) l, z) w
+    rw (le-leb (16 * d + n) most f, lt-ltb n size_limit s, le-leb n most (omega arith), lt-ltb least (n + 4) l, z) tt
 
 -- a slot whose block is ordinary, if it has one: the quick rule is every rule
 fits_exact : (c b : ℕ) → c < 48 → b % 16 ≡ 0 → (x : Slot) → count x < 256 → T (slot_fits (slot_bytes c - 4) (below2 c) x)
@@ -270,10 +265,9 @@ fits_exact c b h e (Live a) f t =
     let o : 1 ≡ a.align = sym (eqb→eq a.align 1 (search (and_left, and_right))) in
     let m = leb→le (16 * a.disp + a.size) (slot_bytes c - 4) (search (and_left, and_right)) in
     let l = ltb→lt (below2 c) (a.size + 4) (search (and_left, and_right)) in
-    let w : T (ltb a.queue queues) = search (and_left, and_right) in
-    subst T (sym (live_rule_lem c b h a.count a.align a.disp a.size a.queue f))
-    (subst (λ k. T (live_rule (slot_bytes c - 4) (below2 c) b k a.disp a.size a.queue)) o
-    (ordinary_rule (slot_bytes c - 4) (below2 c) b a.disp a.size a.queue e m l (ltb→lt a.size size_limit (search (and_left, and_right))) w))
+    subst T (sym (live_rule_lem c b h a.count a.align a.disp a.size f))
+    (subst (λ k. T (live_rule (slot_bytes c - 4) (below2 c) b k a.disp a.size)) o
+    (ordinary_rule (slot_bytes c - 4) (below2 c) b a.disp a.size e m l (ltb→lt a.size size_limit (search (and_left, and_right)))))
 
 view-count : (r w : Bool) (t : List ℕ) → get_or t 1 0 < 256 → count (view_slot r w t) < 256
 unfolding view_slot

@@ -1,5 +1,5 @@
 -- A slot's record as two numbers of four bytes, and the loop over the slots that reads it so.
-use Rattle.mem.proofs.Prelude.{◌∙◌, ◌≡◌, sym, ap, refl, ap₂, true, Bool, false, ◌&&◌, not, ◌||◌, and-false, and-true, and_assoc, List, ◌+◌, ℕ}
+use Rattle.mem.proofs.Prelude.{◌∙◌, ◌≡◌, sym, ap, refl, ap₂, true, Bool, false, ◌&&◌, not, ◌||◌, and-false, and-true, List, ◌+◌, ℕ}
 use Rattle.mem.proofs.Prelude.{◌<◌, ◌≤◌, ◌*◌, ◌-◌, suc, ◌/◌, ◌^◌, ◌%◌, add-zero, pow-suc, add-one, add-two, arith, ne_eqb, le-leb, lt-leb, eqb-false}
 use Rattle.mem.proofs.Prelude.{eqb-true, eqb, leb, lit≤, ltb, eqb→eq, ltb→lt, lt→ltb, length, drop, get_or, take, drop-drop, get_or-drop}
 use native.Mathlib.Nat.{div-div-eq-div-mul}
@@ -8,14 +8,13 @@ use Rattle.mem.proofs.Tests.{same_test, eq→eqb, and_both, and_left, and_right}
 use Rattle.mem.proofs.Laws.{number-part, zeros-add, zeros-length, same-part-low}
 use Rattle.classes.specs.Classes.{slot_bytes, size_limit, below2}
 use Rattle.classes.proofs.Laws.{bytes-units, units_small}
-use Rattle.model.specs.State.{queues}
 use Rattle.model.specs.Tables.{sizes_in, view_slot}
 use Rattle.mem.specs.Lists.{choose, starts}
 use Rattle.mem.proofs.Starts.{starts_from, starts-zeros}
-use Rattle.slot_rules.specs.Rules.{queue_right, record_checked, live_checked, exact_checked}
+use Rattle.slot_rules.specs.Rules.{record_checked, live_checked, exact_checked}
 use Rattle.slot_walks.specs.Slots.{slot_checked, slots_checked, slots_exactly}
 use Rattle.slot_walks.proofs.Laws.{fresh_law, ready_law, idle_law, live_law, slots_turn, slots_end, slot_exactly, live_rule, live_rule_lem, live_form}
-use Rattle.slot_walks.proofs.Laws.{tag_at, count_at, disp_at_lem, size_at_lem, queue_at_lem, idle_exact, exact_turn, exact_end}
+use Rattle.slot_walks.proofs.Laws.{tag_at, count_at, disp_at_lem, size_at_lem, idle_exact, exact_turn, exact_end}
 
 -- ---- the tests, in the order of the code
 
@@ -23,26 +22,27 @@ or-false : (a : Bool) → (a || false) ≡ a
 or-false true = refl
 or-false false = refl
 
-live_order : (a c d e q z m : Bool) → q ≡ m → (a && c && d && e && q) ≡ (not false && (a || false) && c && (false || d) && (true || z) && (e && m))
-live_order true c d e q z m h = rw h (simp and_assoc)
-live_order false c d e q z m h = refl
+live_order : (a b c d e z m : Bool) → (b && e) ≡ m → (b && (a && c && d && e)) ≡ (not false && (a || false) && c && (false || d) && (true || z) && m)
+live_order true b true true e z m h = h
+live_order true b true false e z m h = and-false b
+live_order true b false d e z m h = and-false b
+live_order false b c d e z m h = and-false b
 
 idle_order : (most : ℕ) (a : Bool) (d h : ℕ) → (a && eqb h 0 && leb (16 * d) most)
-    ≡ (a && leb (16 * d + h % 16777216) most && true && eqb h 0 && (ltb (h % 16777216) size_limit && queue_right h))
+    ≡ (a && leb (16 * d + h % 16777216) most && true && eqb h 0 && ltb h size_limit)
 unfolding size_limit
 idle_order most a d h = go (eqb h 0) refl
   where
-    go : (b : Bool) → eqb h 0 ≡ b → (a && b && leb (16 * d) most) ≡ (a && leb (16 * d + h % 16777216) most && true && b && (ltb (h % 16777216) size_limit && queue_right h))
+    go : (b : Bool) → eqb h 0 ≡ b → (a && b && leb (16 * d) most) ≡ (a && leb (16 * d + h % 16777216) most && true && b && ltb h size_limit)
     go true e = rw (eqb-true h 0 e) (simp (add-zero, and-true))
     go false e = simp and-false
 
-fresh_order : (most l h : ℕ) → (eqb l 0 && eqb h 0)
-    ≡ (eqb l 0 && leb (16 * (l / 65536) + h % 16777216) most && true && eqb h 0 && (ltb (h % 16777216) size_limit && queue_right h))
+fresh_order : (most l h : ℕ) → (eqb l 0 && eqb h 0) ≡ (eqb l 0 && leb (16 * (l / 65536) + h % 16777216) most && true && eqb h 0 && ltb h size_limit)
 unfolding size_limit
 fresh_order most l h = go (eqb l 0) refl (eqb h 0) refl
   where
     go : (a : Bool) → eqb l 0 ≡ a → (b : Bool) → eqb h 0 ≡ b → (a && b)
-        ≡ (a && leb (16 * (l / 65536) + h % 16777216) most && true && b && (ltb (h % 16777216) size_limit && queue_right h))
+        ≡ (a && leb (16 * (l / 65536) + h % 16777216) most && true && b && ltb h size_limit)
     go true e true f = rw (eqb-true l 0 e, eqb-true h 0 f, le-leb (16 * (0 / 65536) + 0 % 16777216) most (omega arith))
     go true e false f = simp and-false
     go false e b f = refl
@@ -72,7 +72,7 @@ module _ (s : List ℕ) (B : (i : ℕ) → get_or s i 0 < 256) (at : ℕ) (fit :
       rw add-two
       (omega arith)
 
-  pub size_small : number (part (at + 4) 3 s) < 16777216
+  size_small : number (part (at + 4) 3 s) < 16777216
   size_small =
       let f = number-part (at + 4) 3 s (omega arith) in
       let b = B (at + 4) in
@@ -80,7 +80,7 @@ module _ (s : List ℕ) (B : (i : ℕ) → get_or s i 0 < 256) (at : ℕ) (fit :
       let b₂ = B (suc (suc (at + 4))) in
       omega arith
 
-  pub high_split : hi ≡ number (part (at + 4) 3 s) + 16777216 * get_or s (at + 7) 0
+  high_split : hi ≡ number (part (at + 4) 3 s) + 16777216 * get_or s (at + 7) 0
   high_split =
       let e = number-part (at + 4) 4 s (omega arith) in
       let f = number-part (at + 4) 3 s (omega arith) in
@@ -88,15 +88,20 @@ module _ (s : List ℕ) (B : (i : ℕ) → get_or s i 0 < 256) (at : ℕ) (fit :
       rw p
       (omega arith)
 
-  pub high-size : hi % 16777216 ≡ number (part (at + 4) 3 s)
+  high-size : hi % 16777216 ≡ number (part (at + 4) 3 s)
   high-size = omega (arith, high_split, size_small)
 
-  -- the queue in the second number
-  high-queue : ltb (get_or s (at + 7) 0) queues ≡ queue_right hi
-  high-queue =
-      same_test (ltb (get_or s (at + 7) 0) 8) (ltb hi 134217728)
-      (λ t. let l = ltb→lt (get_or s (at + 7) 0) 8 t in lt→ltb hi 134217728 (omega (arith, high_split, size_small)))
-      (λ t. let l = ltb→lt hi 134217728 t in lt→ltb (get_or s (at + 7) 0) 8 (omega (arith, high_split)))
+  -- a size that can be asked for, and a zero after it
+  high_bound : (eqb (get_or s (at + 7) 0) 0 && ltb (number (part (at + 4) 3 s)) size_limit) ≡ ltb hi size_limit
+  unfolding size_limit
+  high_bound =
+      same_test _ (ltb hi 131052)
+      (λ t. let e = eqb→eq (get_or s (at + 7) 0) 0 (and_left (eqb (get_or s (at + 7) 0) 0) (ltb (number (part (at + 4) 3 s)) 131052) t) in
+      let l = ltb→lt (number (part (at + 4) 3 s)) 131052 (and_right (eqb (get_or s (at + 7) 0) 0) (ltb (number (part (at + 4) 3 s)) 131052) t) in
+      lt→ltb hi 131052 (omega (arith, high_split)))
+      (λ t. let l = ltb→lt hi 131052 t in
+      and_both (eqb (get_or s (at + 7) 0) 0) (ltb (number (part (at + 4) 3 s)) 131052)
+      (eq→eqb (get_or s (at + 7) 0) 0 (omega (arith, high_split))) (lt→ltb (number (part (at + 4) 3 s)) 131052 (omega (arith, high_split))))
 
   zeros-high : same (part (at + 4) 4 s) (zeros 4) ≡ eqb hi 0
   zeros-high = starts-zeros (at + 4) 4 s ∙ zeros-quad s B (at + 4) (omega arith)
@@ -135,24 +140,32 @@ module _ (s : List ℕ) (B : (i : ℕ) → get_or s i 0 < 256) (at : ℕ) (fit :
     record_law false false =
         live_law s B at fit most least
         ∙ rw (low_tag, low-disp, high-size)
-        (live_order (eqb (get_or s at 0) 1) (leb (16 * number (part (at + 2) 2 s) + number (part (at + 4) 3 s)) most)
-        (ltb least (number (part (at + 4) 3 s) + 4)) (ltb (number (part (at + 4) 3 s)) size_limit) (ltb (get_or s (at + 7) 0) queues) (eqb hi 0)
-        (queue_right hi) high-queue)
+        (live_order (eqb (get_or s at 0) 1) (eqb (get_or s (at + 7) 0) 0) (leb (16 * number (part (at + 2) 2 s) + number (part (at + 4) 3 s)) most)
+        (ltb least (number (part (at + 4) 3 s) + 4)) (ltb (number (part (at + 4) 3 s)) size_limit) (eqb hi 0)
+        (ltb hi size_limit) high_bound)
 
   -- a live slot: every rule, of the two numbers
   module _ (c b : ℕ) (h : c < 48) where
-    in_halves : live_rule (slot_bytes c - 4) (below2 c) b (get_or s at 0) (number (part (at + 2) 2 s)) (number (part (at + 4) 3 s)) (get_or s (at + 7) 0)
+    -- a byte after the size that is not 0 makes a size that no slot holds
+    zero-after : (z : Bool) → eqb (get_or s (at + 7) 0) 0 ≡ z
+        → (z && live_rule (slot_bytes c - 4) (below2 c) b (get_or s at 0) (number (part (at + 2) 2 s)) (number (part (at + 4) 3 s)))
         ≡ live_checked (slot_bytes c - 4) (below2 c) b lo hi
     unfolding live_checked
-    in_halves = rw (low_tag, low-disp, high-size, high-queue)
+    zero-after true e =
+        let f : hi ≡ number (part (at + 4) 3 s) = omega (arith, high_split, eqb-true (get_or s (at + 7) 0) 0 e) in
+        rw (low_tag, low-disp, f)
+    zero-after false e =
+        let n = eqb-false (get_or s (at + 7) 0) 0 e in
+        let l : slot_bytes c - 4 < 16 * (lo / 65536) + hi = omega (arith, high_split, bytes-units c, units_small c) in
+        rw (lt-leb (16 * (lo / 65536) + hi) (slot_bytes c - 4) l) (sym (simp and-false))
 
     live_exact : slot_exactly c b false false (drop at s) ≡ live_checked (slot_bytes c - 4) (below2 c) b lo hi
     unfolding slot_exactly view_slot
     live_exact =
         let x = part at 8 s in
         ap₂ ◌&&◌ (live_form s B at fit)
-        (live_rule_lem c b h (get_or x 1 0) (get_or x 0 0) (number (part 2 2 x)) (number (part 4 3 x)) (get_or x 7 0) (rw (count_at s B at fit) (B (at + 1))))
-        ∙ rw (tag_at s B at fit, disp_at_lem s B at fit, size_at_lem s B at fit, queue_at_lem s B at fit) in_halves
+        (live_rule_lem c b h (get_or x 1 0) (get_or x 0 0) (number (part 2 2 x)) (number (part 4 3 x)) (rw (count_at s B at fit) (B (at + 1))))
+        ∙ rw (tag_at s B at fit, disp_at_lem s B at fit, size_at_lem s B at fit) (zero-after (eqb (get_or s (at + 7) 0) 0) refl)
 
     pub exact_law : (r w : Bool) → slot_exactly c b r w (drop at s) ≡ exact_checked (slot_bytes c - 4) (below2 c) b r w lo hi
     unfolding exact_checked choose
@@ -164,7 +177,7 @@ module _ (s : List ℕ) (B : (i : ℕ) → get_or s i 0 < 256) (at : ℕ) (fit :
 
 -- ---- the loop
 
-pub half : (m i : ℕ) → m / 2 ^ i / 2 ≡ m / 2 ^ (i + 1)
+half : (m i : ℕ) → m / 2 ^ i / 2 ≡ m / 2 ^ (i + 1)
 half m i = div-div-eq-div-mul m (2 ^ i) 2 ∙ ap (λ (p : ℕ). m / p) (sym (rw (add-one i) (pow-suc 2 i)))
 
 module _ (s : List ℕ) (B : (i : ℕ) → get_or s i 0 < 256) (most least at n i ready waiting : ℕ) (left : i < n) (fit : at + 8 * n ≤ length s) where

@@ -6,7 +6,7 @@ use Rattle.classes.specs.Classes.{size_limit}
 use Rattle.classes.specs.Alignments.{ordinary}
 use Rattle.model.specs.declared.Slot.{Slot}
 use Rattle.model.specs.declared.Slot.TheVariants.{Fresh, Idle, Live}
-use Rattle.model.specs.State.{is_ready, is_waiting, queues, slot_sound, slots_aligned}
+use Rattle.model.specs.State.{is_ready, is_waiting, slot_sound, slots_aligned}
 use Rattle.model.specs.Tables.{slot_record_bytes, slot_record, view_slot, view_slots}
 
 -- the rule of a slot that keeps no alignment but an ordinary block's, by two numbers of its class: 16d + n is no more than `most`, and
@@ -16,7 +16,6 @@ slot_fits most least Fresh = true
 slot_fits most least (Idle r k d) = leb (16 * d) most
 slot_fits most least (Live a) =
     eqb a.align ordinary && leb (16 * a.disp + a.size) most && ltb least (a.size + 4) && ltb a.size size_limit
-    && ltb a.queue queues
 
 -- a slot's record, with its bits of the two masks: the bits are not both set, and the record is the one form of what it says
 unfoldable pub slot_checked : ℕ → ℕ → Bool → Bool → List ℕ → Bool

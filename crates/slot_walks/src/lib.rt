@@ -6,7 +6,7 @@ ghost use Rattle.model.specs.Tables.{most_slots, slot_record_bytes, sizes_in};
 ghost use Rattle.slot_walks.specs.Slots.{slots_checked, slots_exactly};
 
 // Whether bit i of a mask is set.
-pub fn has(m: u32, i: usize) -> bool
+fn has(m: u32, i: usize) -> bool
     requires { i < 32 }
     ensures { result ≡ eqb (m / 2 ^ i % 2) 1 }
 {

@@ -19,7 +19,7 @@ pub use denote.Steps.{only, peeks}
 pub use denote.Signature.{types_at}
 pub use denote.Triple.Entry.{Vals}
 pub use Rattle.model.specs.Answers.{listed}
-pub use Rattle.model.specs.Plans.{sets_up, grants, grants_aligned, releases, resizes_in_place, moves, measures, grants_list, reports_queue, reports, queued}
+pub use Rattle.model.specs.Plans.{sets_up, grants, grants_aligned, releases, resizes_in_place, moves, measures, reports, grants_list}
 pub use Rattle.model.specs.Calls.{kept_in}
 pub use Rattle.model.specs.declared.Totals.{Totals}
 pub use Rattle.answers.specs.Gives.{Leaves, Tells, Gives, Reports, Lists}

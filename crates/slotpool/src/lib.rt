@@ -8,7 +8,7 @@ ghost use Rattle.mem.specs.Bytes.{bit};
 ghost use Rattle.classes.specs.Classes.{row_bytes};
 ghost use Rattle.model.specs.Answers.{listed};
 ghost use Rattle.model.specs.Proposals.{accepts};
-ghost use Rattle.model.specs.Plans.{sets_up, grants, grants_aligned, releases, resizes_in_place, moves, measures, grants_list, reports_queue, reports, queued};
+ghost use Rattle.model.specs.Plans.{sets_up, grants, grants_aligned, releases, resizes_in_place, moves, measures, reports, grants_list};
 ghost use Rattle.model.specs.Tables.{room_for};
 ghost use Rattle.model.specs.Calls.{kept_in, call};
 ghost use Rattle.answers.specs.Gives.{Leaves, Tells, Gives, Reports, Lists};
@@ -53,18 +53,11 @@ pub extern "C" fn slotpool_set_up(arena: &mut [u8], room: &mut [u8], totals: &mu
     told.number
 }
 
-fn grant_by(
-    arena: &mut [u8],
-    room: &mut [u8],
-    t: Totals,
-    queue: usize,
-    n: usize,
-    value: &mut usize,
-) -> Told
-    ensures { Gives (call row_bytes arena.old (kept_in room.old t) (queued queue (grants n)))
+fn grant_by(arena: &mut [u8], room: &mut [u8], t: Totals, n: usize, value: &mut usize) -> Told
+    ensures { Gives (call row_bytes arena.old (kept_in room.old t) (grants n))
         result.number value.new arena.new (kept_in room.new result.totals) }
 {
-    let r = pool::grant(arena, room, t, queue, n);
+    let r = pool::grant(arena, room, t, n);
     let reply = r.reply;
     let totals = r.totals;
     *value = answers::value_of(reply);
@@ -79,14 +72,13 @@ pub extern "C" fn slotpool_grant(
     arena: &mut [u8],
     room: &mut [u8],
     totals: &mut Totals,
-    queue: usize,
     n: usize,
     value: &mut usize,
 ) -> u32
-    ensures { Gives (call row_bytes arena.old (kept_in room.old totals.old) (queued queue (grants n)))
+    ensures { Gives (call row_bytes arena.old (kept_in room.old totals.old) (grants n))
         result value.new arena.new (kept_in room.new totals.new) }
 {
-    let told = grant_by(arena, room, *totals, queue, n, value);
+    let told = grant_by(arena, room, *totals, n, value);
     totals::record(totals, told.totals);
     told.number
 }
@@ -95,15 +87,14 @@ fn grant_aligned_by(
     arena: &mut [u8],
     room: &mut [u8],
     t: Totals,
-    queue: usize,
     n: usize,
     align: usize,
     value: &mut usize,
 ) -> Told
-    ensures { Gives (call row_bytes arena.old (kept_in room.old t) (queued queue (grants_aligned n align)))
+    ensures { Gives (call row_bytes arena.old (kept_in room.old t) (grants_aligned n align))
         result.number value.new arena.new (kept_in room.new result.totals) }
 {
-    let r = pool::grant_aligned(arena, room, t, queue, n, align);
+    let r = pool::grant_aligned(arena, room, t, n, align);
     let reply = r.reply;
     let totals = r.totals;
     *value = answers::value_of(reply);
@@ -118,24 +109,23 @@ pub extern "C" fn slotpool_grant_aligned(
     arena: &mut [u8],
     room: &mut [u8],
     totals: &mut Totals,
-    queue: usize,
     n: usize,
     align: usize,
     value: &mut usize,
 ) -> u32
-    ensures { Gives (call row_bytes arena.old (kept_in room.old totals.old) (queued queue (grants_aligned n align)))
+    ensures { Gives (call row_bytes arena.old (kept_in room.old totals.old) (grants_aligned n align))
         result value.new arena.new (kept_in room.new totals.new) }
 {
-    let told = grant_aligned_by(arena, room, *totals, queue, n, align, value);
+    let told = grant_aligned_by(arena, room, *totals, n, align, value);
     totals::record(totals, told.totals);
     told.number
 }
 
-fn release_by(arena: &mut [u8], room: &mut [u8], t: Totals, queue: usize, handle: usize) -> Told
-    ensures { Leaves (call row_bytes arena.old (kept_in room.old t) (queued queue (releases handle)))
+fn release_by(arena: &mut [u8], room: &mut [u8], t: Totals, handle: usize) -> Told
+    ensures { Leaves (call row_bytes arena.old (kept_in room.old t) (releases handle))
         result.number arena.new (kept_in room.new result.totals) }
 {
-    let r = pool::release(arena, room, t, queue, handle);
+    let r = pool::release(arena, room, t, handle);
     let reply = r.reply;
     let totals = r.totals;
     Told {
@@ -149,13 +139,12 @@ pub extern "C" fn slotpool_release(
     arena: &mut [u8],
     room: &mut [u8],
     totals: &mut Totals,
-    queue: usize,
     handle: usize,
 ) -> u32
-    ensures { Leaves (call row_bytes arena.old (kept_in room.old totals.old) (queued queue (releases handle)))
+    ensures { Leaves (call row_bytes arena.old (kept_in room.old totals.old) (releases handle))
         result arena.new (kept_in room.new totals.new) }
 {
-    let told = release_by(arena, room, *totals, queue, handle);
+    let told = release_by(arena, room, *totals, handle);
     totals::record(totals, told.totals);
     told.number
 }
@@ -164,15 +153,14 @@ fn resize_in_place_by(
     arena: &mut [u8],
     room: &mut [u8],
     t: Totals,
-    queue: usize,
     handle: usize,
     n: usize,
     value: &mut usize,
 ) -> Told
-    ensures { Gives (call row_bytes arena.old (kept_in room.old t) (queued queue (resizes_in_place handle n)))
+    ensures { Gives (call row_bytes arena.old (kept_in room.old t) (resizes_in_place handle n))
         result.number value.new arena.new (kept_in room.new result.totals) }
 {
-    let r = resizing::resize_in_place(arena, room, t, queue, handle, n);
+    let r = resizing::resize_in_place(arena, room, t, handle, n);
     let reply = r.reply;
     let totals = r.totals;
     *value = answers::value_of(reply);
@@ -187,15 +175,14 @@ pub extern "C" fn slotpool_resize_in_place(
     arena: &mut [u8],
     room: &mut [u8],
     totals: &mut Totals,
-    queue: usize,
     handle: usize,
     n: usize,
     value: &mut usize,
 ) -> u32
-    ensures { Gives (call row_bytes arena.old (kept_in room.old totals.old) (queued queue (resizes_in_place handle n)))
+    ensures { Gives (call row_bytes arena.old (kept_in room.old totals.old) (resizes_in_place handle n))
         result value.new arena.new (kept_in room.new totals.new) }
 {
-    let told = resize_in_place_by(arena, room, *totals, queue, handle, n, value);
+    let told = resize_in_place_by(arena, room, *totals, handle, n, value);
     totals::record(totals, told.totals);
     told.number
 }
@@ -204,15 +191,14 @@ fn move_by(
     arena: &mut [u8],
     room: &mut [u8],
     t: Totals,
-    queue: usize,
     handle: usize,
     n: usize,
     value: &mut usize,
 ) -> Told
-    ensures { Gives (call row_bytes arena.old (kept_in room.old t) (queued queue (moves handle n)))
+    ensures { Gives (call row_bytes arena.old (kept_in room.old t) (moves handle n))
         result.number value.new arena.new (kept_in room.new result.totals) }
 {
-    let r = resizing::move_block(arena, room, t, queue, handle, n);
+    let r = resizing::move_block(arena, room, t, handle, n);
     let reply = r.reply;
     let totals = r.totals;
     *value = answers::value_of(reply);
@@ -227,31 +213,23 @@ pub extern "C" fn slotpool_move(
     arena: &mut [u8],
     room: &mut [u8],
     totals: &mut Totals,
-    queue: usize,
     handle: usize,
     n: usize,
     value: &mut usize,
 ) -> u32
-    ensures { Gives (call row_bytes arena.old (kept_in room.old totals.old) (queued queue (moves handle n)))
+    ensures { Gives (call row_bytes arena.old (kept_in room.old totals.old) (moves handle n))
         result value.new arena.new (kept_in room.new totals.new) }
 {
-    let told = move_by(arena, room, *totals, queue, handle, n, value);
+    let told = move_by(arena, room, *totals, handle, n, value);
     totals::record(totals, told.totals);
     told.number
 }
 
-fn measure_by(
-    arena: &[u8],
-    room: &[u8],
-    t: Totals,
-    queue: usize,
-    handle: usize,
-    value: &mut usize,
-) -> u32
-    ensures { Tells (call row_bytes arena.now (kept_in room.now t) (queued queue (measures handle))).answer
+fn measure_by(arena: &[u8], room: &[u8], t: Totals, handle: usize, value: &mut usize) -> u32
+    ensures { Tells (call row_bytes arena.now (kept_in room.now t) (measures handle)).answer
         result value.new }
 {
-    let r = pool::measure(arena, room, t, queue, handle);
+    let r = pool::measure(arena, room, t, handle);
     *value = answers::value_of(r);
     answers::number_of(r)
 }
@@ -261,14 +239,13 @@ pub extern "C" fn slotpool_measure(
     arena: &[u8],
     room: &[u8],
     totals: &Totals,
-    queue: usize,
     handle: usize,
     value: &mut usize,
 ) -> u32
-    ensures { Tells (call row_bytes arena.now (kept_in room.now totals.now) (queued queue (measures handle))).answer
+    ensures { Tells (call row_bytes arena.now (kept_in room.now totals.now) (measures handle)).answer
         result value.new }
 {
-    measure_by(arena, room, *totals, queue, handle, value)
+    measure_by(arena, room, *totals, handle, value)
 }
 
 fn report_by(arena: &[u8], room: &[u8], t: Totals) -> Told
@@ -295,31 +272,6 @@ pub extern "C" fn slotpool_report(
     let told = report_by(arena, room, *totals);
     totals::record(out, told.totals);
     told.number
-}
-
-// The two numbers of a queue's report, live blocks and their requested bytes, stand as the fields of C's struct do.
-fn report_queue_by(arena: &[u8], room: &[u8], t: Totals, queue: usize, out: &mut [usize; 2]) -> u32
-    ensures { Reports (call row_bytes arena.now (kept_in room.now t) (queued queue reports_queue)).answer result
-        out.new }
-{
-    let r = pool::report_queue(arena, room, t, queue);
-    let counted = answers::queue_totals(r);
-    *out = [counted.blocks, counted.bytes];
-    answers::queue_number(r)
-}
-
-#[unsafe(no_mangle)]
-pub extern "C" fn slotpool_report_queue(
-    arena: &[u8],
-    room: &[u8],
-    totals: &Totals,
-    queue: usize,
-    out: &mut [usize; 2],
-) -> u32
-    ensures { Reports (call row_bytes arena.now (kept_in room.now totals.now) (queued queue reports_queue)).answer result
-        out.new }
-{
-    report_queue_by(arena, room, *totals, queue, out)
 }
 
 #[unsafe(no_mangle)]
@@ -351,7 +303,6 @@ fn grant_list_by(
     arena: &mut [u8],
     room: &mut [u8],
     t: Totals,
-    queue: usize,
     total: usize,
     cap: usize,
     sizes: &[usize],
@@ -359,10 +310,10 @@ fn grant_list_by(
     value: &mut usize,
 ) -> Told
     ensures { Lists (call row_bytes arena.old (kept_in room.old t)
-        (queued queue (grants_list «total» cap (length handles.old) sizes.now)))
+        (grants_list «total» cap (length handles.old) sizes.now))
         result.number value.new handles.old handles.new arena.new (kept_in room.new result.totals) }
 {
-    let r = gather::grant_list(arena, room, t, queue, total, cap, sizes, handles);
+    let r = gather::grant_list(arena, room, t, total, cap, sizes, handles);
     let reply = r.reply;
     let totals = r.totals;
     *value = answers::value_of(reply);
@@ -377,7 +328,6 @@ pub extern "C" fn slotpool_grant_list(
     arena: &mut [u8],
     room: &mut [u8],
     totals: &mut Totals,
-    queue: usize,
     total: usize,
     cap: usize,
     sizes: &[usize],
@@ -385,12 +335,10 @@ pub extern "C" fn slotpool_grant_list(
     value: &mut usize,
 ) -> u32
     ensures { Lists (call row_bytes arena.old (kept_in room.old totals.old)
-        (queued queue (grants_list «total» cap (length handles.old) sizes.now)))
+        (grants_list «total» cap (length handles.old) sizes.now))
         result value.new handles.old handles.new arena.new (kept_in room.new totals.new) }
 {
-    let told = grant_list_by(
-        arena, room, *totals, queue, total, cap, sizes, handles, value,
-    );
+    let told = grant_list_by(arena, room, *totals, total, cap, sizes, handles, value);
     totals::record(totals, told.totals);
     told.number
 }

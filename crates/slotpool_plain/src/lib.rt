@@ -2,7 +2,7 @@
 // A slice is passed as a pointer and a length.
 ghost use Rattle.std.specs.Prelude.{◌≡◌, length};
 ghost use Rattle.classes.specs.Classes.{row_bytes};
-ghost use Rattle.model.specs.Plans.{sets_up, grants, grants_aligned, releases, resizes_in_place, moves, measures, reports, reports_queue, grants_list, queued};
+ghost use Rattle.model.specs.Plans.{sets_up, grants, grants_aligned, releases, resizes_in_place, moves, measures, reports, grants_list};
 ghost use Rattle.model.specs.Tables.{room_for};
 ghost use Rattle.model.specs.Plain.{plain_call};
 ghost use Rattle.answers.specs.Gives.{Leaves, Tells, Gives, Reports, Lists};
@@ -26,14 +26,13 @@ pub extern "C" fn slotpool_plain_set_up(arena: &mut [u8], room: &mut [u8]) -> u3
 pub extern "C" fn slotpool_plain_grant(
     arena: &mut [u8],
     room: &mut [u8],
-    queue: usize,
     n: usize,
     value: &mut usize,
 ) -> u32
-    ensures { Gives (plain_call row_bytes arena.old room.old (queued queue (grants n)))
+    ensures { Gives (plain_call row_bytes arena.old room.old (grants n))
         result value.new arena.new room.new }
 {
-    let r = plain::grant(arena, room, queue, n);
+    let r = plain::grant(arena, room, n);
     *value = answers::value_of(r);
     answers::number_of(r)
 }
@@ -42,45 +41,38 @@ pub extern "C" fn slotpool_plain_grant(
 pub extern "C" fn slotpool_plain_grant_aligned(
     arena: &mut [u8],
     room: &mut [u8],
-    queue: usize,
     n: usize,
     align: usize,
     value: &mut usize,
 ) -> u32
-    ensures { Gives (plain_call row_bytes arena.old room.old (queued queue (grants_aligned n align)))
+    ensures { Gives (plain_call row_bytes arena.old room.old (grants_aligned n align))
         result value.new arena.new room.new }
 {
-    let r = plain::grant_aligned(arena, room, queue, n, align);
+    let r = plain::grant_aligned(arena, room, n, align);
     *value = answers::value_of(r);
     answers::number_of(r)
 }
 
 #[unsafe(no_mangle)]
-pub extern "C" fn slotpool_plain_release(
-    arena: &mut [u8],
-    room: &mut [u8],
-    queue: usize,
-    handle: usize,
-) -> u32
-    ensures { Leaves (plain_call row_bytes arena.old room.old (queued queue (releases handle)))
+pub extern "C" fn slotpool_plain_release(arena: &mut [u8], room: &mut [u8], handle: usize) -> u32
+    ensures { Leaves (plain_call row_bytes arena.old room.old (releases handle))
         result arena.new room.new }
 {
-    answers::number_of(plain::release(arena, room, queue, handle))
+    answers::number_of(plain::release(arena, room, handle))
 }
 
 #[unsafe(no_mangle)]
 pub extern "C" fn slotpool_plain_resize_in_place(
     arena: &mut [u8],
     room: &mut [u8],
-    queue: usize,
     handle: usize,
     n: usize,
     value: &mut usize,
 ) -> u32
-    ensures { Gives (plain_call row_bytes arena.old room.old (queued queue (resizes_in_place handle n)))
+    ensures { Gives (plain_call row_bytes arena.old room.old (resizes_in_place handle n))
         result value.new arena.new room.new }
 {
-    let r = plain::resize_in_place(arena, room, queue, handle, n);
+    let r = plain::resize_in_place(arena, room, handle, n);
     *value = answers::value_of(r);
     answers::number_of(r)
 }
@@ -89,15 +81,14 @@ pub extern "C" fn slotpool_plain_resize_in_place(
 pub extern "C" fn slotpool_plain_move(
     arena: &mut [u8],
     room: &mut [u8],
-    queue: usize,
     handle: usize,
     n: usize,
     value: &mut usize,
 ) -> u32
-    ensures { Gives (plain_call row_bytes arena.old room.old (queued queue (moves handle n)))
+    ensures { Gives (plain_call row_bytes arena.old room.old (moves handle n))
         result value.new arena.new room.new }
 {
-    let r = plain::move_block(arena, room, queue, handle, n);
+    let r = plain::move_block(arena, room, handle, n);
     *value = answers::value_of(r);
     answers::number_of(r)
 }
@@ -106,14 +97,13 @@ pub extern "C" fn slotpool_plain_move(
 pub extern "C" fn slotpool_plain_measure(
     arena: &[u8],
     room: &[u8],
-    queue: usize,
     handle: usize,
     value: &mut usize,
 ) -> u32
-    ensures { Tells (plain_call row_bytes arena.now room.now (queued queue (measures handle))).answer
+    ensures { Tells (plain_call row_bytes arena.now room.now (measures handle)).answer
         result value.new }
 {
-    let r = plain::measure(arena, room, queue, handle);
+    let r = plain::measure(arena, room, handle);
     *value = answers::value_of(r);
     answers::number_of(r)
 }
@@ -128,26 +118,9 @@ pub extern "C" fn slotpool_plain_report(arena: &[u8], room: &[u8], out: &mut [us
 }
 
 #[unsafe(no_mangle)]
-pub extern "C" fn slotpool_plain_report_queue(
-    arena: &[u8],
-    room: &[u8],
-    queue: usize,
-    out: &mut [usize; 2],
-) -> u32
-    ensures { Reports (plain_call row_bytes arena.now room.now (queued queue reports_queue)).answer
-        result out.new }
-{
-    let r = plain::report_queue(arena, room, queue);
-    let t = answers::queue_totals(r);
-    *out = [t.blocks, t.bytes];
-    answers::queue_number(r)
-}
-
-#[unsafe(no_mangle)]
 pub extern "C" fn slotpool_plain_grant_list(
     arena: &mut [u8],
     room: &mut [u8],
-    queue: usize,
     total: usize,
     cap: usize,
     sizes: &[usize],
@@ -155,10 +128,10 @@ pub extern "C" fn slotpool_plain_grant_list(
     value: &mut usize,
 ) -> u32
     ensures { Lists (plain_call row_bytes arena.old room.old
-        (queued queue (grants_list «total» cap (length handles.old) sizes.now)))
+        (grants_list «total» cap (length handles.old) sizes.now))
         result value.new handles.old handles.new arena.new room.new }
 {
-    let r = plain_gather::grant_list(arena, room, queue, total, cap, sizes, handles);
+    let r = plain_gather::grant_list(arena, room, total, cap, sizes, handles);
     *value = answers::value_of(r);
     answers::number_of(r)
 }

@@ -1,10 +1,10 @@
 // Whether sizes can all be granted, one after the other, found without a change of the tables: by the slots of each class that are
 // not live, and the rows that are free.
-ghost use Rattle.std.specs.Prelude.{◌≡◌, true, [], ◌∷◌, ◌++◌, ℕ, ◌/◌, ◌<◌, ltb};
+ghost use Rattle.std.specs.Prelude.{◌≡◌, true, [], ◌∷◌, ◌++◌, ℕ, ◌/◌, ltb};
 ghost use Rattle.mem.specs.Lists.{every, is_some};
 ghost use Rattle.mem.specs.Bytes.{zeros};
 ghost use Rattle.classes.specs.Classes.{Lawful, size_limit};
-ghost use Rattle.model.specs.State.{Span, Pool, queues, rows_in};
+ghost use Rattle.model.specs.State.{Span, Pool, rows_in};
 ghost use Rattle.model.specs.Plans.{reserve_all};
 ghost use Rattle.model.specs.Tables.{masks_layout, sound, view};
 ghost use Rattle.serving.specs.Survey.{NotesOf};
@@ -47,12 +47,12 @@ fn note(row: usize, len: usize, room: &[u8], spare: &mut [usize], gaps: &mut [u8
     }
 }
 
-// Whether sizes can all be granted, one after the other, to any queue.
+// Whether sizes can all be granted, one after the other.
 pub fn fits(row: usize, len: usize, room: &[u8], sizes: &[usize]) -> bool
     requires room_value { sound row len room.now ≡ true }
     requires sizes_value { every (λ n. ltb n size_limit) sizes.now ≡ true }
     requires lawful { Lawful row }
-    ensures { (who : ℕ) → who < queues → result ≡ is_some (reserve_all row (view row room.now) who sizes.now) }
+    ensures { result ≡ is_some (reserve_all row (view row room.now) sizes.now) }
 {
     let mut spare = [0usize; 48];
     let mut gaps = [0u8; 512];

@@ -171,12 +171,12 @@ module _ (row : ℕ) where
       }
 
   -- a ready slot of the group of a site is taken
-  pub taken-totals : (c who k n : ℕ) (g : Site) → T (any (λ x. not (is_live x)) g.slots)
-      → Takes n (refills g.slots) (totals row (g.before ++ (group c g.slots ∷ g.after))) (totals row (pool_of (grant_in row c who k n g)))
+  pub taken-totals : (c k n : ℕ) (g : Site) → T (any (λ x. not (is_live x)) g.slots)
+      → Takes n (refills g.slots) (totals row (g.before ++ (group c g.slots ∷ g.after))) (totals row (pool_of (grant_in row c k n g)))
   unfolding totals grant_in grant_slot
-  taken-totals c who code n g spare =
-      let q = grant_in row c who code n g in
-      let k = reserve.grant-taken row c who code n g spare in
+  taken-totals c code n g spare =
+      let q = grant_in row c code n g in
+      let k = reserve.grant-taken row c code n g spare in
       let x = ready_counts k.old k.ready in
       let r = refilled g.slots in
       let A = group c g.slots ∷ g.after in

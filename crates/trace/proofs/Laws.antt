@@ -18,27 +18,25 @@ unfolding fits choose
 fits-none k n a b c d e f g =
     sym (simp (ne_eqb k 1 a, ne_eqb k 2 b, ne_eqb k 3 c, ne_eqb k 4 d, ne_eqb k 5 e, ne_eqb k 6 f, ne_eqb k 7 g))
 
--- how many bytes an operation has
+-- how many bytes an operation has, at each one that has any numbers
 pub fits_at : (k j n : ℕ) → k ≡ j → fits k n ≡ true → fits j n ≡ true
 fits_at k j n e h = ap (λ (i : ℕ). fits i n) (sym e) ∙ h
 
--- of one with a queue and one number
-pub one_number : (k j n : ℕ) → k ≡ j → (j ≡ 1) ⊎ ((j ≡ 2) ⊎ (j ≡ 4)) → fits k n ≡ true → n ≡ 6
+pub five : (k j n : ℕ) → k ≡ j → 1 ≤ j → j ≤ 5 → fits k n ≡ true → 5 ≤ n
 unfolding fits choose
-one_number k j n e (inl f) h = eqb-true n 6 (fits_at k 1 n (e ∙ f) h)
-one_number k j n e (inr (inl f)) h = eqb-true n 6 (fits_at k 2 n (e ∙ f) h)
-one_number k j n e (inr (inr f)) h = eqb-true n 6 (fits_at k 4 n (e ∙ f) h)
+five k zero n e a b h = absurd (omega arith)
+five k (suc zero) n e a b h = omega (arith, eqb-true n 5 (fits_at k 1 n e h))
+five k (suc (suc zero)) n e a b h = omega (arith, eqb-true n 5 (fits_at k 2 n e h))
+five k (suc (suc (suc zero))) n e a b h = omega (arith, eqb-true n 9 (fits_at k 3 n e h))
+five k (suc (suc (suc (suc zero)))) n e a b h = omega (arith, eqb-true n 5 (fits_at k 4 n e h))
+five k (suc (suc (suc (suc (suc zero))))) n e a b h = omega (arith, leb-true 5 n (fits_at k 5 n e h))
+five k (suc (suc (suc (suc (suc (suc j)))))) n e a b h = absurd (omega arith)
 
 -- of a resize in place and of a move
-pub two_numbers : (k j n : ℕ) → k ≡ j → (j ≡ 3) ⊎ (j ≡ 7) → fits k n ≡ true → n ≡ 10
+pub nine : (k j n : ℕ) → k ≡ j → (j ≡ 3) ⊎ (j ≡ 7) → fits k n ≡ true → n ≡ 9
 unfolding fits choose
-two_numbers k j n e (inl f) h = eqb-true n 10 (fits_at k 3 n (e ∙ f) h)
-two_numbers k j n e (inr f) h = eqb-true n 10 (fits_at k 7 n (e ∙ f) h)
-
--- of a store
-pub of_store : (k n : ℕ) → k ≡ 5 → fits k n ≡ true → 5 ≤ n
-unfolding fits choose
-of_store k n e h = leb-true 5 n (fits_at k 5 n e h)
+nine k j n e (inl f) h = eqb-true n 9 (fits_at k 3 n (e ∙ f) h)
+nine k j n e (inr f) h = eqb-true n 9 (fits_at k 7 n (e ∙ f) h)
 
 pub op_none : (k : ℕ) (s : List ℕ) (p n : ℕ) → (k ≡ 1 → ⊥) → (k ≡ 2 → ⊥) → (k ≡ 3 → ⊥) → (k ≡ 4 → ⊥) → (k ≡ 5 → ⊥) → (k ≡ 7 → ⊥)
     → Op.Report ≡ op_at k s p n
@@ -106,7 +104,7 @@ op_within k s p n f h =
     (λ _. choose_case W (eqb k 2) _ _ (λ _. tt)
     (λ _. choose_case W (eqb k 3) _ _ (λ _. tt)
     (λ _. choose_case W (eqb k 4) _ _ (λ _. tt)
-    (λ _. choose_case W (eqb k 5) _ _ (λ e. (omega (arith, of_store k n (eqb-true k 5 e) f), h))
+    (λ _. choose_case W (eqb k 5) _ _ (λ e. (omega (arith, five k 5 n (eqb-true k 5 e) (omega arith) (omega arith) f), h))
     (λ _. choose_case W (eqb k 7) _ _ (λ _. tt) (λ _. tt))))))
   where
     W : Op → Type 0

@@ -17,20 +17,20 @@ use Rattle.trace.specs.declared.Step.TheVariants.{Record, Bad, End}
 use Rattle.trace.specs.Trace.{Operation, grant, release, resize_in_place, measure, store, report, move, body, encode_record, encode_trace, writable}
 use Rattle.trace.specs.Trace.{version, four, fits, op_at, record_at, step_at, operation_of, Item, does, items_by, items_from, items}
 use Rattle.trace.specs.Written.{ReadsBack, WritesBack}
-use Rattle.trace.proofs.Laws.{fits-none, fits_at, one_number, two_numbers, of_store, record_good, at_end, whole, step_within}
+use Rattle.trace.proofs.Laws.{fits-none, fits_at, five, nine, record_good, at_end, whole, step_within}
 
 -- ---- one record, read
 
 -- the length of a record can count its bytes
 body-small : (x : Operation) → T (writable x) → length (body x) < 65536
 unfolding body writable
-body-small (grant q n) t = omega arith
-body-small (release q h) t = omega arith
-body-small (resize_in_place q h n) t = omega arith
-body-small (measure q h) t = omega arith
+body-small (grant n) t = omega arith
+body-small (release o) t = omega arith
+body-small (resize_in_place o n) t = omega arith
+body-small (measure o) t = omega arith
 body-small (store o bs) t = omega (arith, leb→le (length bs) 65530 (and_right (ltb o 4294967296) (leb (length bs) 65530) t))
 body-small report t = omega arith
-body-small (move q h n) t = omega arith
+body-small (move o n) t = omega arith
 
 -- a number that stands i bytes into a record
 four-read : (s : List ℕ) (p n i m : ℕ) (X R : List ℕ) → part p n s ≡ X ++ (high 4 m ++ R) → length X ≡ i → i + 4 ≤ n → T (ltb m 4294967296)
@@ -39,49 +39,30 @@ four-read s p n i m X R e l h t =
     ap big (sym (part-part p n i 4 s h) ∙ ap (part i 4) e ∙ ap (take 4) (drop_at X (high 4 m ++ R) i l) ∙ take_at (high 4 m) R 4 (high-length 4 m))
     ∙ big-high 4 m (ltb→lt m 4294967296 t)
 
--- the operation stands first, and then the queue
+-- an operation's two numbers
+two_read : (s : List ℕ) (p k o n : ℕ) → T (ltb o 4294967296 && ltb n 4294967296) → part p 9 s ≡ k ∷ (high 4 o ++ high 4 n)
+    → (four s (p + 1) ≡ o) × (four s (p + 5) ≡ n)
+two_read s p k o n t e = (
+  four-read s p 9 1 o (k ∷ []) (high 4 n) e refl (omega arith) (and_left (ltb o 4294967296) (ltb n 4294967296) t),
+  four-read s p 9 5 n (k ∷ high 4 o) [] e refl (omega arith) (and_right (ltb o 4294967296) (ltb n 4294967296) t),
+)
+
+-- the operation stands first
 first_read : (s : List ℕ) (p n k : ℕ) (Y : List ℕ) → part p (suc n) s ≡ k ∷ Y → get_or s p 0 ≡ k
 first_read s p n k Y e =
     let z : p ≡ p + 0 = omega arith in
     ap (λ i. get_or s i 0) z ∙ sym (get_d_part p (suc n) s 0 0 (omega arith)) ∙ ap (λ l. get_or l 0 0) e
 
-queue-read : (s : List ℕ) (p n k q : ℕ) (Y : List ℕ) → part p (suc (suc n)) s ≡ k ∷ q ∷ Y → get_or s (p + 1) 0 ≡ q
-queue-read s p n k q Y e = sym (get_d_part p (suc (suc n)) s 1 0 (omega arith)) ∙ ap (λ l. get_or l 1 0) e
-
--- the queue of an operation and its number
-one_read : (s : List ℕ) (p k q m : ℕ) → T (ltb q 256 && ltb m 4294967296) → part p 6 s ≡ k ∷ q ∷ high 4 m
-    → (get_or s (p + 1) 0 ≡ q) × (four s (p + 2) ≡ m)
-one_read s p k q m t e = (
-  queue-read s p 4 k q (high 4 m) e,
-  four-read s p 6 2 m (k ∷ q ∷ []) [] e refl (omega arith) (and_right (ltb q 256) (ltb m 4294967296) t),
-)
-
--- its queue and its two numbers
-two_read : (s : List ℕ) (p k q h n : ℕ) → T (ltb q 256 && (ltb h 4294967296 && ltb n 4294967296)) → part p 10 s ≡ k ∷ q ∷ (high 4 h ++ high 4 n)
-    → (get_or s (p + 1) 0 ≡ q) × (four s (p + 2) ≡ h) × (four s (p + 6) ≡ n)
-two_read s p k q h n t e =
-    let u = and_right (ltb q 256) (ltb h 4294967296 && ltb n 4294967296) t in (
-      queue-read s p 8 k q (high 4 h ++ high 4 n) e,
-      four-read s p 10 2 h (k ∷ q ∷ []) (high 4 n) e refl (omega arith) (and_left (ltb h 4294967296) (ltb n 4294967296) u),
-      four-read s p 10 6 n (k ∷ q ∷ high 4 h) [] e refl (omega arith) (and_right (ltb h 4294967296) (ltb n 4294967296) u),
-    )
-
 -- where the bytes of a record stand, it is read
 read-body : (x : Operation) (s : List ℕ) (p : ℕ) → T (writable x) → part p (length (body x)) s ≡ body x
     → (fits (get_or s p 0) (length (body x)) ≡ true) × (operation_of s (op_at (get_or s p 0) s p (length (body x))) ≡ x)
 unfolding body writable fits op_at operation_of choose
-read-body (grant q n) s p t e =
-    let (f, g) = one_read s p 1 q n t e in
-    rw (first_read s p 5 1 (q ∷ high 4 n) e) (refl, ap₂ grant f g)
-read-body (release q h) s p t e =
-    let (f, g) = one_read s p 2 q h t e in
-    rw (first_read s p 5 2 (q ∷ high 4 h) e) (refl, ap₂ release f g)
-read-body (resize_in_place q h n) s p t e =
-    let (f, g, i) = two_read s p 3 q h n t e in
-    rw (first_read s p 9 3 (q ∷ (high 4 h ++ high 4 n)) e) (refl, rw f (ap₂ (resize_in_place q) g i))
-read-body (measure q h) s p t e =
-    let (f, g) = one_read s p 4 q h t e in
-    rw (first_read s p 5 4 (q ∷ high 4 h) e) (refl, ap₂ measure f g)
+read-body (grant n) s p t e = rw (first_read s p 4 1 (high 4 n) e) (refl, ap grant (four-read s p 5 1 n (1 ∷ []) [] e refl (omega arith) t))
+read-body (release o) s p t e = rw (first_read s p 4 2 (high 4 o) e) (refl, ap release (four-read s p 5 1 o (2 ∷ []) [] e refl (omega arith) t))
+read-body (resize_in_place o n) s p t e =
+    let (f, g) = two_read s p 3 o n t e in
+    rw (first_read s p 8 3 (high 4 o ++ high 4 n) e) (refl, ap₂ resize_in_place f g)
+read-body (measure o) s p t e = rw (first_read s p 4 4 (high 4 o) e) (refl, ap measure (four-read s p 5 1 o (4 ∷ []) [] e refl (omega arith) t))
 read-body (store o bs) s p t e =
     let n : ℕ = length (body (store o bs)) in
     let k : ℕ = length bs in
@@ -91,9 +72,9 @@ read-body (store o bs) s p t e =
     let g : part (p + 5) k s ≡ bs = sym (part-part p n 5 k s (omega arith)) ∙ ap (part 5 k) e ∙ take_all k bs (omega arith) in
     rw (first_read s p (length (high 4 o ++ bs)) 5 (high 4 o ++ bs) e) (le-leb 5 n (omega arith), ap₂ store f (ap (λ m. part (p + 5) m s) j ∙ g))
 read-body report s p t e = rw (first_read s p 0 6 [] e) (refl, refl)
-read-body (move q h n) s p t e =
-    let (f, g, i) = two_read s p 7 q h n t e in
-    rw (first_read s p 9 7 (q ∷ (high 4 h ++ high 4 n)) e) (refl, rw f (ap₂ (move q) g i))
+read-body (move o n) s p t e =
+    let (f, g) = two_read s p 7 o n t e in
+    rw (first_read s p 8 7 (high 4 o ++ high 4 n) e) (refl, ap₂ move f g)
 
 -- ---- all records, read
 
@@ -159,24 +140,24 @@ module _ (s : List ℕ) (t : T (every (λ b. ltb b 256) s)) where
   high_part : (q k : ℕ) → q + k ≤ length s → high k (big (part q k s)) ≡ part q k s
   high_part q k h = high-big k (part q k s) (part_length q k s h) (every-part (λ b. ltb b 256) q k s t)
 
-  -- a byte and what is written behind it
-  byte_written : (p q k n : ℕ) (r : List ℕ) → get_or s p 0 ≡ k → q ≡ suc p → p + suc n ≤ length s → r ≡ part q n s → k ∷ r ≡ part p (suc n) s
-  byte_written p q k n r e f h g = sym (part-cons p n s 0 (omega arith) ∙ ap₂ (λ x l. x ∷ l) e (ap (λ j. part j n s) (sym f) ∙ sym g))
-
-  -- a number and what is written behind it
-  number-written : (p q n : ℕ) (r : List ℕ) → q ≡ p + 4 → p + (4 + n) ≤ length s → r ≡ part q n s → high 4 (four s p) ++ r ≡ part p (4 + n) s
-  number-written p q n r f h g =
-      sym (take-add 4 n (drop p s)
-      ∙ ap₂ (λ x l. x ++ l) (sym (high_part p 4 (omega arith))) (ap (take n) (drop-drop 4 p s ∙ ap (λ j. drop j s) (sym f)) ∙ sym g))
+  -- an operation, its first number and m bytes more
+  number-written : (p k m n : ℕ) → get_or s p 0 ≡ k → n ≡ 5 + m → p + n ≤ length s → k ∷ (high 4 (four s (p + 1)) ++ part (p + 5) m s) ≡ part p n s
+  number-written p k m n e l h =
+      let a : n ≡ suc (4 + m) = omega arith in
+      let b : suc p ≡ p + 1 = omega arith in
+      let c : p + 1 + 4 ≡ p + 5 = omega arith in
+      sym (ap (λ j. part p j s) a ∙ part-cons p (4 + m) s 0 (omega arith)
+      ∙ ap₂ (λ x r. x ∷ r) e (ap (λ j. part j (4 + m) s) b ∙ take-add 4 m (drop (p + 1) s)
+      ∙ ap₂ (λ x r. x ++ r) (sym (high_part (p + 1) 4 (omega arith))) (ap (take m) (drop-drop 4 (p + 1) s ∙ ap (λ j. drop j s) c))))
 
   -- a record that fits is written as it stands
   written : (k p n : ℕ) → fits k n ≡ true → get_or s p 0 ≡ k → p + n ≤ length s → body (operation_of s (op_at k s p n)) ≡ part p n s
   unfolding op_at operation_of body fits choose
   written k p n f e h =
-      choose_case W (eqb k 1) _ _ (λ a. one (eqb-true k 1 a) (inl refl))
-      (λ a. choose_case W (eqb k 2) _ _ (λ b. one (eqb-true k 2 b) (inr (inl refl)))
+      choose_case W (eqb k 1) _ _ (λ a. one (eqb-true k 1 a) (eqb-true n 5))
+      (λ a. choose_case W (eqb k 2) _ _ (λ b. one (eqb-true k 2 b) (eqb-true n 5))
       (λ b. choose_case W (eqb k 3) _ _ (λ c. two (eqb-true k 3 c) (inl refl))
-      (λ c. choose_case W (eqb k 4) _ _ (λ d. one (eqb-true k 4 d) (inr (inr refl)))
+      (λ c. choose_case W (eqb k 4) _ _ (λ d. one (eqb-true k 4 d) (eqb-true n 5))
       (λ d. choose_case W (eqb k 5) _ _ (λ g. stored (eqb-true k 5 g))
       (λ g. choose_case W (eqb k 7) _ _ (λ i. two (eqb-true k 7 i) (inr refl))
       (λ i. last (six k n f (eqb-false k 1 a) (eqb-false k 2 b) (eqb-false k 3 c) (eqb-false k 4 d) (eqb-false k 5 g) (eqb-false k 7 i))))))))
@@ -184,31 +165,16 @@ module _ (s : List ℕ) (t : T (every (λ b. ltb b 256) s)) where
       W : Op → Type 0
       W o = body (operation_of s o) ≡ part p n s
 
-      queue : ℕ
-      queue = get_or s (p + 1) 0
+      one : {j : ℕ} → k ≡ j → (fits j n ≡ true → n ≡ 5) → j ∷ high 4 (four s (p + 1)) ≡ part p n s
+      one {j} a l = number-written p j 0 n (e ∙ a) (l (fits_at k j n a f)) h
 
-      one : {j : ℕ} → k ≡ j → (j ≡ 1) ⊎ ((j ≡ 2) ⊎ (j ≡ 4)) → j ∷ queue ∷ high 4 (four s (p + 2)) ≡ part p n s
-      one {j} a b =
-          let l : n ≡ 6 = one_number k j n a b f in
-          byte_written p (p + 1) j 5 _ (e ∙ a) (omega arith) (omega arith)
-          (byte_written (p + 1) (p + 2) queue 4 _ refl (omega arith) (omega arith) (high_part (p + 2) 4 (omega arith)))
-          ∙ ap (λ i. part p i s) (sym l)
-
-      two : {j : ℕ} → k ≡ j → (j ≡ 3) ⊎ (j ≡ 7) → j ∷ queue ∷ (high 4 (four s (p + 2)) ++ high 4 (four s (p + 6))) ≡ part p n s
+      two : {j : ℕ} → k ≡ j → (j ≡ 3) ⊎ (j ≡ 7) → j ∷ (high 4 (four s (p + 1)) ++ high 4 (four s (p + 5))) ≡ part p n s
       two {j} a b =
-          let l : n ≡ 10 = two_numbers k j n a b f in
-          byte_written p (p + 1) j 9 _ (e ∙ a) (omega arith) (omega arith)
-          (byte_written (p + 1) (p + 2) queue 8 _ refl (omega arith) (omega arith)
-          (number-written (p + 2) (p + 6) 4 _ (omega arith) (omega arith) (high_part (p + 6) 4 (omega arith))))
-          ∙ ap (λ i. part p i s) (sym l)
+          let l : n ≡ 9 = nine k j n a b f in
+          ap (λ r. j ∷ (high 4 (four s (p + 1)) ++ r)) (high_part (p + 5) 4 (omega arith)) ∙ number-written p j 4 n (e ∙ a) l h
 
       stored : k ≡ 5 → 5 ∷ (high 4 (four s (p + 1)) ++ part (p + 5) (p + n - (p + 5)) s) ≡ part p n s
-      stored a =
-          let m : ℕ = p + n - (p + 5) in
-          let l : suc (4 + m) ≡ n = omega (arith, of_store k n a f) in
-          byte_written p (p + 1) 5 (4 + m) _ (e ∙ a) (omega arith) (omega arith)
-          (number-written (p + 1) (p + 5) m _ (omega arith) (omega arith) refl)
-          ∙ ap (λ i. part p i s) l
+      stored a = number-written p 5 (p + n - (p + 5)) n (e ∙ a) (omega (arith, five k 5 n a (omega arith) (omega arith) f)) h
 
       last : k ≡ 6 → 6 ∷ [] ≡ part p n s
       last a =

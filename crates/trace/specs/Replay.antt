@@ -6,7 +6,7 @@ use Rattle.mem.specs.Bytes.{zeros, put}
 use Rattle.classes.specs.Classes.{row_bytes}
 use Rattle.model.specs.declared.Totals.{Totals}
 use Rattle.model.specs.Answers.{Answer, done}
-use Rattle.model.specs.Plans.{sets_up, reports, queued, grants, releases, resizes_in_place, moves, measures}
+use Rattle.model.specs.Plans.{sets_up, grants, releases, resizes_in_place, moves, measures, reports}
 use Rattle.model.specs.Tables.{room_bytes}
 use Rattle.model.specs.Calls.{KeptBytes, kept_in, Result, call}
 use Rattle.trace.specs.Trace.{Operation, grant, release, resize_in_place, measure, store, report, move, Item, does, items, trace_right}
@@ -43,18 +43,17 @@ abbrev pub line_then : ℕ → Option Answer → List Line → List Line
 line_then i x ls = line_of i x ∷ go_on x ls
 
 module _ (row : ℕ) where
-  -- a record with a queue byte is that queue's call, any byte: the call answers for one over 7. "a store prints `0 0`"; "a store ending past the
-  -- arena" is bad, and stores nothing
+  -- "a store prints `0 0`"; "a store ending past the arena" is bad, and stores nothing
   unfoldable pub performed : List ℕ → KeptBytes → Operation → Effect
-  performed a t (grant q n) = effect (call row a t (queued q (grants n)))
-  performed a t (release q h) = effect (call row a t (queued q (releases h)))
-  performed a t (resize_in_place q h n) = effect (call row a t (queued q (resizes_in_place h n)))
-  performed a t (measure q h) = effect (call row a t (queued q (measures h)))
+  performed a t (grant n) = effect (call row a t (grants n))
+  performed a t (release o) = effect (call row a t (releases o))
+  performed a t (resize_in_place o n) = effect (call row a t (resizes_in_place o n))
+  performed a t (measure o) = effect (call row a t (measures o))
   performed a t (store o bs) =
       choose (leb (o + length bs) (length a)) (record { tells = some (done (0 ∷ [])); arena = put o bs a; kept = t })
       (record { tells = none; arena = a; kept = t })
   performed a t report = effect (call row a t reports)
-  performed a t (move q h n) = effect (call row a t (queued q (moves h n)))
+  performed a t (move o n) = effect (call row a t (moves o n))
 
   -- the lines of records, the first of which is record i: "prints `bad` and the record's number from 1 .. and ends"
   unfoldable pub lines_from : List ℕ → KeptBytes → ℕ → List Item → List Line

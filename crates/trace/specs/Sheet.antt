@@ -26,78 +26,64 @@ refuses k = told (record { number = k; values = 0 ∷ []; lent = [] })
 
 unfoldable pub sheet : List TraceCase
 sheet =
-    -- "The trace 1 0 5 1 0 0 0 0 prints `0 16`.", which 02 §10 has as version 3, of queue 0; versions 1 and 2 are bad, and so is another
-    bytes (3 ∷ 0 ∷ 6 ∷ 1 ∷ 0 ∷ 0 ∷ 0 ∷ 0 ∷ 0 ∷ []) (gives 16 ∷ [])
+    -- "The trace 1 0 5 1 0 0 0 0 prints `0 16`.", which 02 §9 has as version 2; version 1 is bad
+    bytes (2 ∷ 0 ∷ 5 ∷ 1 ∷ 0 ∷ 0 ∷ 0 ∷ 0 ∷ []) (gives 16 ∷ [])
     ∷ bytes (1 ∷ 0 ∷ 5 ∷ 1 ∷ 0 ∷ 0 ∷ 0 ∷ 0 ∷ []) (bad 0 ∷ [])
-    ∷ bytes (2 ∷ 0 ∷ 5 ∷ 1 ∷ 0 ∷ 0 ∷ 0 ∷ 0 ∷ []) (bad 0 ∷ [])
-    ∷ bytes (2 ∷ 0 ∷ 6 ∷ 1 ∷ 0 ∷ 0 ∷ 0 ∷ 0 ∷ 0 ∷ []) (bad 0 ∷ [])
-    ∷ bytes (4 ∷ 0 ∷ 1 ∷ 6 ∷ []) (bad 0 ∷ [])
-    ∷ bytes (0 ∷ 0 ∷ 1 ∷ 6 ∷ []) (bad 0 ∷ [])
-    -- every operation in bytes: the number of its kind, queue 7, and four-byte numbers, high byte first; 131,051 is 1 255 235
-    ∷ bytes (3 ∷ 0 ∷ 6 ∷ 1 ∷ 7 ∷ 0 ∷ 0 ∷ 0 ∷ 160 ∷ 0 ∷ 1 ∷ 6 ∷ 0 ∷ 7 ∷ 5 ∷ 0 ∷ 0 ∷ 0 ∷ 16 ∷ 7 ∷ 9 ∷ 0 ∷ 10 ∷ 3 ∷ 7 ∷ 0 ∷ 0 ∷ 0 ∷ 16 ∷ 0 ∷ 0 ∷ 0 ∷ 188
-    ∷ 0 ∷ 6 ∷ 4 ∷ 7 ∷ 0 ∷ 0 ∷ 0 ∷ 16 ∷ 0 ∷ 10 ∷ 7 ∷ 7 ∷ 0 ∷ 0 ∷ 0 ∷ 16 ∷ 0 ∷ 0 ∷ 0 ∷ 188 ∷ 0 ∷ 6 ∷ 2 ∷ 7 ∷ 0 ∷ 0 ∷ 0 ∷ 208 ∷ 0 ∷ 6 ∷ 1 ∷ 7 ∷ 0 ∷ 1 ∷ 255 ∷ 235
-    ∷ 0 ∷ 6 ∷ 1 ∷ 7 ∷ 0 ∷ 1 ∷ 255 ∷ 236 ∷ [])
+    -- every operation in bytes: the number of its kind, and four-byte numbers, high byte first; 131,051 is 1 255 235
+    ∷ bytes (2 ∷ 0 ∷ 5 ∷ 1 ∷ 0 ∷ 0 ∷ 0 ∷ 160 ∷ 0 ∷ 1 ∷ 6 ∷ 0 ∷ 7 ∷ 5 ∷ 0 ∷ 0 ∷ 0 ∷ 16 ∷ 7 ∷ 9 ∷ 0 ∷ 9 ∷ 3 ∷ 0 ∷ 0 ∷ 0 ∷ 16 ∷ 0 ∷ 0 ∷ 0 ∷ 188
+    ∷ 0 ∷ 5 ∷ 4 ∷ 0 ∷ 0 ∷ 0 ∷ 16 ∷ 0 ∷ 9 ∷ 7 ∷ 0 ∷ 0 ∷ 0 ∷ 16 ∷ 0 ∷ 0 ∷ 0 ∷ 188 ∷ 0 ∷ 5 ∷ 2 ∷ 0 ∷ 0 ∷ 0 ∷ 208 ∷ 0 ∷ 5 ∷ 1 ∷ 0 ∷ 1 ∷ 255 ∷ 235
+    ∷ 0 ∷ 5 ∷ 1 ∷ 0 ∷ 1 ∷ 255 ∷ 236 ∷ [])
     (gives 16 ∷ told (done (1 ∷ 160 ∷ 8 ∷ 24 ∷ 20 ∷ 0 ∷ [])) ∷ gives 0 ∷ gives 16 ∷ gives 188 ∷ gives 208 ∷ gives 0 ∷ refuses 8 ∷ refuses 3 ∷ [])
     -- where a store's bytes go: over a header, and then back as they were
-    ∷ bytes (3 ∷ 0 ∷ 6 ∷ 1 ∷ 0 ∷ 0 ∷ 0 ∷ 0 ∷ 160 ∷ 0 ∷ 7 ∷ 5 ∷ 0 ∷ 0 ∷ 0 ∷ 12 ∷ 0 ∷ 1 ∷ 0 ∷ 6 ∷ 4 ∷ 0 ∷ 0 ∷ 0 ∷ 0 ∷ 16 ∷ 0 ∷ 7 ∷ 5 ∷ 0 ∷ 0 ∷ 0 ∷ 12 ∷ 0 ∷ 160
-    ∷ 0 ∷ 6 ∷ 4 ∷ 0 ∷ 0 ∷ 0 ∷ 0 ∷ 16 ∷ []) (gives 16 ∷ gives 0 ∷ refuses 6 ∷ gives 0 ∷ gives 160 ∷ [])
-    -- no record; "An empty trace, or one over 65,535 bytes"
-    ∷ bytes (3 ∷ []) []
+    ∷ bytes (2 ∷ 0 ∷ 5 ∷ 1 ∷ 0 ∷ 0 ∷ 0 ∷ 160 ∷ 0 ∷ 7 ∷ 5 ∷ 0 ∷ 0 ∷ 0 ∷ 12 ∷ 0 ∷ 1 ∷ 0 ∷ 5 ∷ 4 ∷ 0 ∷ 0 ∷ 0 ∷ 16 ∷ 0 ∷ 7 ∷ 5 ∷ 0 ∷ 0 ∷ 0 ∷ 12 ∷ 0 ∷ 160
+    ∷ 0 ∷ 5 ∷ 4 ∷ 0 ∷ 0 ∷ 0 ∷ 16 ∷ []) (gives 16 ∷ gives 0 ∷ refuses 6 ∷ gives 0 ∷ gives 160 ∷ [])
+    -- no record; "An empty trace, or one over 65,535 bytes"; another version
+    ∷ bytes (2 ∷ []) []
     ∷ bytes [] (bad 0 ∷ [])
-    ∷ bytes (3 ∷ zeros 65535) (bad 0 ∷ [])
+    ∷ bytes (2 ∷ zeros 65535) (bad 0 ∷ [])
+    ∷ bytes (3 ∷ 0 ∷ 1 ∷ 6 ∷ []) (bad 0 ∷ [])
+    ∷ bytes (0 ∷ 0 ∷ 1 ∷ 6 ∷ []) (bad 0 ∷ [])
     -- every operation: W7's block with a report, a store, a resize in place, a measure, two releases; then 11, and a move
-    ∷ written (grant 0 160 ∷ report ∷ store 16 (7 ∷ 9 ∷ []) ∷ resize_in_place 0 16 188 ∷ measure 0 16 ∷ grant 0 160 ∷ release 0 16 ∷ release 0 16 ∷ report
-    ∷ resize_in_place 0 208 189 ∷ move 0 208 189 ∷ measure 0 4112 ∷ [])
+    ∷ written (grant 160 ∷ report ∷ store 16 (7 ∷ 9 ∷ []) ∷ resize_in_place 16 188 ∷ measure 16 ∷ grant 160 ∷ release 16 ∷ release 16 ∷ report
+    ∷ resize_in_place 208 189 ∷ move 208 189 ∷ measure 4112 ∷ [])
     (gives 16 ∷ told (done (1 ∷ 160 ∷ 8 ∷ 24 ∷ 20 ∷ 0 ∷ [])) ∷ gives 0 ∷ gives 16 ∷ gives 188 ∷ gives 208 ∷ gives 0 ∷ refuses 5
     ∷ told (done (1 ∷ 160 ∷ 8 ∷ 24 ∷ 19 ∷ 1 ∷ [])) ∷ refuses 11 ∷ gives 4112 ∷ gives 189 ∷ [])
-    -- 02 §10: a block granted for queue 3 is released for queue 3, for queue 4 it is not; nor is it measured or resized for another, and a move keeps it
-    ∷ written (grant 3 160 ∷ release 3 16 ∷ []) (gives 16 ∷ gives 0 ∷ [])
-    ∷ written (grant 3 160 ∷ release 4 16 ∷ measure 2 16 ∷ resize_in_place 0 16 7 ∷ move 7 16 7 ∷ measure 3 16 ∷ move 3 16 160 ∷ release 0 208 ∷ release 3 208 ∷ [])
-    (gives 16 ∷ refuses 12 ∷ refuses 12 ∷ refuses 12 ∷ refuses 12 ∷ gives 160 ∷ gives 208 ∷ refuses 12 ∷ gives 0 ∷ [])
-    -- a queue byte over 7 is no bad record: its call is refused before any other reason, and the replay goes on
-    ∷ written (grant 8 0 ∷ grant 255 131052 ∷ release 8 4294967295 ∷ resize_in_place 255 0 131052 ∷ measure 8 0 ∷ move 255 0 131052 ∷ grant 7 0 ∷ [])
-    (refuses 12 ∷ refuses 12 ∷ refuses 12 ∷ refuses 12 ∷ refuses 12 ∷ refuses 12 ∷ gives 16 ∷ [])
     -- 02 §7: blocks by their handles, a store by its place in the arena: 17 is a block granted again at 16, and the byte behind its first
-    ∷ written (grant 0 2028 ∷ grant 0 2028 ∷ release 0 16 ∷ grant 0 2028 ∷ store 17 (7 ∷ []) ∷ release 0 16 ∷ measure 0 16 ∷ resize_in_place 0 16 7
-    ∷ move 0 16 7 ∷ measure 0 17 ∷ release 0 17 ∷ [])
+    ∷ written (grant 2028 ∷ grant 2028 ∷ release 16 ∷ grant 2028 ∷ store 17 (7 ∷ []) ∷ release 16 ∷ measure 16 ∷ resize_in_place 16 7
+    ∷ move 16 7 ∷ measure 17 ∷ release 17 ∷ [])
     (gives 16 ∷ gives 2048 ∷ gives 0 ∷ gives 17 ∷ gives 0 ∷ refuses 10 ∷ refuses 10 ∷ refuses 10 ∷ refuses 10 ∷ gives 2028 ∷ gives 0 ∷ [])
     -- stores may lie anywhere: a wrong header, a wrong guard
-    ∷ written (grant 0 160 ∷ store 13 (1 ∷ []) ∷ release 0 16 ∷ store 13 (160 ∷ []) ∷ store 199 (1 ∷ []) ∷ measure 0 16 ∷ [])
+    ∷ written (grant 160 ∷ store 13 (1 ∷ []) ∷ release 16 ∷ store 13 (160 ∷ []) ∷ store 199 (1 ∷ []) ∷ measure 16 ∷ [])
     (gives 16 ∷ gives 0 ∷ refuses 6 ∷ gives 0 ∷ gives 0 ∷ refuses 7 ∷ [])
     -- the other refusals
-    ∷ written (grant 0 131052 ∷ grant 0 131051 ∷ grant 0 4294967295 ∷ release 0 4294967295 ∷ []) (refuses 3 ∷ refuses 8 ∷ refuses 3 ∷ refuses 4 ∷ [])
+    ∷ written (grant 131052 ∷ grant 131051 ∷ grant 4294967295 ∷ release 4294967295 ∷ []) (refuses 3 ∷ refuses 8 ∷ refuses 3 ∷ refuses 4 ∷ [])
     -- "a store ending past the arena": up to its end, one byte past it, and where the sum is past 2^32; of no bytes at the end and past it
     ∷ written (store 16383 (7 ∷ []) ∷ store 16383 (7 ∷ 8 ∷ []) ∷ report ∷ []) (gives 0 ∷ bad 2 ∷ [])
     ∷ written (store 4294967295 (1 ∷ []) ∷ []) (bad 1 ∷ [])
     ∷ written (store 16384 [] ∷ store 16385 [] ∷ []) (gives 0 ∷ bad 2 ∷ [])
     -- 65,535 bytes are read: one record, whose store is too long for the arena
     ∷ written (store 0 (zeros 65527) ∷ []) (bad 1 ∷ [])
-    -- "Any other .. length or operation": no bytes, a grant and a move as version 2 has them, one too many, a move of one number, operations 0 and 8;
-    -- earlier lines stay
-    ∷ bytes (3 ∷ 0 ∷ 0 ∷ []) (bad 1 ∷ [])
-    ∷ bytes (3 ∷ 0 ∷ 5 ∷ 1 ∷ 0 ∷ 0 ∷ 0 ∷ 0 ∷ []) (bad 1 ∷ [])
-    ∷ bytes (3 ∷ 0 ∷ 9 ∷ 7 ∷ 0 ∷ 0 ∷ 0 ∷ 0 ∷ 0 ∷ 0 ∷ 0 ∷ 0 ∷ []) (bad 1 ∷ [])
-    ∷ bytes (3 ∷ 0 ∷ 7 ∷ 1 ∷ 0 ∷ 0 ∷ 0 ∷ 0 ∷ 0 ∷ 0 ∷ []) (bad 1 ∷ [])
-    ∷ bytes (3 ∷ 0 ∷ 6 ∷ 7 ∷ 0 ∷ 0 ∷ 0 ∷ 0 ∷ 0 ∷ []) (bad 1 ∷ [])
-    ∷ bytes (3 ∷ 0 ∷ 6 ∷ 0 ∷ 0 ∷ 0 ∷ 0 ∷ 0 ∷ 0 ∷ []) (bad 1 ∷ [])
-    ∷ bytes (encode_trace (grant 0 0 ∷ []) ++ (0 ∷ 10 ∷ 8 ∷ 0 ∷ 0 ∷ 0 ∷ 0 ∷ 0 ∷ 0 ∷ 0 ∷ 0 ∷ 0 ∷ encode_record report)) (gives 16 ∷ bad 2 ∷ [])
-    -- "the queue byte .. on all but stores and the pool report": a report with one is bad
-    ∷ bytes (3 ∷ 0 ∷ 2 ∷ 6 ∷ 0 ∷ []) (bad 1 ∷ [])
+    -- "Any other .. length or operation": no bytes, one too few, one too many, a move of one number, operations 0 and 8; earlier lines stay
+    ∷ bytes (2 ∷ 0 ∷ 0 ∷ []) (bad 1 ∷ [])
+    ∷ bytes (2 ∷ 0 ∷ 4 ∷ 2 ∷ 0 ∷ 0 ∷ 0 ∷ []) (bad 1 ∷ [])
+    ∷ bytes (2 ∷ 0 ∷ 6 ∷ 1 ∷ 0 ∷ 0 ∷ 0 ∷ 0 ∷ 0 ∷ []) (bad 1 ∷ [])
+    ∷ bytes (2 ∷ 0 ∷ 5 ∷ 7 ∷ 0 ∷ 0 ∷ 0 ∷ 0 ∷ []) (bad 1 ∷ [])
+    ∷ bytes (2 ∷ 0 ∷ 5 ∷ 0 ∷ 0 ∷ 0 ∷ 0 ∷ 0 ∷ []) (bad 1 ∷ [])
+    ∷ bytes (encode_trace (grant 0 ∷ []) ++ (0 ∷ 9 ∷ 8 ∷ 0 ∷ 0 ∷ 0 ∷ 0 ∷ 0 ∷ 0 ∷ 0 ∷ 0 ∷ encode_record report)) (gives 16 ∷ bad 2 ∷ [])
     -- "a record cut short": in its length, and behind it
-    ∷ bytes (3 ∷ 0 ∷ []) (bad 1 ∷ [])
-    ∷ bytes (encode_trace (grant 0 0 ∷ report ∷ []) ++ (0 ∷ 6 ∷ 1 ∷ 0 ∷ 0 ∷ 0 ∷ 0 ∷ []))
+    ∷ bytes (2 ∷ 0 ∷ []) (bad 1 ∷ [])
+    ∷ bytes (encode_trace (grant 0 ∷ report ∷ []) ++ (0 ∷ 5 ∷ 1 ∷ 0 ∷ 0 ∷ 0 ∷ []))
     (gives 16 ∷ told (done (1 ∷ 0 ∷ 1 ∷ 31 ∷ 30 ∷ 0 ∷ [])) ∷ bad 3 ∷ [])
     ∷ []
 
--- one trace that refuses a wrong definition soonest: a store up to the arena's end, a resize in place for queue 1 and a move for queue 2 of 131,072
--- bytes, a measure for queue 8, a store one byte past the end. It is proved beside the definitions, with an empty trace of version 2; the whole sheet is
--- proved in `bench`
+-- one trace that refuses a wrong definition soonest: a store up to the arena's end, a resize in place and a move of 131,072 bytes, a store one byte past
+-- the end. It
+-- is proved beside the definitions; the whole sheet is proved in `bench`
 unfoldable pub sheet_short : List TraceCase
 sheet_short =
-    bytes (3 ∷ 0 ∷ 6 ∷ 5 ∷ 0 ∷ 0 ∷ 63 ∷ 255 ∷ 7 ∷ 0 ∷ 10 ∷ 3 ∷ 1 ∷ 0 ∷ 0 ∷ 0 ∷ 0 ∷ 0 ∷ 2 ∷ 0 ∷ 0 ∷ 0 ∷ 10 ∷ 7 ∷ 2 ∷ 0 ∷ 0 ∷ 0 ∷ 0 ∷ 0 ∷ 2 ∷ 0 ∷ 0
-    ∷ 0 ∷ 6 ∷ 4 ∷ 8 ∷ 0 ∷ 0 ∷ 0 ∷ 0 ∷ 0 ∷ 7 ∷ 5 ∷ 0 ∷ 0 ∷ 63 ∷ 255 ∷ 7 ∷ 8 ∷ [])
-    (gives 0 ∷ refuses 3 ∷ refuses 3 ∷ refuses 12 ∷ bad 5 ∷ [])
-    ∷ bytes (2 ∷ []) (bad 0 ∷ [])
+    bytes (2 ∷ 0 ∷ 6 ∷ 5 ∷ 0 ∷ 0 ∷ 63 ∷ 255 ∷ 7 ∷ 0 ∷ 9 ∷ 3 ∷ 0 ∷ 0 ∷ 0 ∷ 0 ∷ 0 ∷ 2 ∷ 0 ∷ 0 ∷ 0 ∷ 9 ∷ 7 ∷ 0 ∷ 0 ∷ 0 ∷ 0 ∷ 0 ∷ 2 ∷ 0 ∷ 0
+    ∷ 0 ∷ 7 ∷ 5 ∷ 0 ∷ 0 ∷ 63 ∷ 255 ∷ 7 ∷ 8 ∷ [])
+    (gives 0 ∷ refuses 3 ∷ refuses 3 ∷ bad 4 ∷ [])
     ∷ []
 
 -- the lines of every trace are those due

@@ -10,19 +10,18 @@ use Rattle.trace.specs.declared.Step.TheVariants.{Record, Bad, End}
 -- "Operations: 1 grant n, 2 release offset, 3 resize offset n, 4 measure offset, 5 store offset and the bytes that follow, 6 report."
 -- 02 §9: "Trace operation 3 becomes in place and 7, with the same numbers, is move"
 -- 02 §7: "traces (but for a store's offset, still an arena place) .. read handles"
--- 02 §10: "the queue byte .. on all but stores and the pool report"
 pub data Operation : Type 0 where
-  grant : (queue n : ℕ) → Operation
-  release : (queue handle : ℕ) → Operation
-  resize_in_place : (queue handle n : ℕ) → Operation
-  measure : (queue handle : ℕ) → Operation
+  grant : (n : ℕ) → Operation
+  release : (handle : ℕ) → Operation
+  resize_in_place : (handle n : ℕ) → Operation
+  measure : (handle : ℕ) → Operation
   store : (offset : ℕ) (bytes : List ℕ) → Operation
   report : Operation
-  move : (queue handle n : ℕ) → Operation
+  move : (handle n : ℕ) → Operation
 
--- "starts with a version byte"; 02 §10: "Trace version 3 ..; version 2 is then `bad 0`"
+-- "starts with a version byte"; 02 §9: "becomes 2 and version 1 is `bad 0`"
 abbrev pub version : ℕ
-version = 3
+version = 2
 
 -- "one over 65,535 bytes" is not read
 abbrev pub most_bytes : ℕ
@@ -30,15 +29,15 @@ most_bytes = 65535
 
 -- THE WRITER
 
--- "an operation byte and four-byte big-endian numbers"; 02 §10: "the queue byte after the operation"
+-- "an operation byte and four-byte big-endian numbers"
 unfoldable pub body : Operation → List ℕ
-body (grant q n) = 1 ∷ q ∷ high 4 n
-body (release q h) = 2 ∷ q ∷ high 4 h
-body (resize_in_place q h n) = 3 ∷ q ∷ (high 4 h ++ high 4 n)
-body (measure q h) = 4 ∷ q ∷ high 4 h
+body (grant n) = 1 ∷ high 4 n
+body (release o) = 2 ∷ high 4 o
+body (resize_in_place o n) = 3 ∷ (high 4 o ++ high 4 n)
+body (measure o) = 4 ∷ high 4 o
 body (store o bs) = 5 ∷ (high 4 o ++ bs)
 body report = 6 ∷ []
-body (move q h n) = 7 ∷ q ∷ (high 4 h ++ high 4 n)
+body (move o n) = 7 ∷ (high 4 o ++ high 4 n)
 
 -- "each record then has its length first, two bytes big-endian, counting what follows"
 unfoldable pub encode_record : Operation → List ℕ
@@ -48,15 +47,15 @@ encode_record x = high 2 (length (body x)) ++ body x
 unfoldable pub encode_trace : List Operation → List ℕ
 encode_trace xs = version ∷ join encode_record xs
 
--- what a record can hold: a queue of one byte, numbers of four, and as many stored bytes as its length can count
+-- what a record can hold: numbers of four bytes, and as many stored bytes as its length can count
 unfoldable pub writable : Operation → Bool
-writable (grant q n) = ltb q 256 && ltb n 4294967296
-writable (release q h) = ltb q 256 && ltb h 4294967296
-writable (resize_in_place q h n) = ltb q 256 && (ltb h 4294967296 && ltb n 4294967296)
-writable (measure q h) = ltb q 256 && ltb h 4294967296
+writable (grant n) = ltb n 4294967296
+writable (release o) = ltb o 4294967296
+writable (resize_in_place o n) = ltb o 4294967296 && ltb n 4294967296
+writable (measure o) = ltb o 4294967296
 writable (store o bs) = ltb o 4294967296 && leb (length bs) 65530
 writable report = true
-writable (move q h n) = ltb q 256 && (ltb h 4294967296 && ltb n 4294967296)
+writable (move o n) = ltb o 4294967296 && ltb n 4294967296
 
 -- THE READER
 
@@ -71,23 +70,23 @@ four s p = big (part p 4 s)
 -- whether n bytes are right for the operation k
 unfoldable pub fits : ℕ → ℕ → Bool
 fits k n =
-    choose (eqb k 1) (eqb n 6)
-    (choose (eqb k 2) (eqb n 6)
-    (choose (eqb k 3) (eqb n 10)
-    (choose (eqb k 4) (eqb n 6)
+    choose (eqb k 1) (eqb n 5)
+    (choose (eqb k 2) (eqb n 5)
+    (choose (eqb k 3) (eqb n 9)
+    (choose (eqb k 4) (eqb n 5)
     (choose (eqb k 5) (leb 5 n)
     (choose (eqb k 6) (eqb n 1)
-    (choose (eqb k 7) (eqb n 10) false))))))
+    (choose (eqb k 7) (eqb n 9) false))))))
 
 -- the operation k whose n bytes stand from place p on
 unfoldable pub op_at : ℕ → List ℕ → ℕ → ℕ → Op
 op_at k s p n =
-    choose (eqb k 1) (Grant (get_or s (p + 1) 0) (four s (p + 2)))
-    (choose (eqb k 2) (Release (get_or s (p + 1) 0) (four s (p + 2)))
-    (choose (eqb k 3) (ResizeInPlace (get_or s (p + 1) 0) (four s (p + 2)) (four s (p + 6)))
-    (choose (eqb k 4) (Measure (get_or s (p + 1) 0) (four s (p + 2)))
+    choose (eqb k 1) (Grant (four s (p + 1)))
+    (choose (eqb k 2) (Release (four s (p + 1)))
+    (choose (eqb k 3) (ResizeInPlace (four s (p + 1)) (four s (p + 5)))
+    (choose (eqb k 4) (Measure (four s (p + 1)))
     (choose (eqb k 5) (Store (four s (p + 1)) (p + 5) (p + n))
-    (choose (eqb k 7) (Move (get_or s (p + 1) 0) (four s (p + 2)) (four s (p + 6)))
+    (choose (eqb k 7) (Move (four s (p + 1)) (four s (p + 5)))
     Report)))))
 
 -- the record whose n bytes stand from place p on, with the place after it: "Any other .. length or operation .. bad"
@@ -105,22 +104,22 @@ step_at s p =
 -- the bytes of a store lie in a trace of n bytes
 abbrev pub Within : Op → ℕ → Type 0
 Within (Store o from to) n = (from ≤ to) × (to ≤ n)
-Within (Grant q n) m = Unit {0}
-Within (Release q h) m = Unit {0}
-Within (ResizeInPlace q h n) m = Unit {0}
-Within (Measure q h) m = Unit {0}
+Within (Grant n) m = Unit {0}
+Within (Release o) m = Unit {0}
+Within (ResizeInPlace o n) m = Unit {0}
+Within (Measure o) m = Unit {0}
 Within Report m = Unit {0}
-Within (Move q h n) m = Unit {0}
+Within (Move o n) m = Unit {0}
 
 -- an operation with the bytes that it stores, which stand in the trace s
 unfoldable pub operation_of : List ℕ → Op → Operation
-operation_of s (Grant q n) = grant q n
-operation_of s (Release q h) = release q h
-operation_of s (ResizeInPlace q h n) = resize_in_place q h n
-operation_of s (Measure q h) = measure q h
+operation_of s (Grant n) = grant n
+operation_of s (Release o) = release o
+operation_of s (ResizeInPlace o n) = resize_in_place o n
+operation_of s (Measure o) = measure o
 operation_of s (Store o from to) = store o (part from (to - from) s)
 operation_of s Report = report
-operation_of s (Move q h n) = move q h n
+operation_of s (Move o n) = move o n
 
 -- what a trace holds: an operation, or what is no record
 pub data Item : Type 0 where

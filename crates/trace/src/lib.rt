@@ -6,23 +6,22 @@ ghost use Rattle.trace.specs.Trace.{fits as Trace·fits};
 // The longest trace, and the version that is read.
 const MOST: usize = 65535;
 
-const VERSION: u8 = 3;
+const VERSION: u8 = 2;
 
-// An operation as it is read: the queue that asks, which may be any byte, and its numbers. A store and a report name no queue; a store has the part
-// of the trace that holds its bytes.
+// An operation as it is read: its numbers, and of a store the part of the trace that holds its bytes.
 #[derive(Drop)]
 pub enum Op {
-    Grant(u8, usize),
-    Release(u8, usize),
-    ResizeInPlace(u8, usize, usize),
-    Measure(u8, usize),
+    Grant(usize),
+    Release(usize),
+    ResizeInPlace(usize, usize),
+    Measure(usize),
     Store {
         offset: usize,
         from: usize,
         to: usize,
     },
     Report,
-    Move(u8, usize, usize),
+    Move(usize, usize),
 }
 
 // What stands at a place: a record with the place after it, what is no record, or the end.
@@ -38,13 +37,13 @@ fn fits(op: u8, n: usize) -> bool
     ensures { result ≡ Trace·fits op n }
 {
     match op {
-        1 => n == 6,
-        2 => n == 6,
-        3 => n == 10,
-        4 => n == 6,
+        1 => n == 5,
+        2 => n == 5,
+        3 => n == 9,
+        4 => n == 5,
         5 => 5 <= n,
         6 => n == 1,
-        7 => n == 10,
+        7 => n == 9,
         _ => false,
     }
 }
@@ -57,16 +56,16 @@ fn op_at(s: &[u8], at: usize, n: usize) -> Op
 {
     let op = s[at];
     match op {
-        1 => Op::Grant(s[at + 1], mem::big4(s, at + 2)),
-        2 => Op::Release(s[at + 1], mem::big4(s, at + 2)),
-        3 => Op::ResizeInPlace(s[at + 1], mem::big4(s, at + 2), mem::big4(s, at + 6)),
-        4 => Op::Measure(s[at + 1], mem::big4(s, at + 2)),
+        1 => Op::Grant(mem::big4(s, at + 1)),
+        2 => Op::Release(mem::big4(s, at + 1)),
+        3 => Op::ResizeInPlace(mem::big4(s, at + 1), mem::big4(s, at + 5)),
+        4 => Op::Measure(mem::big4(s, at + 1)),
         5 => Op::Store {
             offset: mem::big4(s, at + 1),
             from: at + 5,
             to: at + n,
         },
-        7 => Op::Move(s[at + 1], mem::big4(s, at + 2), mem::big4(s, at + 6)),
+        7 => Op::Move(mem::big4(s, at + 1), mem::big4(s, at + 5)),
         _ => Op::Report,
     }
 }

@@ -4,7 +4,7 @@
 mod replay;
 
 pub use replay::replay;
-use slotpool::{QueueTotals, Refusal, Totals};
+use slotpool::{Refusal, Totals};
 
 const UNITS: [usize; 48] = [
     1, 2, 3, 4, 5, 6, 7, 8, 9, 10, 12, 15, 18, 20, 25, 31, 36, 42, 50, 63, 72, 84, 102, 127, 146, 170, 204, 255, 292, 340, 409, 511, 584, 682,
@@ -13,9 +13,6 @@ const UNITS: [usize; 48] = [
 
 const ROW: usize = 512;
 pub const TOO_LARGE: usize = 131_052;
-
-/// The queues that share a pool: 0 to 7.
-pub const QUEUES: usize = 8;
 
 /// The most entries of a list, and the fewest places lent for one.
 pub const ENTRIES: usize = 17;
@@ -72,12 +69,10 @@ pub struct Slot {
     pub size: usize,
     /// The alignment of a live block; [`ORDINARY`] if the slot is not live.
     pub align: usize,
-    /// The queue of a live block; 0 if the slot is not live.
-    pub queue: u8,
 }
 
 impl Slot {
-    pub const NEVER_GRANTED: Slot = Slot { state: State::Ready, last: None, count: 0, size: 0, align: ORDINARY, queue: 0 };
+    pub const NEVER_GRANTED: Slot = Slot { state: State::Ready, last: None, count: 0, size: 0, align: ORDINARY };
 
     /// The handle of a live block that starts somewhere: its own grant is the last that was counted.
     pub fn handle(&self, start: usize) -> usize {
@@ -253,7 +248,6 @@ fn write_record(record: &mut [u8], i: usize, first: u8, s: &Slot) {
     let r = &mut record[16 + 8 * i..][..8];
     r[..4].copy_from_slice(&[first, s.count, low, high]);
     r[4..7].copy_from_slice(&size);
-    r[7] = s.queue;
 }
 
 fn read_by_mask(record: &[u8], i: usize) -> Option<Slot> {
@@ -282,8 +276,8 @@ fn read_by_condition(record: &[u8], i: usize) -> Option<Slot> {
 /// A slot by what its record says after the first byte. A field that says nothing is not read: it is 0 in the form.
 fn read_record(record: &[u8], i: usize, state: State, granted: bool, align: usize) -> Slot {
     let r = &record[16 + 8 * i..][..8];
-    let (size, queue) = if state == State::Live { (number(&r[4..7]), r[7]) } else { (0, 0) };
-    Slot { state, last: granted.then(|| number(&r[2..4])), count: r[1], size, align, queue }
+    let size = if state == State::Live { number(&r[4..7]) } else { 0 };
+    Slot { state, last: granted.then(|| number(&r[2..4])), count: r[1], size, align }
 }
 
 /// The place of an alignment in the list, from 1.
@@ -303,21 +297,12 @@ fn slot_rule(group: &Group, i: usize) -> bool {
         (State::Live, Some(d)) => {
             let fits = 16 * d + s.size <= most;
             let aligned = (group.beginning(i) + 16 * d) % s.align == 0;
-            fits && aligned && enlarged(s.size, s.align).is_some_and(|size| serves(group.class, size)) && usize::from(s.queue) < QUEUES
+            fits && aligned && enlarged(s.size, s.align).is_some_and(|size| serves(group.class, size))
         }
         (State::Live, None) => false,
         (State::Ready | State::Waiting, Some(d)) => 16 * d <= most && s.align == ORDINARY,
         (State::Ready, None) => s.count == 0,
         (State::Waiting, None) => false,
-    }
-}
-
-/// The queue of a number.
-fn queue_of(number: usize) -> Result<u8, Refusal> {
-    if number < QUEUES {
-        Ok(number as u8)
-    } else {
-        Err(Refusal::WrongQueue)
     }
 }
 
@@ -387,20 +372,19 @@ impl Reference {
         held
     }
 
-    pub fn grant(&mut self, queue: usize, n: usize) -> Result<usize, Refusal> {
-        self.grant_as(queue_of(queue)?, n, ORDINARY)
+    pub fn grant(&mut self, n: usize) -> Result<usize, Refusal> {
+        self.grant_as(n, ORDINARY)
     }
 
-    pub fn grant_aligned(&mut self, queue: usize, n: usize, align: usize) -> Result<usize, Refusal> {
-        let queue = queue_of(queue)?;
+    pub fn grant_aligned(&mut self, n: usize, align: usize) -> Result<usize, Refusal> {
         if !align.is_power_of_two() || align > 4096 {
             return Err(Refusal::BadAlignment);
         }
-        self.grant_as(queue, n, align.max(ORDINARY))
+        self.grant_as(n, align.max(ORDINARY))
     }
 
     /// Grants a block with an alignment of the list: the slot's count displaces an ordinary one, the next boundary any other.
-    fn grant_as(&mut self, queue: u8, n: usize, align: usize) -> Result<usize, Refusal> {
+    fn grant_as(&mut self, n: usize, align: usize) -> Result<usize, Refusal> {
         let class = class_of(enlarged(n, align).ok_or(Refusal::TooLarge)?);
         let group = match self.groups.iter().position(|g| g.class == class && g.has_room()) {
             Some(k) => k,
@@ -421,22 +405,14 @@ impl Reference {
             (begin.next_multiple_of(align) - begin) / 16
         };
         let before = g.slots[i].count;
-        g.slots[i] = Slot { state: State::Live, last: Some(d), count: before.wrapping_add(1), size: n, align, queue };
+        g.slots[i] = Slot { state: State::Live, last: Some(d), count: before.wrapping_add(1), size: n, align };
         self.arena[begin - 4..begin - 4 + s].fill(0);
         self.mark(At { group, slot: i });
         Ok(begin + 16 * d + before as usize % 16)
     }
 
     /// Grants the sizes of a proposal on a copy of the pool, which is kept if all of them were granted.
-    pub fn grant_list(
-        &mut self,
-        queue: usize,
-        length: usize,
-        cap: usize,
-        sizes: &[usize],
-        handles: &mut [usize],
-    ) -> Result<usize, Refusal> {
-        queue_of(queue)?;
+    pub fn grant_list(&mut self, length: usize, cap: usize, sizes: &[usize], handles: &mut [usize]) -> Result<usize, Refusal> {
         if too_long(length, cap) || handles.len() < ENTRIES {
             return Err(Refusal::TooLong);
         }
@@ -444,7 +420,7 @@ impl Reference {
             return Err(Refusal::BadProposal);
         }
         let mut copy = self.clone();
-        let granted = sizes.iter().map(|&n| copy.grant(queue, n)).collect::<Result<Vec<usize>, Refusal>>()?;
+        let granted = sizes.iter().map(|&n| copy.grant(n)).collect::<Result<Vec<usize>, Refusal>>()?;
         handles[..granted.len()].copy_from_slice(&granted);
         *self = copy;
         Ok(granted.len())
@@ -520,15 +496,8 @@ impl Reference {
         self.find(handle).map_or(ORDINARY, |at| self.groups[at.group].slots[at.slot].align)
     }
 
-    /// The queue of the live block at the start of a handle.
-    pub fn queue(&self, handle: usize) -> Option<usize> {
-        let slot = self.find(handle).map(|at| self.groups[at.group].slots[at.slot]);
-        slot.filter(|slot| slot.state == State::Live).map(|slot| slot.queue.into())
-    }
-
-    /// The live, undamaged block of a queue whose handle this is.
-    fn block(&self, queue: usize, handle: usize) -> Result<At, Refusal> {
-        let queue = queue_of(queue)?;
+    /// The live, undamaged block whose handle this is.
+    fn block(&self, handle: usize) -> Result<At, Refusal> {
         let at = self.find(handle).ok_or(Refusal::NoSuchBlock)?;
         let slot = self.groups[at.group].slots[at.slot];
         if slot.state != State::Live {
@@ -537,9 +506,6 @@ impl Reference {
         let start = self.start(at);
         if slot.handle(start) != handle {
             return Err(Refusal::Stale);
-        }
-        if slot.queue != queue {
-            return Err(Refusal::WrongQueue);
         }
         if self.arena[start - 4..start] != self.header(at) {
             return Err(Refusal::HeaderDamaged);
@@ -557,7 +523,7 @@ impl Reference {
     fn give_back(&mut self, at: At) {
         let g = &mut self.groups[at.group];
         let (begin, s) = (g.beginning(at.slot), slot_bytes(g.class));
-        g.slots[at.slot] = Slot { state: State::Waiting, size: 0, align: ORDINARY, queue: 0, ..g.slots[at.slot] };
+        g.slots[at.slot] = Slot { state: State::Waiting, size: 0, align: ORDINARY, ..g.slots[at.slot] };
         self.arena[begin - 4..begin - 4 + s].fill(0);
         if g.slots.iter().all(|s| s.state != State::Live) {
             let from = ROW * g.first_row;
@@ -567,22 +533,21 @@ impl Reference {
         }
     }
 
-    pub fn release(&mut self, queue: usize, handle: usize) -> Result<(), Refusal> {
-        let at = self.block(queue, handle)?;
+    pub fn release(&mut self, handle: usize) -> Result<(), Refusal> {
+        let at = self.block(handle)?;
         self.give_back(at);
         Ok(())
     }
 
-    /// The live, undamaged block of a queue whose handle this is, if `n` bytes are not too many for it, and their enlarged size.
-    fn resizable(&self, queue: usize, handle: usize, n: usize) -> Result<(At, usize), Refusal> {
-        queue_of(queue)?;
+    /// The live, undamaged block whose handle this is, if `n` bytes are not too many for it, and their enlarged size.
+    fn resizable(&self, handle: usize, n: usize) -> Result<(At, usize), Refusal> {
         // the alignment of a live block counts before it is known whether there is one, with this handle and undamaged
         let size = enlarged(n, self.alignment(handle)).ok_or(Refusal::TooLarge)?;
-        Ok((self.block(queue, handle)?, size))
+        Ok((self.block(handle)?, size))
     }
 
-    pub fn resize_in_place(&mut self, queue: usize, handle: usize, n: usize) -> Result<usize, Refusal> {
-        let (at, size) = self.resizable(queue, handle, n)?;
+    pub fn resize_in_place(&mut self, handle: usize, n: usize) -> Result<usize, Refusal> {
+        let (at, size) = self.resizable(handle, n)?;
         let (start, end) = (self.start(at), self.end(at));
         let g = &mut self.groups[at.group];
         if start + n > end || !serves(g.class, size) {
@@ -596,10 +561,10 @@ impl Reference {
         Ok(handle)
     }
 
-    pub fn move_block(&mut self, queue: usize, handle: usize, n: usize) -> Result<usize, Refusal> {
-        let (at, _) = self.resizable(queue, handle, n)?;
-        let (start, Slot { size, align, queue, .. }) = (self.start(at), self.groups[at.group].slots[at.slot]);
-        let moved = self.grant_as(queue, n, align)?;
+    pub fn move_block(&mut self, handle: usize, n: usize) -> Result<usize, Refusal> {
+        let (at, _) = self.resizable(handle, n)?;
+        let (start, Slot { size, align, .. }) = (self.start(at), self.groups[at.group].slots[at.slot]);
+        let moved = self.grant_as(n, align)?;
         self.arena.copy_within(start..start + size.min(n), start_of(moved));
         // a group that the grant made may have come before the old block's
         let old = self.find(handle).expect("the old block is live");
@@ -607,25 +572,14 @@ impl Reference {
         Ok(moved)
     }
 
-    pub fn measure(&self, queue: usize, handle: usize) -> Result<usize, Refusal> {
-        let at = self.block(queue, handle)?;
+    pub fn measure(&self, handle: usize) -> Result<usize, Refusal> {
+        let at = self.block(handle)?;
         Ok(self.groups[at.group].slots[at.slot].size)
     }
 
     /// The totals, counted anew: this pool keeps no record.
     pub fn report(&self) -> Totals {
         count(self.arena.len() / ROW, &self.groups)
-    }
-
-    /// The totals of a queue, counted.
-    pub fn report_queue(&self, queue: usize) -> Result<QueueTotals, Refusal> {
-        let queue = queue_of(queue)?;
-        let mut t = QueueTotals::default();
-        for s in self.groups.iter().flat_map(|g| &g.slots).filter(|s| s.state == State::Live && s.queue == queue) {
-            t.live_blocks += 1;
-            t.requested_bytes += s.size;
-        }
-        Ok(t)
     }
 
     /// Every live block: handle and size.

@@ -19,11 +19,11 @@ pub fn replay(trace: &[u8]) -> Vec<u8> {
 /// The answer to a record, or none for a store that ends past the arena.
 fn answer(pool: &mut Reference, op: &Op) -> Option<String> {
     let value = match *op {
-        Op::Grant(queue, n) => pool.grant(queue.into(), n as usize),
-        Op::Release(queue, handle) => pool.release(queue.into(), handle as usize).map(|()| 0),
-        Op::InPlace(queue, handle, n) => pool.resize_in_place(queue.into(), handle as usize, n as usize),
-        Op::Move(queue, handle, n) => pool.move_block(queue.into(), handle as usize, n as usize),
-        Op::Measure(queue, handle) => pool.measure(queue.into(), handle as usize),
+        Op::Grant(n) => pool.grant(n as usize),
+        Op::Release(handle) => pool.release(handle as usize).map(|()| 0),
+        Op::InPlace(handle, n) => pool.resize_in_place(handle as usize, n as usize),
+        Op::Move(handle, n) => pool.move_block(handle as usize, n as usize),
+        Op::Measure(handle) => pool.measure(handle as usize),
         Op::Store(offset, ref bytes) => {
             let from = offset as usize;
             pool.arena.get_mut(from..from + bytes.len())?.copy_from_slice(bytes);

@@ -9,7 +9,7 @@ use std::process::ExitCode;
 const USAGE: &str = "\
 usage: trace write < calls.txt > calls.trace    makes a trace of a text
        trace show < calls.trace                 shows a trace as such a text, up to what a replay prints as bad
-A text has a line for each call, where resize is in place and no queue is queue 0; blank lines are skipped, and what follows a #. Lines:";
+A text has a line for each call, where resize is in place; blank lines are skipped, and what follows a #. Lines:";
 
 type Done = Result<(), Box<dyn Error>>;
 

@@ -1,13 +1,13 @@
 //! Any bytes and numbers, lent to the library.
 
-use crate::common::{lent, Answer, Asked, Both, Buffers, Call, List, Record};
+use crate::common::{lent, Answer, Both, Buffers, Call, List, Record};
 use slotpool::{Refusal, Totals};
-use slotpool_reference::{Reference, Tables, QUEUES};
+use slotpool_reference::{Reference, Tables};
 use std::fmt::Arguments;
 
 /// Every call but set up: those on a block with its handle, a release, a resize in place and a move with other bits, grants of its size, a list of
 /// two of its size, and an aligned grant and a list with everything wrong.
-pub fn calls_on((handle, n): (usize, usize)) -> [Call; 14] {
+pub fn calls_on((handle, n): (usize, usize)) -> [Call; 13] {
     let (size, other) = (n.max(1), handle ^ 1);
     let lists = [List::new(2 * size, size, &[size, size], 17), List::new(usize::MAX, 0, &[0; 18], 16)].map(Call::GrantList);
     let aligned = [Call::GrantAligned(n, 32), Call::GrantAligned(usize::MAX, 0)];
@@ -22,7 +22,6 @@ pub fn calls_on((handle, n): (usize, usize)) -> [Call; 14] {
         Call::Move(other, n),
         Call::Measure(handle),
         Call::Report,
-        Call::ReportQueue,
         lists[0],
         aligned[1],
         lists[1],
@@ -64,29 +63,25 @@ impl Both {
 }
 
 /// A call that the library must refuse, with nothing changed.
-pub fn refused<R: Record>(buffers: &Buffers<R>, call: impl Into<Asked>, due: Refusal, told: Arguments) {
-    let (mut after, mut list, asked) = (buffers.clone(), lent(), call.into());
-    assert_eq!(after.call(&mut list, asked), Answer::Refused(due), "{told}: {asked:?} of the {} engine", R::ENGINE);
-    assert!(after == *buffers && list == lent(), "{told}: {asked:?} of the {} engine changed something", R::ENGINE);
+pub fn refused<R: Record>(buffers: &Buffers<R>, call: Call, due: Refusal, told: Arguments) {
+    let (mut after, mut list) = (buffers.clone(), lent());
+    assert_eq!(after.call(&mut list, call), Answer::Refused(due), "{told}: {call:?} of the {} engine", R::ENGINE);
+    assert!(after == *buffers && list == lent(), "{told}: {call:?} of the {} engine changed something", R::ENGINE);
 }
 
-/// Makes each call over a copy of any buffers. Unsound ones get answer 2 from all of them, with nothing changed, whatever the queue; sound ones the
-/// second implementation's answers, from both engines, for the block's queue and for another. Gives whether they are sound.
+/// Makes each call over a copy of any buffers. Unsound ones get answer 2 from all of them, with nothing changed; sound ones the second
+/// implementation's answers, from both engines. Gives whether they are sound.
 pub fn over_any<R: Judged>(buffers: &Buffers<R>, calls: &[Call], told: Arguments) -> bool {
     let Some(tables) = R::tables(buffers) else {
-        for (queue, &call) in calls.iter().enumerate() {
-            let queue = if call == Call::Report { 0 } else { queue };
-            refused(buffers, call.of(queue), Refusal::Unsound, told);
+        for &call in calls {
+            refused(buffers, call, Refusal::Unsound, told);
         }
         return false;
     };
     assert!(Buffers::saying(&buffers.arena, &tables) == *buffers, "{told}: sound, and not the form of its tables");
-    let both = Both::over(&buffers.arena, &tables);
-    for own in calls.iter().map(|&call| both.own(call)) {
-        for asked in [own, own.call.of((own.queue + 1) % QUEUES)] {
-            if let Err(why) = both.clone().call(asked) {
-                panic!("{told}: {why}");
-            }
+    for &call in calls {
+        if let Err(why) = Both::over(&buffers.arena, &tables).call(call) {
+            panic!("{told}: {why}");
         }
     }
     true

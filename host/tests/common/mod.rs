@@ -1,7 +1,7 @@
 //! One pool in both implementations, the library's by each of its two engines: answers, whole arenas, tables, records and totals are compared at every
 //! call.
 
-use slotpool::{room_len, sys, Handle, PlainPool, Pool, Queue, QueueTotals, Refusal, Totals};
+use slotpool::{room_len, Handle, PlainPool, Pool, Refusal, Totals};
 use slotpool_reference::{Reference, Tables};
 use std::fmt;
 
@@ -44,7 +44,7 @@ pub fn lent<const N: usize>() -> [usize; N] {
     std::array::from_fn(|i| 1_000_001 + i)
 }
 
-/// A call, without the queue that it names. Handles are numbers here: any number can be given for one.
+/// A call. Handles are numbers here: any number can be given for one.
 #[derive(Clone, Copy, Debug, PartialEq)]
 pub enum Call {
     SetUp,
@@ -56,44 +56,8 @@ pub enum Call {
     Move(usize, usize),
     Measure(usize),
     Report,
-    ReportQueue,
     /// A byte that the engine, not the pool, writes to a place in the arena.
     Store(usize, u8),
-}
-
-impl Call {
-    /// The call for a queue, any number.
-    pub fn of(self, queue: usize) -> Asked {
-        Asked { queue, call: self }
-    }
-
-    /// The handle that it is given, if it is a call on a block.
-    pub fn handle(self) -> Option<usize> {
-        match self {
-            Call::Release(h) | Call::InPlace(h, _) | Call::Move(h, _) | Call::Measure(h) => Some(h),
-            _ => None,
-        }
-    }
-}
-
-/// A call and the queue that it names, if it takes one.
-#[derive(Clone, Copy, PartialEq)]
-pub struct Asked {
-    pub queue: usize,
-    pub call: Call,
-}
-
-impl From<Call> for Asked {
-    /// The call for queue 0.
-    fn from(call: Call) -> Asked {
-        call.of(0)
-    }
-}
-
-impl fmt::Debug for Asked {
-    fn fmt(&self, f: &mut fmt::Formatter<'_>) -> fmt::Result {
-        write!(f, "{:?}.of({})", self.call, self.queue)
-    }
 }
 
 /// The calls that give a block another size.
@@ -106,7 +70,6 @@ pub enum Answer {
     Done,
     Value(usize),
     Totals(Totals),
-    QueueTotals(QueueTotals),
     Refused(Refusal),
 }
 
@@ -120,17 +83,6 @@ fn handle(r: Result<Handle, Refusal>) -> Answer {
 
 fn unit(r: Result<(), Refusal>) -> Answer {
     r.map_or_else(Answer::Refused, |()| Answer::Done)
-}
-
-fn queue_totals(r: Result<QueueTotals, Refusal>) -> Answer {
-    r.map_or_else(Answer::Refused, Answer::QueueTotals)
-}
-
-/// The refusal of a call in C for a queue over 7.
-fn beyond(number: u32, call: Call) -> Answer {
-    let refusals = [Refusal::Unsound, Refusal::WrongQueue];
-    let refusal = refusals.into_iter().find(|&refusal| refusal as u32 == number);
-    Answer::Refused(refusal.unwrap_or_else(|| panic!("{call:?} for a queue over 7: answer {number}")))
 }
 
 /// How many places of a lent list a call writes.
@@ -171,61 +123,28 @@ pub trait Record: Clone + PartialEq + fmt::Debug {
     fn saying(tables: &Tables) -> (Vec<u8>, Self);
 
     /// The engine's answer to a call.
-    fn call(buffers: &mut Buffers<Self>, lent: &mut Lent, asked: Asked) -> Answer;
-}
-
-/// Calls a C function of an engine with what it is lent and further arguments: the answer's number.
-macro_rules! in_c {
-    ($engine:ident::$name:ident[$arena:ident, $room:ident $(, $totals:ident)?]($($argument:expr),*)) => {
-        unsafe { sys::$engine::$name($arena.as_mut_ptr(), $arena.len(), $room.as_mut_ptr(), $room.len(), $($totals,)? $($argument),*) }
-    };
-}
-
-/// The answer of either engine's C functions to a call for a queue that the safe calls cannot name.
-macro_rules! answer_beyond {
-    ($engine:ident, $over:tt, $lent:ident, $queue:ident, $call:ident) => {{
-        let (mut value, mut handle, mut out) = (0, Handle::default(), QueueTotals::default());
-        let number = match $call {
-            Call::Grant(n) => in_c!($engine::grant $over ($queue, n, &mut handle)),
-            Call::GrantAligned(n, align) => in_c!($engine::grant_aligned $over ($queue, n, align, &mut handle)),
-            Call::GrantList(l) => {
-                let (sizes, list) = (l.sizes(), $lent.as_mut_ptr().cast());
-                in_c!($engine::grant_list $over ($queue, l.length, l.cap, sizes.as_ptr(), sizes.len(), list, l.places, &mut value))
-            }
-            Call::Release(h) => in_c!($engine::release $over ($queue, Handle::from_raw(h))),
-            Call::InPlace(h, n) => in_c!($engine::resize_in_place $over ($queue, Handle::from_raw(h), n, &mut handle)),
-            Call::Move(h, n) => in_c!($engine::move_block $over ($queue, Handle::from_raw(h), n, &mut handle)),
-            Call::Measure(h) => in_c!($engine::measure $over ($queue, Handle::from_raw(h), &mut value)),
-            Call::ReportQueue => in_c!($engine::report_queue $over ($queue, &mut out)),
-            Call::SetUp | Call::Report | Call::Store(..) => panic!("{:?} takes no queue", $call),
-        };
-        beyond(number, $call)
-    }};
+    fn call(buffers: &mut Buffers<Self>, lent: &mut Lent, call: Call) -> Answer;
 }
 
 /// The answer of a pool of either engine to a call, over what it is lent.
 macro_rules! answer {
-    ($pool:ident, $engine:ident, [$arena:ident, $room:ident $(, $totals:ident)?], $lent:ident, $queue:ident, $call:ident) => {{
-        let Ok(queue) = Queue::try_from($queue) else {
-            return answer_beyond!($engine, [$arena, $room $(, $totals)?], $lent, $queue, $call);
-        };
+    ($pool:ident($arena:ident, $room:ident $(, $totals:ident)?), $lent:ident, $call:ident) => {{
         let mut pool = $pool::over($arena, $room $(, $totals)?);
         match $call {
             Call::SetUp => unit($pool::set_up($arena, $room $(, $totals)?).map(drop)),
-            Call::Grant(n) => handle(pool.queue(queue).grant(n)),
-            Call::GrantAligned(n, align) => handle(pool.queue(queue).grant_aligned(n, align)),
+            Call::Grant(n) => handle(pool.grant(n)),
+            Call::GrantAligned(n, align) => handle(pool.grant_aligned(n, align)),
             Call::GrantList(l) => {
                 let mut handles = $lent.map(Handle::from_raw);
-                let entries = pool.queue(queue).grant_list(l.length, l.cap, l.sizes(), &mut handles[..l.places]);
+                let entries = pool.grant_list(l.length, l.cap, l.sizes(), &mut handles[..l.places]);
                 *$lent = handles.map(Handle::raw);
                 value(entries)
             }
-            Call::Release(h) => unit(pool.queue(queue).release(Handle::from_raw(h))),
-            Call::InPlace(h, n) => handle(pool.queue(queue).resize_in_place(Handle::from_raw(h), n)),
-            Call::Move(h, n) => handle(pool.queue(queue).move_block(Handle::from_raw(h), n)),
-            Call::Measure(h) => value(pool.queue(queue).measure(Handle::from_raw(h))),
+            Call::Release(h) => unit(pool.release(Handle::from_raw(h))),
+            Call::InPlace(h, n) => handle(pool.resize_in_place(Handle::from_raw(h), n)),
+            Call::Move(h, n) => handle(pool.move_block(Handle::from_raw(h), n)),
+            Call::Measure(h) => value(pool.measure(Handle::from_raw(h))),
             Call::Report => pool.report().map_or_else(Answer::Refused, Answer::Totals),
-            Call::ReportQueue => queue_totals(pool.report_queue(queue)),
             Call::Store(at, byte) => {
                 $arena[at] = byte;
                 Answer::Done
@@ -250,8 +169,8 @@ impl Record for Totals {
         (tables.write(), tables.totals())
     }
 
-    fn call(Buffers { arena, room, totals }: &mut Buffers, lent: &mut Lent, Asked { queue, call }: Asked) -> Answer {
-        answer!(Pool, masks, [arena, room, totals], lent, queue, call)
+    fn call(Buffers { arena, room, totals }: &mut Buffers, lent: &mut Lent, call: Call) -> Answer {
+        answer!(Pool(arena, room, totals), lent, call)
     }
 }
 
@@ -268,8 +187,8 @@ impl Record for () {
         (tables.write_plain(), ())
     }
 
-    fn call(Buffers { arena, room, .. }: &mut Buffers<()>, lent: &mut Lent, Asked { queue, call }: Asked) -> Answer {
-        answer!(PlainPool, plain, [arena, room], lent, queue, call)
+    fn call(Buffers { arena, room, .. }: &mut Buffers<()>, lent: &mut Lent, call: Call) -> Answer {
+        answer!(PlainPool(arena, room), lent, call)
     }
 }
 
@@ -280,8 +199,8 @@ impl<R: Record> Buffers<R> {
     }
 
     /// The engine's answer to a call.
-    pub fn call(&mut self, lent: &mut Lent, asked: impl Into<Asked>) -> Answer {
-        R::call(self, lent, asked.into())
+    pub fn call(&mut self, lent: &mut Lent, call: Call) -> Answer {
+        R::call(self, lent, call)
     }
 
     /// Says what is wrong after a call: an answer that is not the one due, anything that is not as the second implementation left it, or a change by
@@ -314,21 +233,20 @@ impl<R: Record> Buffers<R> {
 }
 
 /// The second implementation's answer to a call.
-fn second(pool: &mut Reference, lent: &mut Lent, Asked { queue, call }: Asked) -> Answer {
+fn second(pool: &mut Reference, lent: &mut Lent, call: Call) -> Answer {
     match call {
         Call::SetUp => {
             *pool = Reference::set_up(pool.arena.len());
             Answer::Done
         }
-        Call::Grant(n) => value(pool.grant(queue, n)),
-        Call::GrantAligned(n, align) => value(pool.grant_aligned(queue, n, align)),
-        Call::GrantList(l) => value(pool.grant_list(queue, l.length, l.cap, l.sizes(), &mut lent[..l.places])),
-        Call::Release(h) => unit(pool.release(queue, h)),
-        Call::InPlace(h, n) => value(pool.resize_in_place(queue, h, n)),
-        Call::Move(h, n) => value(pool.move_block(queue, h, n)),
-        Call::Measure(h) => value(pool.measure(queue, h)),
+        Call::Grant(n) => value(pool.grant(n)),
+        Call::GrantAligned(n, align) => value(pool.grant_aligned(n, align)),
+        Call::GrantList(l) => value(pool.grant_list(l.length, l.cap, l.sizes(), &mut lent[..l.places])),
+        Call::Release(h) => unit(pool.release(h)),
+        Call::InPlace(h, n) => value(pool.resize_in_place(h, n)),
+        Call::Move(h, n) => value(pool.move_block(h, n)),
+        Call::Measure(h) => value(pool.measure(h)),
         Call::Report => Answer::Totals(pool.report()),
-        Call::ReportQueue => queue_totals(pool.report_queue(queue)),
         Call::Store(at, byte) => {
             pool.arena[at] = byte;
             Answer::Done
@@ -361,34 +279,27 @@ impl Both {
         both
     }
 
-    /// A call for the queue of the block that it is on, or for queue 0.
-    pub fn own(&self, call: Call) -> Asked {
-        call.of(call.handle().and_then(|handle| self.second.queue(handle)).unwrap_or(0))
-    }
-
     /// Makes a call in each and gives the answers, the second implementation's last.
-    pub fn make(&mut self, asked: impl Into<Asked>) -> [Answer; 3] {
-        let asked = asked.into();
+    pub fn make(&mut self, call: Call) -> [Answer; 3] {
         self.lent = [lent(); 3];
         let [first, plain, second_lent] = &mut self.lent;
-        let answers = [self.first.call(first, asked), self.plain.call(plain, asked), second(&mut self.second, second_lent, asked)];
-        self.old.extend(ended(asked.call, answers[2]));
+        let answers = [self.first.call(first, call), self.plain.call(plain, call), second(&mut self.second, second_lent, call)];
+        self.old.extend(ended(call, answers[2]));
         self.old.drain(..self.old.len().saturating_sub(Both::MOST_OLD));
         answers
     }
 
     /// Makes a call in each and gives its answer, or says where they differ or what should not have changed.
-    pub fn call(&mut self, asked: impl Into<Asked>) -> Result<Answer, String> {
-        let asked = asked.into();
+    pub fn call(&mut self, call: Call) -> Result<Answer, String> {
         let (first, plain) = (self.first.clone(), self.plain.clone());
-        let answers = self.make(asked);
+        let answers = self.make(call);
         let due = answers[2];
         let right = self.first.compare(first, answers[0], due, &self.second);
-        right.and_then(|()| self.plain.compare(plain, answers[1], due, &self.second)).map_err(|why| format!("{asked:?}: {why}"))?;
+        right.and_then(|()| self.plain.compare(plain, answers[1], due, &self.second)).map_err(|why| format!("{call:?}: {why}"))?;
         let (before, [first, plain, written]): (Lent, _) = (lent(), self.lent);
-        let entries = entries(asked.call, due);
+        let entries = entries(call, due);
         if [first, plain] != [written; 2] || written[entries..] != before[entries..] {
-            return Err(format!("{asked:?}: {due:?}: the lent lists are {first:?} and {plain:?} and should be {written:?}"));
+            return Err(format!("{call:?}: {due:?}: the lent lists are {first:?} and {plain:?} and should be {written:?}"));
         }
         Ok(due)
     }

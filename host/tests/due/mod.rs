@@ -1,11 +1,10 @@
 //! Calls with the answers due.
 
-use crate::common::{Answer, Asked, Both};
+use crate::common::{Answer, Both, Call};
 
 /// Makes calls, each with the answer due.
-pub fn due<C: Into<Asked>>(both: &mut Both, calls: impl IntoIterator<Item = (C, Answer)>) {
+pub fn due(both: &mut Both, calls: impl IntoIterator<Item = (Call, Answer)>) {
     for (call, answer) in calls {
-        let asked = call.into();
-        assert_eq!(both.call(asked), Ok(answer), "{asked:?}");
+        assert_eq!(both.call(call), Ok(answer), "{call:?}");
     }
 }

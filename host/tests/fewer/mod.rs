@@ -1,15 +1,15 @@
 //! A run that went wrong, with fewer calls.
 
-use crate::common::{Asked, Both};
+use crate::common::{Both, Call};
 use crate::sample::OLD;
 
-fn run(arena_len: usize, calls: &[Asked]) -> Result<(), String> {
+fn run(arena_len: usize, calls: &[Call]) -> Result<(), String> {
     let mut both = Both::new(arena_len, OLD);
     calls.iter().try_for_each(|&c| both.call(c).map(drop))
 }
 
 /// Fails with the seed and the list of calls, cut down as long as it still goes wrong.
-pub fn fail(seed: u64, arena_len: usize, mut calls: Vec<Asked>) -> ! {
+pub fn fail(seed: u64, arena_len: usize, mut calls: Vec<Call>) -> ! {
     let mut part = calls.len() / 2;
     while part > 0 {
         let mut at = 0;

@@ -2,9 +2,9 @@
 
 pub mod lists;
 
-use crate::common::{resizes, Answer, Asked, Both, Call};
+use crate::common::{resizes, Answer, Both, Call};
 use lists::{fault, list};
-use slotpool_reference::{rows_of, slot_bytes, start_of, ORDINARY, QUEUES, TOO_LARGE};
+use slotpool_reference::{rows_of, slot_bytes, start_of, ORDINARY, TOO_LARGE};
 use std::collections::{BTreeMap, BTreeSet};
 
 /// A small generator of numbers, the same on every machine.
@@ -118,28 +118,8 @@ pub fn block(numbers: &mut Numbers, both: &Both) -> Option<(usize, usize)> {
 /// The engine that a pool serves: its next store, if it makes one.
 pub type Engine = fn(&mut Numbers, &Both) -> Option<Call>;
 
-/// Numbers of no queue. The low byte of some is a queue's.
-const NO_QUEUES: [usize; 7] = [8, 9, 15, 255, 256, (1 << 32) + 1, usize::MAX];
-
-/// A call for a queue: that of its block or, for a grant, one of a few; now and then for any, or for what is none.
-fn for_queue(numbers: &mut Numbers, both: &Both, call: Call) -> Asked {
-    match (call, numbers.below(40)) {
-        (Call::SetUp | Call::Report | Call::Store(..), _) => call.into(),
-        (_, 0..=1) => call.of(numbers.of(&NO_QUEUES)),
-        (_, 2..=5) => call.of(numbers.below(QUEUES)),
-        _ if call.handle().is_some() => both.own(call),
-        _ => call.of(numbers.of(&[0, 0, 0, 1, 1, 2, 7])),
-    }
-}
-
 /// The next call on a pool, or a store of its engine.
-pub fn next_call(numbers: &mut Numbers, both: &Both, engine: Engine) -> Asked {
-    let call = next_of_any(numbers, both, engine);
-    for_queue(numbers, both, call)
-}
-
-/// The next call, whatever its queue.
-fn next_of_any(numbers: &mut Numbers, both: &Both, engine: Engine) -> Call {
+pub fn next_call(numbers: &mut Numbers, both: &Both, engine: Engine) -> Call {
     if numbers.one_in(10) {
         return Call::GrantList(list(numbers, both));
     }
@@ -161,7 +141,7 @@ fn next_of_any(numbers: &mut Numbers, both: &Both, engine: Engine) -> Call {
             numbers.of(&resizes(h, n))
         }
         81..=87 => Call::Measure(handle(numbers, both)),
-        88..=89 => numbers.of(&[Call::Report, Call::ReportQueue]),
+        88..=89 => Call::Report,
         90 if numbers.one_in(20) => Call::SetUp,
         _ => engine(numbers, both).unwrap_or(Call::Report),
     }
@@ -170,39 +150,30 @@ fn next_of_any(numbers: &mut Numbers, both: &Both, engine: Engine) -> Call {
 /// How often each kind of call had each answer.
 pub type Seen = BTreeMap<String, usize>;
 
-/// A call and its answer's number; for a list, what is wrong with it, of a wrong queue, whether it is any, and of a stale handle, whether it is old.
-/// The pool is as the call left it.
-pub fn kind(asked: Asked, answer: &Answer, both: &Both) -> String {
+/// A call and its answer's number; for a list, what is wrong with it, and of a stale handle, whether it is old. The pool is as the call left it.
+pub fn kind(call: Call, answer: &Answer, both: &Both) -> String {
     let told = match answer {
         Answer::Refused(r) => *r as usize,
         _ => 0,
     };
     let enlarged = |n| if told == 3 && n < TOO_LARGE { " once enlarged" } else { "" };
-    let why = |h| match told {
-        10 if both.old.contains(&h) => " by an old handle",
-        12 if asked.queue < QUEUES => " by another queue",
-        _ => "",
-    };
+    let old = |h| if told == 10 && both.old.contains(&h) { " by an old handle" } else { "" };
     let resized = |name, h, n| {
         let now = if let Answer::Value(v) = answer { *v } else { h };
-        format!("{}{name} {told}{}{}", aligned(both, now), enlarged(n), why(h))
+        format!("{}{name} {told}{}{}", aligned(both, now), enlarged(n), old(h))
     };
-    match asked.call {
-        Call::SetUp => format!("set up {told}"),
-        Call::Grant(_) => format!("grant {told}"),
-        Call::GrantAligned(_, 1..=ORDINARY) if told != 13 => format!("aligned as any {told}"),
-        Call::GrantAligned(n, _) => format!("aligned {told}{}", enlarged(n)),
-        Call::GrantList(list) => {
-            let fault = fault(&list).filter(|_| told != 12);
-            format!("list {told}{}", fault.map_or(String::new(), |what| format!(" by {what}")))
-        }
-        Call::Release(h) => format!("release {told}{}", why(h)),
-        Call::InPlace(h, n) => resized("in place", h, n),
-        Call::Move(h, n) => resized("move", h, n),
-        Call::Measure(h) => format!("measure {told}{}", why(h)),
-        Call::Report => format!("report {told}"),
-        Call::ReportQueue => format!("queue report {told}"),
-        Call::Store(..) => "store".to_string(),
+    match (call, answer) {
+        (Call::SetUp, _) => format!("set up {told}"),
+        (Call::Grant(_), _) => format!("grant {told}"),
+        (Call::GrantAligned(_, 1..=ORDINARY), _) if told != 13 => format!("aligned as any {told}"),
+        (Call::GrantAligned(n, _), _) => format!("aligned {told}{}", enlarged(n)),
+        (Call::GrantList(list), _) => format!("list {told}{}", fault(&list).map_or(String::new(), |what| format!(" by {what}"))),
+        (Call::Release(h), _) => format!("release {told}{}", old(h)),
+        (Call::InPlace(h, n), _) => resized("in place", h, n),
+        (Call::Move(h, n), _) => resized("move", h, n),
+        (Call::Measure(h), _) => format!("measure {told}{}", old(h)),
+        (Call::Report, _) => format!("report {told}"),
+        (Call::Store(..), _) => "store".to_string(),
     }
 }
 
@@ -215,24 +186,20 @@ fn aligned(both: &Both, handle: usize) -> &'static str {
     }
 }
 
-/// Every answer of every call but set up while no block is damaged, and every cause of 12 and of a list's 9 and 17.
-pub const UNDAMAGED: [&str; 76] = [
+/// Every answer of every call but set up while no block is damaged, and every cause of a list's 9 and 17.
+pub const UNDAMAGED: [&str; 58] = [
     "grant 0",
-    "grant 12",
     "grant 3",
     "grant 8",
     "aligned as any 0",
-    "aligned as any 12",
     "aligned as any 3",
     "aligned as any 8",
     "aligned 0",
-    "aligned 12",
     "aligned 13",
     "aligned 3",
     "aligned 3 once enlarged",
     "aligned 8",
     "list 0",
-    "list 12",
     "list 8",
     "list 9 by few places",
     "list 9 by the cap",
@@ -243,56 +210,42 @@ pub const UNDAMAGED: [&str; 76] = [
     "list 17 by a size over the cap",
     "list 17 by another sum",
     "release 0",
-    "release 12",
     "release 4",
     "release 5",
     "release 10",
     "release 10 by an old handle",
-    "release 12 by another queue",
     "in place 0",
-    "in place 12",
     "in place 3",
     "in place 4",
     "in place 5",
     "in place 10",
     "in place 10 by an old handle",
-    "in place 12 by another queue",
     "in place 11",
     "aligned in place 0",
-    "aligned in place 12",
     "aligned in place 3",
     "aligned in place 3 once enlarged",
     "aligned in place 10",
     "aligned in place 10 by an old handle",
-    "aligned in place 12 by another queue",
     "aligned in place 11",
     "move 0",
-    "move 12",
     "move 3",
     "move 4",
     "move 5",
     "move 10",
     "move 10 by an old handle",
-    "move 12 by another queue",
     "move 8",
     "aligned move 0",
-    "aligned move 12",
     "aligned move 3",
     "aligned move 3 once enlarged",
     "aligned move 10",
     "aligned move 10 by an old handle",
-    "aligned move 12 by another queue",
     "aligned move 8",
     "measure 0",
-    "measure 12",
     "measure 4",
     "measure 5",
     "measure 10",
     "measure 10 by an old handle",
-    "measure 12 by another queue",
     "report 0",
-    "queue report 0",
-    "queue report 12",
 ];
 
 /// Fails if an answer that is due was not seen, or if any other was.

@@ -20,9 +20,9 @@ returns c row p h =
     let m = c.before.before.before.before.before.masks-at in
     let a = c.before.before.before.before.before.before.before.before.args in
     resized_slot row (now a.room) a.b p h m.result m.ensures a.n
-    (record { count = a.b.alloc.count; disp = a.b.alloc.disp; size = a.n; align = a.b.alloc.align; queue = a.b.alloc.queue })
+    (record { count = a.b.alloc.count; disp = a.b.alloc.disp; size = a.n; align = a.b.alloc.align })
     c.before.before.store.new.0
-    (ap {B = Slot} (λ b. Slot.Live (record { count = b.alloc.count; disp = b.alloc.disp; size = a.n; align = b.alloc.align; queue = b.alloc.queue })) h.block)
+    (ap {B = Slot} (λ b. Slot.Live (record { count = b.alloc.count; disp = b.alloc.disp; size = a.n; align = b.alloc.align })) h.block)
     c.before.before.store.ensures
 
 pub resize_slot_spec : {M : Type 1} → statement M

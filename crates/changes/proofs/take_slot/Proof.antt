@@ -19,7 +19,7 @@ ready : (c : tie.After-refill) → (0 < c.refill.result.ready) × (lowest c.refi
 ready c =
     let s = c.before.before.before.before in
     let a = s.args in
-    ready_number a.i a.c a.queue a.code a.n (now a.room) c.before.masks-at.result c.refill.result c.before.masks-at.ensures
+    ready_number a.i a.c a.code a.n (now a.room) c.before.masks-at.result c.refill.result c.before.masks-at.ensures
     c.refill.ensures a.row s.requires.0.0 s.requires.0.1
 
 -- the bytes before the group, and those of the slots before this one
@@ -70,15 +70,15 @@ returns c g o =
     let m₀ = m.before in
     let a = m₀.before.before.before.args in
     let e = ap (λ v. a.row * a.i + 16 + l.lowest.result * (16 * v)) u.units.ensures.0 in
-    let d = taken_slot a.i a.c a.queue a.code a.n (now a.room) m₀.masks-at.result m.refill.result m₀.masks-at.ensures
+    let d = taken_slot a.i a.c a.code a.n (now a.room) m₀.masks-at.result m.refill.result m₀.masks-at.ensures
     m.refill.ensures a.row g o l.lowest.result x.slot_at.result w.before.before.grant-slot.result w.take.result
     c.before.before.before.store.new.0 l.lowest.ensures x.slot_at.ensures
-    (w.before.before.grant-slot.ensures ∙ ap (λ b. grant_slot a.c a.queue a.code a.n b x.slot_at.result) e) w.take.ensures
+    (w.before.before.grant-slot.ensures ∙ ap (λ b. grant_slot a.c a.code a.n b x.slot_at.result) e) w.take.ensures
     c.before.before.before.store.ensures in (
       d.0,
       d.1,
       c.to-refill.ensures
-          ∙ refilled-site a.i a.c a.queue a.code a.n (now a.room) m₀.masks-at.result m.refill.result m₀.masks-at.ensures
+          ∙ refilled-site a.i a.c a.code a.n (now a.room) m₀.masks-at.result m.refill.result m₀.masks-at.ensures
           m.refill.ensures a.row g o,
     )
 

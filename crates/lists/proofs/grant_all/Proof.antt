@@ -4,7 +4,7 @@ use Rattle.mem.specs.Lists.{choose}
 use Rattle.mem.specs.Bytes.{put}
 use Rattle.classes.specs.Classes.{class_of, units}
 use Rattle.classes.specs.Alignments.{ordinary}
-use Rattle.model.specs.State.{queues, handle}
+use Rattle.model.specs.State.{handle}
 use Rattle.model.specs.Plans.{reserve, enframe, reserve_all, pool_after, totals}
 use Rattle.model.specs.Tables.{masks_layout, view}
 use Rattle.model.specs.Calls.{written}
@@ -21,15 +21,15 @@ use Rattle.lists.proofs.grant_all.Statement.{statement}
 use Rattle.lists.proofs.grant_all.Tie as tie
 
 abbrev invariant-loop : tie.invariant-loop
-invariant-loop row arena₀ room₀ queue sizes handles₀ kept₀ last₀ from₀ i₀ arena room handles kept last from i =
-    let qs = granted (reserve_all row (view row room₀) queue sizes) in
+invariant-loop row arena₀ room₀ sizes handles₀ kept₀ last₀ from₀ i₀ arena room handles kept last from i =
+    let qs = granted (reserve_all row (view row room₀) sizes) in
     (i ≤ length sizes) × (length arena ≡ length arena₀) × (length room ≡ length room₀) × (length handles ≡ length handles₀)
     × (last.class ≡ class_of last.size) × (last.class < 48) × NoneOpen masks_layout row room last.class from
-    × (kept ≡ totals row (view row room)) × (some : queue < queues) × ToGo masks_layout row queue some sizes (written arena₀ (map (enframe row) qs)) (pool_after (view row room₀) qs) (put 0 (map (handle row) qs) handles₀) i
-    arena room handles
+    × ToGo masks_layout row sizes (written arena₀ (map (enframe row) qs)) (pool_after (view row room₀) qs) (put 0 (map (handle row) qs) handles₀) i
+    arena room handles × (kept ≡ totals row (view row room))
 
 abbrev decreases-loop : tie.decreases-loop
-decreases-loop row arena₀ room₀ queue sizes handles₀ kept₀ last₀ from₀ i₀ arena room handles kept last from i = length sizes - i
+decreases-loop row arena₀ room₀ sizes handles₀ kept₀ last₀ from₀ i₀ arena room handles kept last from i = length sizes - i
 
 loop-holds : tie.Need-loop-init invariant-loop decreases-loop
 unfolding class_of units choose
@@ -43,9 +43,8 @@ loop-holds c =
       refl,
       lit≤ tt,
       open_start masks_layout s.args.row (now s.args.room) 0,
-      h.1.1.0.1,
-      h.1.0.2,
       record { lent = by_masks h.0 h.1.1.1; fits = h.1.1.0.0; arena = refl; pool = refl; list = refl },
+      h.1.1.0.1,
     )
 
 mul-with-class : tie.Need-overflow-mul-with-class invariant-loop decreases-loop
@@ -66,7 +65,7 @@ grant-one-requires c κs =
     let h = small_at (now s.args.sizes) l.i s.requires.1.0.0 d.before.before.loop-test.true in
     let p = subst (NoneOpen masks_layout s.args.row l.room d.with-class.result.class) (sym c.begin.ensures)
     (begins d.with-class.result.class l.last.class l.from l.invariant.6) in
-    (l.invariant.9.lent.sound, ((omega (arith, w.0, h), w.1 ∙ ap class_of (sym w.0), w.2, p, l.invariant.7, s.requires.1.0.2), s.requires.1.1.1))
+    (l.invariant.7.lent.sound, ((omega (arith, w.0, h), w.1 ∙ ap class_of (sym w.0), w.2, p, l.invariant.8), s.requires.1.1.1))
 
 mul-handles : tie.Need-overflow-mul-handles invariant-loop decreases-loop
 mul-handles c =
@@ -97,10 +96,10 @@ loop-again c =
     let l = d.before.loop in
     let s = d.before.before.before.before.before.before in
     let a = s.args in
-    let n = reserve a.row (view a.row l.room) a.queue ordinary in
+    let n = reserve a.row (view a.row l.room) ordinary in
     let e = w.ensures.0 in
-    let x = one_further masks_layout a.row a.queue l.invariant.8 (now a.sizes) _ _ _ s.requires.1.0.0 l.i l.arena l.room l.handles d.loop-test.true
-    l.invariant.9 g.new.1.0 g.new.1.1.0 g.result.handle (g.ensures.0.0 ∙ ap (λ k. handle_or a.row (n k)) e)
+    let x = one_further masks_layout a.row (now a.sizes) _ _ _ s.requires.1.0.0 l.i l.arena l.room l.handles d.loop-test.true
+    l.invariant.7 g.new.1.0 g.new.1.1.0 g.result.handle (g.ensures.0.0 ∙ ap (λ k. handle_or a.row (n k)) e)
     (g.ensures.1.0 ∙ ap (λ k. next_arena a.row l.arena (n k)) e)
     (g.ensures.1.1 ∙ ap (λ k. next_room a.row l.room (n k)) e) g.auto.1.0 in (
       omega (arith, d.loop-test.true),
@@ -110,18 +109,17 @@ loop-again c =
       w.ensures.1 ∙ ap class_of (sym e),
       w.ensures.2,
       subst (λ k. NoneOpen masks_layout a.row g.new.1.1.0 k g.result.first) (sym w.ensures.1)
-          (none_before x l.invariant.9.lent g.result.first (g.ensures.0.1 ∙ ap (λ k. first_or a.row (n k)) e)),
-      counts_on x l.auto g.result.totals (g.ensures.0.2 ∙ ap (λ k. totals_or a.row l.auto (n k)) e),
-      l.invariant.8,
+          (none_before x l.invariant.7.lent g.result.first (g.ensures.0.1 ∙ ap (λ k. first_or a.row (n k)) e)),
       x.rest,
+      counts_on x l.auto g.result.totals (g.ensures.0.2 ∙ ap (λ k. totals_or a.row l.auto (n k)) e),
     )
 
 returns : tie.Need-returns invariant-loop decreases-loop
 returns c =
     let a = c.before.before.before.before.before.before.args in
     let l = c.before.loop in
-    let e = all_done masks_layout a.row a.queue l.invariant.8 (now a.sizes) _ _ _ l.i l.arena l.room l.handles c.loop-test.false l.invariant.9 in
-    (e.0, (e.1, (e.2, l.invariant.7 ∙ ap (totals a.row) e.3)))
+    let e = all_done masks_layout a.row (now a.sizes) _ _ _ l.i l.arena l.room l.handles c.loop-test.false l.invariant.7 in
+    (e.0, (e.1, (e.2, l.invariant.8 ∙ ap (totals a.row) e.3)))
 
 pub grant_all_spec : {M : Type 1} → statement M
 grant_all_spec =

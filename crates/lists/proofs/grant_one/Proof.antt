@@ -19,14 +19,14 @@ lent s = by_masks s.requires.0 s.requires.1.1
 reserve-in-requires : tie.Need-reserve-in-requires
 reserve-in-requires c κs =
     let s = c.before.before.before in
-    let (h, e, l, p, q, o) = s.requires.1.0 in
-    (s.requires.0, (plain o h, ((e, l, p, q), s.requires.1.1)))
+    let (h, e, l, p, q) = s.requires.1.0 in
+    (s.requires.0, (plain h, ((e, l, p, q), s.requires.1.1)))
 
 returns : tie.Need-returns
 returns c =
     let d = c.before.before.before.before in
     let a = d.before.before.before.before.args in
-    let r = reserved-none a.row (reserve a.row (view a.row (now a.room)) a.queue ordinary a.s.size)
+    let r = reserved-none a.row (reserve a.row (view a.row (now a.room)) ordinary a.s.size)
     (sym d.reserve-in.ensures.0 ∙ c.enum_told.given.1) in (
       (sym (ap (handle_or a.row) r), sym (ap (first_or a.row) r), sym (ap (totals_or a.row a.t) r)),
       (sym (ap (next_arena a.row (now a.arena)) r), d.reserve-in.ensures.1),
@@ -34,12 +34,12 @@ returns c =
 
 -- the block that is granted
 block : (c : tie.After-known-told) → (let s = c.before.before.before.before.before.before.before.before.before in
-    GrantedOne (lent s) s.args.queue s.args.s.size s.requires.1.0.5 s.requires.1.0.0 (now s.args.arena) s.args.t c.before.b.given.0.0
+    GrantedOne (lent s) s.args.s.size s.requires.1.0.0 (now s.args.arena) s.args.t c.before.b.given.0.0
     c.before.b.given.0.1.0)
 block c =
     let d = c.before.before.before.before.before in
     let s = d.before.before.before.before in
-    granted_one (lent s) s.args.queue s.args.s.size s.requires.1.0.5 s.requires.1.0.0 (now s.args.arena) s.args.t c.before.b.given.0.0
+    granted_one (lent s) s.args.s.size s.requires.1.0.0 (now s.args.arena) s.args.t c.before.b.given.0.0
     c.before.b.given.0.1.0 (sym d.reserve-in.ensures.0 ∙ c.before.b.given.1)
 
 lay-out-requires : tie.Need-lay-out-requires

@@ -6,16 +6,16 @@ use Rattle.model.specs.Plans.{displaced, grant_slot}
 use Rattle.placing.proofs.grant_slot.Statement.{statement}
 use Rattle.placing.proofs.grant_slot.Tie as tie
 
-granted : (c who k n b j v d : ℕ) (x : Slot) → j ≡ count x → v ≡ (j + 1) % 2 ^ 8 → d ≡ displaced c k n b j
-    → Slot.Live (record { count = v; disp = d; size = n; align = k; queue = who }) ≡ grant_slot c who k n b x
+granted : (c k n b j v d : ℕ) (x : Slot) → j ≡ count x → v ≡ (j + 1) % 2 ^ 8 → d ≡ displaced c k n b j
+    → Slot.Live (record { count = v; disp = d; size = n; align = k }) ≡ grant_slot c k n b x
 unfolding grant_slot
-granted c who k n b j v d x e f g = rw (g, f, e)
+granted c k n b j v d x e f g = rw (g, f, e)
 
 returns : tie.Need-returns
 returns c =
     let k = c.before.before in
     let a = k.before.args in
-    granted a.c a.queue a.code a.n a.begin k.count_of.result c.before.wrapping-add-u8.result c.displacement.result a.x
+    granted a.c a.code a.n a.begin k.count_of.result c.before.wrapping-add-u8.result c.displacement.result a.x
     k.count_of.ensures c.before.wrapping-add-u8.ensures c.displacement.ensures
 
 pub grant_slot_spec : {M : Type 1} → statement M

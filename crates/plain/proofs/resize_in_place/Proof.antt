@@ -8,7 +8,7 @@ use Rattle.plain.proofs.resize_in_place.Tie as tie
 
 -- the block that is found
 found : (c : tie.After-known-told) → (let a = c.before.before.before.before.before.before.before.before.args in
-    At c.before.b.given.0.0 ≡ found_for row_bytes (plain_form row_bytes) (now a.arena) (now a.room) a.queue a.handle a.n)
+    At c.before.b.given.0.0 ≡ found_for row_bytes (plain_form row_bytes) (now a.arena) (now a.room) a.handle a.n)
 found c = sym c.before.b.given.1 ∙ c.before.before.before.find.ensures
 
 resize-in-place-requires : tie.Need-resize-in-place-requires
@@ -16,20 +16,20 @@ unfolding row_bytes
 resize-in-place-requires c κs =
     let k = c.before.before in
     let a = k.before.before.before.before.before.before.before.before.args in
-    size-asked (now a.arena) (now a.room) (in_place-size row_bytes (view_by slots_layout row_bytes (now a.room)) a.queue a.handle a.n) (found k)
+    size-asked (now a.arena) (now a.room) (in_place-size row_bytes (view_by slots_layout row_bytes (now a.room)) a.handle a.n) (found k)
 
 returns : tie.Need-returns
 unfolding row_bytes
 returns c =
     let k = c.before.before.before.before.before.before.before in
     let a = k.before.before.before.before.before.before.before.before.args in
-    size-given (now a.arena) (now a.room) (in_place-size row_bytes (view_by slots_layout row_bytes (now a.room)) a.queue a.handle a.n) (found k)
+    size-given (now a.arena) (now a.room) (in_place-size row_bytes (view_by slots_layout row_bytes (now a.room)) a.handle a.n) (found k)
     c.before.before.before.before.resize-in-place.ensures
 
 returns-2 : tie.Need-returns-2
 returns-2 k =
     let a = k.before.before.before.before.before.before.before.before.args in
-    size-refused (plain_form row_bytes) (now a.arena) (now a.room) (in_place-size row_bytes (view_by slots_layout row_bytes (now a.room)) a.queue a.handle a.n)
+    size-refused (plain_form row_bytes) (now a.arena) (now a.room) (in_place-size row_bytes (view_by slots_layout row_bytes (now a.room)) a.handle a.n)
     (plain_lawful row_bytes card_some) card_some k.before.r.given.0.0 (sym k.before.r.given.1 ∙ k.before.before.before.find.ensures)
 
 pub resize_in_place_spec : {M : Type 1} → statement M

@@ -27,8 +27,8 @@ returns c row p h =
     let w = c.before.before in
     let a = w.before.before.before.before.args in
     resized_slot row (now a.room) a.b p h a.n
-    (record { count = a.b.alloc.count; disp = a.b.alloc.disp; size = a.n; align = a.b.alloc.align; queue = a.b.alloc.queue }) w.store.new.0
-    (ap {B = Slot} (λ b. Slot.Live (record { count = b.alloc.count; disp = b.alloc.disp; size = a.n; align = b.alloc.align; queue = b.alloc.queue })) h.block)
+    (record { count = a.b.alloc.count; disp = a.b.alloc.disp; size = a.n; align = a.b.alloc.align }) w.store.new.0
+    (ap {B = Slot} (λ b. Slot.Live (record { count = b.alloc.count; disp = b.alloc.disp; size = a.n; align = b.alloc.align })) h.block)
     w.store.ensures
 
 pub resize_slot_spec : {M : Type 1} → statement M

@@ -48,7 +48,7 @@ store-requires c κs =
     let r = x.before.before.before.before.before in
     let s = r.before.before.before in
     let h = inside s in
-    let e = granted_code s.args.c s.args.queue s.args.code s.args.n _ x.slot_at.result g.grant-slot.result g.grant-slot.ensures in
+    let e = granted_code s.args.c s.args.code s.args.n _ x.slot_at.result g.grant-slot.result g.grant-slot.ensures in
     ((h.0, omega (arith, h.1)), (number r, omega (arith, e, s.requires.1.0.0)))
 
 returns : tie.Need-returns
@@ -62,9 +62,9 @@ returns c g o =
     let z = r.before.before.before.args in
     let q = r.ready-slot.ensures z.row g o in
     let e = ap (λ v. z.row * z.i + 16 + r.ready-slot.result * (16 * v)) u.units.ensures.0 in
-    taken_slot o z.queue z.code z.n r.ready-slot.result x.slot_at.result a.grant-slot.result r.ready-slot.new.0 w.store.new.0 q.0
+    taken_slot o z.code z.n r.ready-slot.result x.slot_at.result a.grant-slot.result r.ready-slot.new.0 w.store.new.0 q.0
     q.1
-    x.slot_at.ensures.0 (a.grant-slot.ensures ∙ ap (λ b. grant_slot z.c z.queue z.code z.n b x.slot_at.result) e) w.store.ensures
+    x.slot_at.ensures.0 (a.grant-slot.ensures ∙ ap (λ b. grant_slot z.c z.code z.n b x.slot_at.result) e) w.store.ensures
 
 pub take_slot_spec : {M : Type 1} → statement M
 take_slot_spec =

@@ -1,7 +1,5 @@
 -- What the search finds, as it is judged, is what is located.
-use Rattle.mem.proofs.Prelude.{◌∙◌, sym, ap, subst, now, needs, ltb, lt-ltb, le-ltb, length}
-use Rattle.mem.proofs.Tests.{choose-true, choose-false}
-use Rattle.model.specs.State.{queues}
+use Rattle.mem.proofs.Prelude.{◌∙◌, sym, ap, subst, now, needs, length}
 use Rattle.model.specs.Plans.{lookup}
 use Rattle.model.specs.Tables.{view_by}
 use Rattle.model.specs.Plain.{slots_layout}
@@ -13,7 +11,7 @@ use Rattle.plain_ops.proofs.locate.Tie as tie
 
 judge-requires : tie.Need-judge-requires
 judge-requires c κs =
-    let s = c.before.before.before.before.before in
+    let s = c.before.before.before.before in
     let a = s.args in (
       subst (Lies a.row (length (now a.arena))) (sym c.find-block.ensures)
           (found_lies (by_slots s.requires.0 s.requires.1) c.before.start-in.result),
@@ -21,17 +19,12 @@ judge-requires c κs =
     )
 
 returns : tie.Need-returns
-returns c = let q = c.before.before.before.args.queue in sym (choose-false (ltb q queues) _ _ (le-ltb q queues c.if1.true))
-
-returns-2 : tie.Need-returns-2
-returns-2 c =
-    let i = c.before.before.before in
-    let a = i.before.before.before.args in
-    c.judge.ensures ∙ ap (judged a.row (now a.arena) a.queue a.handle) c.before.find-block.ensures
-    ∙ judged-looked a.row (now a.arena) a.queue a.handle (lookup a.row (view_by slots_layout a.row (now a.room)) c.before.before.start-in.result)
-    ∙ ap (λ o. located a.row (now a.arena) a.queue a.handle (lookup a.row (view_by slots_layout a.row (now a.room)) o))
+returns c =
+    let a = c.before.before.before.before.before.args in
+    c.judge.ensures ∙ ap (judged a.row (now a.arena) a.handle) c.before.find-block.ensures
+    ∙ judged-looked a.row (now a.arena) a.handle (lookup a.row (view_by slots_layout a.row (now a.room)) c.before.before.start-in.result)
+    ∙ ap (λ o. located a.row (now a.arena) a.handle (lookup a.row (view_by slots_layout a.row (now a.room)) o))
     c.before.before.start-in.ensures
-    ∙ sym (choose-true (ltb a.queue queues) _ _ (lt-ltb a.queue queues i.if1.false))
 
 pub locate_spec : {M : Type 1} → statement M
-locate_spec = tie.close (tie.spec returns (λ c κs. search needs) (λ c κs. search needs) judge-requires returns-2)
+locate_spec = tie.close (tie.spec (λ c κs. search needs) (λ c κs. search needs) judge-requires returns)

@@ -25,23 +25,23 @@ returns c p h =
     let d = c.before.before.before.before in
     let s = d.before.before.before.before in
     let a = s.args in
-    let e = reserved-none a.row (reserve a.row (view_by slots_layout a.row (now a.room)) a.b.alloc.queue a.b.alloc.align a.n)
+    let e = reserved-none a.row (reserve a.row (view_by slots_layout a.row (now a.room)) a.b.alloc.align a.n)
     (sym d.reserve-slot.ensures.0 ∙ c.enum_told.given.1) in
     rw (
       d.reserve-slot.ensures.1 ∙ ap (next_room_by slots_layout a.row (now a.room)) e,
-      unmoved_plan (room s) a.b.alloc.queue a.b.alloc.align a.n h (ap (λ b. b.alloc.queue) h.block) (ap (λ b. b.alloc.align) h.block) e,
+      unmoved_plan (room s) a.b.alloc.align a.n h (ap (λ b. b.alloc.align) h.block) e,
     )
     (refused_on_lem h (now a.arena) NoRoom)
 
 -- the place that is taken, and the room with it
 new : (c : tie.After-known-told) → (let d = c.before.before.before.before.before in
     let a = d.before.before.before.before.args in
-    (q : Place) × (reserve a.row (view_by slots_layout a.row (now a.room)) a.b.alloc.queue a.b.alloc.align a.n ≡ some q) × (block_of a.row q
+    (q : Place) × (reserve a.row (view_by slots_layout a.row (now a.room)) a.b.alloc.align a.n ≡ some q) × (block_of a.row q
     ≡ c.before.q.given.0.0))
 new c =
     let d = c.before.before.before.before.before in
     let a = d.before.before.before.before.args in
-    reserved_place a.row (reserve a.row (view_by slots_layout a.row (now a.room)) a.b.alloc.queue a.b.alloc.align a.n) c.before.q.given.0.0
+    reserved_place a.row (reserve a.row (view_by slots_layout a.row (now a.room)) a.b.alloc.align a.n) c.before.q.given.0.0
     (sym d.reserve-slot.ensures.0 ∙ c.before.q.given.1)
 
 after : (c : tie.After-known-told) → (let d = c.before.before.before.before.before in
@@ -57,7 +57,7 @@ stands : (c : tie.After-known-told) → (let a = c.before.before.before.before.b
 stands c =
     let s = c.before.before.before.before.before.before.before.before.before in
     let (q, f, e) = new c in
-    rw (sym e) (reserve-leaves (room s) s.args.b.alloc.queue s.args.b.alloc.align s.args.n s.requires.1.1.0 q f).stands
+    rw (sym e) (reserve-leaves (room s) s.args.b.alloc.align s.args.n s.requires.1.1.0 q f).stands
 
 old : (s : tie.Start) → Standing s.args.row (length (now s.args.arena)) s.args.b
 old s = held_stands (room s) s.requires.1.0.1
@@ -88,7 +88,7 @@ copy-within-requires c κs =
     let from = c.before.before.start_of_lem.ensures.0 in
     let at = c.before.start-of2.ensures.0 in
     let to = at ∙ ap (start_at a.row) (sym e) in
-    let z = taken-size (room s) a.b.alloc.queue a.b.alloc.align a.n s.requires.1.1.0 q f s.requires.1.0.1 in
+    let z = taken-size (room s) a.b.alloc.align a.n s.requires.1.1.0 q f s.requires.1.0.1 in
     let zb = ap (λ b. b.alloc.size) e in
     let m = c.lesser.ensures in (
       (
@@ -96,7 +96,7 @@ copy-within-requires c κs =
         omega (arith, l, at, m, h.owned, h.bytes, z, zb),
       ),
       ⊎_elim (λ x. inl (omega (arith, x, from, to, m))) (λ x. inr (omega (arith, x, from, to, m)))
-          (copy_apart (room s) a.b.alloc.queue a.b.alloc.align a.n s.requires.1.1.0 q f s.requires.1.0.1 (min a.b.alloc.size a.n) (omega arith)
+          (copy_apart (room s) a.b.alloc.align a.n s.requires.1.1.0 q f s.requires.1.0.1 (min a.b.alloc.size a.n) (omega arith)
           (omega (arith, z))),
     )
 
@@ -105,12 +105,12 @@ still : (c : tie.After-known-told) → (let s = c.before.before.before.before.be
     let a = s.args in
     (p : Place) (h : Holds slots_layout a.row (now a.room) a.b p)
     → Holds slots_layout a.row c.before.before.before.before.before.reserve-slot.new.1.1.0 a.b
-    (beside (room s) a.b.alloc.queue a.b.alloc.align a.n s.requires.1.1.0 (new c).0 (new c).1 h).place)
+    (beside (room s) a.b.alloc.align a.n s.requires.1.1.0 (new c).0 (new c).1 h).place)
 still c p h =
     let s = c.before.before.before.before.before.before.before.before.before in
-    subst (λ u. Holds slots_layout s.args.row u s.args.b (beside (room s) s.args.b.alloc.queue s.args.b.alloc.align s.args.n s.requires.1.1.0 (new c).0
+    subst (λ u. Holds slots_layout s.args.row u s.args.b (beside (room s) s.args.b.alloc.align s.args.n s.requires.1.1.0 (new c).0
     (new c).1 h).place)
-    (sym (after c)) (beside_holds (room s) s.args.b.alloc.queue s.args.b.alloc.align s.args.n s.requires.1.1.0 (new c).0 (new c).1 h)
+    (sym (after c)) (beside_holds (room s) s.args.b.alloc.align s.args.n s.requires.1.1.0 (new c).0 (new c).1 h)
 
 discard-requires : tie.Need-discard-requires
 discard-requires c κs =
@@ -122,7 +122,7 @@ discard-requires c κs =
     let l : length y.new.0 ≡ length (now a.arena) = ap length y.ensures ∙ put-length _ _ x.new.1.0 ∙ ap length x.ensures.1
     ∙ put-length _ _ (now a.arena) in
     let (q, f, e) = new k in (
-      ap₂ (sound_by slots_layout a.row) l (after k) ∙ (reserve-leaves (room s) a.b.alloc.queue a.b.alloc.align a.n s.requires.1.1.0 q f).room.sound,
+      ap₂ (sound_by slots_layout a.row) l (after k) ∙ (reserve-leaves (room s) a.b.alloc.align a.n s.requires.1.1.0 q f).room.sound,
       ((_, still k s.requires.1.0.0 s.requires.1.0.1), s.requires.1.1.1),
     )
 
@@ -142,9 +142,9 @@ returns-2 c p h =
     let g = d.ensures _ (still k p h) in
     let copied : y.new.0 ≡ put (start_at a.row b) (part (start_at a.row a.b) (min a.b.alloc.size a.n) x.new.1.0) x.new.1.0 =
     y.ensures ∙ rw (to.ensures.0, from.ensures.0, m.ensures) in
-    moved (room s) a.b.alloc.queue a.b.alloc.align a.n s.requires.1.1.0 (new k).0 (new k).1 h b (now a.arena) x.new.1.0 y.new.0 d.new.1.0
+    moved (room s) a.b.alloc.align a.n s.requires.1.1.0 (new k).0 (new k).1 h b (now a.arena) x.new.1.0 y.new.0 d.new.1.0
     d.new.1.1.0
-    x.result (new k).2 x.ensures.1 copied g.0 g.1 x.ensures.0 (ap (λ b. b.alloc.queue) h.block) (ap (λ b. b.alloc.align) h.block)
+    x.result (new k).2 x.ensures.1 copied g.0 g.1 x.ensures.0 (ap (λ b. b.alloc.align) h.block)
 
 pub move_block_spec : {M : Type 1} → statement M
 move_block_spec =

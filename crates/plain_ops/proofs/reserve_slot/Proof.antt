@@ -38,7 +38,7 @@ returns c =
     let k = f.before.before in
     let s = k.before.before.before in
     let a = s.args in
-    let q = reserved_nothing (room s) k.class_of.result a.queue a.code a.n (class k) f.site-for.new.1.1.0
+    let q = reserved_nothing (room s) k.class_of.result a.code a.n (class k) f.site-for.new.1.1.0
     (record { found = sym c.enum_told.given.1 ∙ f.site-for.ensures.0; room = f.site-for.ensures.1 }) in
     (ap (reserved_as a.row) (sym q.0), q.1 ∙ ap (next_room_by slots_layout a.row (now a.room)) (sym q.0))
 
@@ -73,7 +73,7 @@ returns-2 c =
     let a = s.args in
     let (g, f, o) = offer d in
     let e = t.take-slot.ensures g o in
-    let q = reserved_at (room s) k.class_of.result a.queue a.code a.n (class k) g f in
+    let q = reserved_at (room s) k.class_of.result a.code a.n (class k) g f in
     (ap Taken e.0 ∙ ap (reserved_as a.row) (sym q), e.1 ∙ ap (next_room_by slots_layout a.row (now a.room)) (sym q))
 
 pub reserve_slot_spec : {M : Type 1} → statement M

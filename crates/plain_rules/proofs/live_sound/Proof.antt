@@ -4,7 +4,7 @@ use Rattle.mem.proofs.Prelude.{le-leb, lt-leb, le-ltb, lt-ltb, not-false, not-tr
 use Rattle.classes.specs.Classes.{slot_bytes, size_limit}
 use Rattle.classes.specs.Alignments.{enlarged}
 use Rattle.classes.proofs.Alignments.{enlarged_least}
-use Rattle.model.specs.State.{slot_sound, queues}
+use Rattle.model.specs.State.{slot_sound}
 use Rattle.plain_rules.proofs.live_sound.Statement.{statement}
 use Rattle.plain_rules.proofs.live_sound.Tie as tie
 
@@ -58,17 +58,9 @@ returns-5 c =
     rw (← n.ensures.0, ← o.ensures, not-true o.result c.if5.true) (sym (simp and-false))
 
 returns-6 : tie.Need-returns-6
-unfolding slot_sound
-returns-6 c =
-    let w = c.before.wide in
-    rw (← w.ensures.0, le-ltb w.result queues (omega (arith, c.if6.true))) (sym (simp and-false))
-
-returns-7 : tie.Need-returns-7
 unfolding slot_sound slot_bytes
-returns-7 c =
-    let j = c.before.before in
-    let w = j.before.wide in
-    let i = j.before.before in
+returns-6 c =
+    let i = c.before.before in
     let o = i.before.own-class in
     let n = i.before.before.enlarged in
     let q = i.before.before.before in
@@ -85,13 +77,11 @@ returns-7 c =
       ← n.ensures.0,
       ← o.ensures,
       not-false o.result i.if5.false,
-      ← w.ensures.0,
-      lt-ltb w.result queues (omega (arith, j.if6.false)),
       ← c.align-of.ensures.0,
     )
 
 pub live_sound_spec : {M : Type 1} → statement M
 live_sound_spec =
     tie.close (tie.spec (λ c κs. search needs) (λ c. search needs) (λ c. search needs) (λ c. search needs) (λ c. search needs) returns returns-2 returns-3
-    (λ c κs. search needs) returns-4 enlarged-requires own-class-requires returns-5 (λ c κs. search needs) returns-6 (λ c. search needs) (λ c. search needs)
-    (λ c κs. search needs) (λ c. search needs) returns-7)
+    (λ c κs. search needs) returns-4 enlarged-requires own-class-requires returns-5 (λ c. search needs) (λ c. search needs) (λ c κs. search needs)
+    (λ c. search needs) returns-6)

@@ -7,7 +7,7 @@ use Rattle.classes.specs.Classes.{row_bytes}
 use Rattle.model.specs.declared.Totals.{Totals}
 use Rattle.model.specs.declared.Answered.{Answered}
 use Rattle.model.specs.Answers.{Answer, done, reply_answer}
-use Rattle.model.specs.Plans.{Call, reports, queued, grants, releases, resizes_in_place, moves, measures}
+use Rattle.model.specs.Plans.{Call, grants, releases, resizes_in_place, moves, measures, reports}
 use Rattle.model.specs.Calls.{KeptBytes, kept_in, Result, left, call}
 use Rattle.trace.specs.declared.Op.{Op}
 use Rattle.trace.specs.Trace.{Within, operation_of}
@@ -62,7 +62,7 @@ returns c =
     let s = o.before.before.before.before.before in
     let x = o.op.given.0 in
     tells c.tell.result g.grant.result _ _ c.tell.ensures
-    (asks s (Op.Grant x.0 x.1.0) (queued x.0 (grants x.1.0)) o.op.given.1 refl g.grant.ensures)
+    (asks s (Op.Grant x.0) (grants x.0) o.op.given.1 refl g.grant.ensures)
 
 returns-2 : tie.Need-returns-2
 unfolding performed operation_of
@@ -72,7 +72,7 @@ returns-2 c =
     let s = o.before.before.before.before.before in
     let x = o.op2.given.0 in
     tells c.tell2.result g.release.result _ _ c.tell2.ensures
-    (asks s (Op.Release x.0 x.1.0) (queued x.0 (releases x.1.0)) o.op2.given.1 refl g.release.ensures)
+    (asks s (Op.Release x.0) (releases x.0) o.op2.given.1 refl g.release.ensures)
 
 returns-3 : tie.Need-returns-3
 unfolding performed operation_of
@@ -82,16 +82,14 @@ returns-3 c =
     let s = o.before.before.before.before.before in
     let x = o.op3.given.0 in
     tells c.tell3.result g.resize-in-place.result _ _ c.tell3.ensures
-    (asks s (Op.ResizeInPlace x.0 x.1.0 x.1.1.0) (queued x.0 (resizes_in_place x.1.0 x.1.1.0)) o.op3.given.1 refl
-    g.resize-in-place.ensures)
+    (asks s (Op.ResizeInPlace x.0 x.1.0) (resizes_in_place x.0 x.1.0) o.op3.given.1 refl g.resize-in-place.ensures)
 
 returns-4 : tie.Need-returns-4
 unfolding performed operation_of
 returns-4 c =
     let s = c.before.before.before.before.before.before.before.before.before in
     let o = c.before.before.before.before.op4.given in
-    let x = o.0 in
-    (tt, asks s (Op.Measure x.0 x.1.0) (queued x.0 (measures x.1.0)) o.1 refl c.measure.ensures)
+    (tt, asks s (Op.Measure o.0.0) (measures o.0.0) o.1 refl c.measure.ensures)
 
 -- an effect by its parts
 abbrev effect_of : Option Answer → List ℕ → KeptBytes → Effect
@@ -140,20 +138,16 @@ returns-8 c =
     let s = o.before.before.before.before.before in
     let x = o.op6.given.0 in
     tells c.tell4.result g.move-block.result _ _ c.tell4.ensures
-    (asks s (Op.Move x.0 x.1.0 x.1.1.0) (queued x.0 (moves x.1.0 x.1.1.0)) o.op6.given.1 refl
-    g.move-block.ensures)
+    (asks s (Op.Move x.0 x.1.0) (moves x.0 x.1.0) o.op6.given.1 refl g.move-block.ensures)
 
 pub perform_spec : {M : Type 1} → statement M
 perform_spec =
     tie.close
     (tie.spec
-    (λ c. search needs) (λ c. search needs) (λ c κs. search needs) (λ c κs. search needs)
-    (λ c. search needs) (λ c. search needs) (λ c κs. search needs) (λ c κs. search needs)
-    (λ c. search needs) (λ c. search needs) (λ c κs. search needs) (λ c κs. search needs)
-    (λ c. search needs) (λ c. search needs) (λ c κs. search needs)
-    (λ c. search needs) sub-store part-store-start part-store-end (λ c κs. search needs)
-    (λ c. search needs) (λ c κs. search needs)
-    (λ c. search needs) (λ c. search needs) (λ c κs. search needs) (λ c κs. search needs)
-    (λ c. search needs) (λ c. search needs) returns (λ c. search needs) (λ c. search needs) returns-2 (λ c. search needs) (λ c. search needs) returns-3
-    (λ c. search needs) (λ c. search needs) returns-4 (λ c. search needs) returns-5 (λ c. search needs) returns-6 (λ c. search needs) (λ c. search needs) returns-7
-    (λ c. search needs) (λ c. search needs) returns-8)
+    (λ c. search needs) (λ c κs. search needs) (λ c κs. search needs) (λ c. search needs) (λ c κs. search needs) (λ c κs. search needs)
+    (λ c. search needs) (λ c κs. search needs) (λ c κs. search needs) (λ c. search needs)
+    (λ c κs. search needs) (λ c. search needs) sub-store part-store-start part-store-end (λ c κs. search needs) (λ c. search needs) (λ c κs. search needs)
+    (λ c. search needs) (λ c κs. search needs) (λ c κs. search needs) (λ c. search needs) (λ c. search needs) returns
+    (λ c. search needs) (λ c. search needs) returns-2 (λ c. search needs) (λ c. search needs) returns-3
+    (λ c. search needs) (λ c. search needs) returns-4 (λ c. search needs) returns-5 (λ c. search needs) returns-6 (λ c. search needs) (λ c. search needs)
+    returns-7 (λ c. search needs) (λ c. search needs) returns-8)

@@ -14,15 +14,15 @@ returns : tie.Need-returns
 returns c =
     let i = c.before in
     let s = i.before.before.before.before in
-    told_out row_bytes c.refused.ensures (grant-too_large (lent s).form s.args.queue s.args.code s.args.n
+    told_out row_bytes c.refused.ensures (grant-too_large (lent s).form s.args.code s.args.n
     (leb-true size_limit (enlarged s.args.code s.args.n) (sym i.before.too_large.ensures ∙ i.if1.true)))
 
 -- the size is one that can be asked for
-small : (c : tie.Else1) → (let a = c.before.before.before.before.args in Askable a.queue a.code a.n)
+small : (c : tie.Else1) → (let a = c.before.before.before.before.args in Askable a.code a.n)
 small c =
     let s = c.before.before.before.before in
     let h = leb-false size_limit (enlarged s.args.code s.args.n) (sym c.before.too_large.ensures ∙ c.if1.false) in
-    record { some-queue = s.requires.1.2; some_code = s.requires.1.0; last_code = s.requires.1.1; small = h }
+    record { some_code = s.requires.1.0; last_code = s.requires.1.1; small = h }
 
 reserve-slot-requires : tie.Need-reserve-slot-requires
 unfolding row_bytes
@@ -37,16 +37,16 @@ returns-2 d =
     let z = r.before.before in
     let s = z.before.before.before.before in
     told_out row_bytes d.refused2.ensures
-    (granted-none (lent s) s.args.queue s.args.code s.args.n (small z) (sym r.reserve-slot.ensures.0 ∙ c.enum_told.given.1) r.reserve-slot.ensures.1)
+    (granted-none (lent s) s.args.code s.args.n (small z) (sym r.reserve-slot.ensures.0 ∙ c.enum_told.given.1) r.reserve-slot.ensures.1)
 
 -- the block that is granted
 block : (c : tie.After-known-told) → (let r = c.before.before.before.before.before in
     let z = r.before.before in
     let s = z.before.before.before.before in
-    GrantedAt (lent s) s.args.queue s.args.code s.args.n (small z) c.before.b.given.0.0 c.before.b.given.0.1.0 r.reserve-slot.new.1.1.0)
+    GrantedAt (lent s) s.args.code s.args.n (small z) c.before.b.given.0.0 c.before.b.given.0.1.0 r.reserve-slot.new.1.1.0)
 unfolding row_bytes
 block c =
-    let r = c.before.before.before.before.before.reserve-slot.ensures in granted_at _ _ _ _ _ (sym r.0 ∙ c.before.b.given.1) r.1
+    let r = c.before.before.before.before.before.reserve-slot.ensures in granted_at _ _ _ _ (sym r.0 ∙ c.before.b.given.1) r.1
 
 lay-out-requires : tie.Need-lay-out-requires
 unfolding row_bytes

@@ -1,13 +1,13 @@
 -- By what is located.
 use Rattle.ops.proofs.Kit.{◌∙◌, sym, ap, refl, [], ◌∷◌, now, needs, row_bytes, card_row, done, view, kept_in, Checked}
 use Rattle.ops.proofs.Kit.{called_at, called_refused, checked, refusing}
-use Rattle.model.specs.Plans.{measures, queued, measure_at}
+use Rattle.model.specs.Plans.{measures, measure_at}
 use Rattle.frames.proofs.Calls.{measuring, kept_as}
 use Rattle.pool.proofs.measure.Statement.{statement}
 use Rattle.pool.proofs.measure.Tie as tie
 
 returns : tie.Need-returns
-returns c = refusing _ (kept_in _ _) c.before.sound.ensures (queued _ (measures _)) tt c.if1.true
+returns c = refusing _ (kept_in _ _) c.before.sound.ensures (measures _) tt c.if1.true
 
 -- the tables are sound
 lent : (c : tie.Else1) → (let a = c.before.before.before.before.args in Checked row_bytes (now a.arena) (kept_in (now a.room) a.t))
@@ -23,19 +23,16 @@ returns-2 c =
     let z = c.before.before.before.before in
     let r = (lent z).form in
     let a = z.before.before.before.before.args in
-    let b = called_at r a.queue a.handle (measure_at row_bytes (view row_bytes (now a.room))) (λ p. refl) c.before.b.given.0.0
+    let b = called_at r a.handle (measure_at row_bytes (view row_bytes (now a.room))) (λ p. refl) c.before.b.given.0.0
     (sym c.before.b.given.1 ∙ c.before.before.before.locate.ensures) in
-    kept_as r (ap (λ b. done (b.alloc.size ∷ [])) b.block) (measuring r a.queue a.handle ∙ b.result)
+    kept_as r (ap (λ b. done (b.alloc.size ∷ [])) b.block) (measuring r a.handle ∙ b.result)
 
 returns-3 : tie.Need-returns-3
 unfolding row_bytes
 returns-3 c =
-    let z = c.before.before.before.before in
-    let r = (lent z).form in
-    let a = z.before.before.before.before.args in
+    let r = (lent c.before.before.before.before).form in
     let e = sym c.before.r.given.1 ∙ c.before.before.before.locate.ensures in
-    sym (measuring r a.queue a.handle
-    ∙ called_refused r a.queue a.handle (measure_at row_bytes (view row_bytes (now a.room))) (λ p. refl) _ e)
+    sym (measuring r _ ∙ called_refused r _ (measure_at row_bytes _) (λ p. refl) _ e)
 
 pub measure_spec : {M : Type 1} → statement M
 measure_spec = tie.close (tie.spec (λ c κs. search needs) returns locate-requires (λ c. search needs) (λ c. search needs) returns-2 returns-3)

@@ -32,19 +32,10 @@ module _ (q : ℕ) (t : List ℕ) where
   unfolding view_slot
   waiting = ap₂ (Slot.Idle false) count disp
 
-  queue : get_or (part q 8 t) 7 0 ≡ get_or t (q + 7) 0
-  queue = get_d_part q 8 t 7 0 (lit≤ tt)
-
   live : view_slot false false (part q 8 t)
-      ≡ Slot.Live (record {
-        count = get_or t (q + 1) 0;
-        disp = number (part (q + 2) 2 t);
-        size = number (part (q + 4) 3 t);
-        align = get_or t (q + 0) 0;
-        queue = get_or t (q + 7) 0;
-      })
+      ≡ Slot.Live (record { count = get_or t (q + 1) 0; disp = number (part (q + 2) 2 t); size = number (part (q + 4) 3 t); align = get_or t (q + 0) 0 })
   unfolding view_slot
-  live = rw (get_d_part q 8 t 0 0 (lit≤ tt), count, disp, size, queue)
+  live = rw (get_d_part q 8 t 0 0 (lit≤ tt), count, disp, size)
 
 -- slot j of the row whose record stands at p
 module _ (i j p : ℕ) (m : Masks) (t : List ℕ) (e : p ≡ row_at i) where
@@ -70,13 +61,7 @@ module _ (i j p : ℕ) (m : Masks) (t : List ℕ) (e : p ≡ row_at i) where
 
   read_live : (d n : ℕ) → (m.ready / 2 ^ j % 2 ≡ 1 → ⊥) → (m.waiting / 2 ^ j % 2 ≡ 1 → ⊥) → d ≡ number (part (p + 16 + 8 * j + 2) 2 t)
       → n ≡ number (part (p + 16 + 8 * j + 4) 3 t)
-      → Slot.Live (record {
-        count = get_or t (p + 16 + 8 * j + 1) 0;
-        disp = d;
-        size = n;
-        align = get_or t (p + 16 + 8 * j + 0) 0;
-        queue = get_or t (p + 16 + 8 * j + 7) 0;
-      }) ≡ slot_in m j (drop (row_at i) t)
+      → Slot.Live (record { count = get_or t (p + 16 + 8 * j + 1) 0; disp = d; size = n; align = get_or t (p + 16 + 8 * j + 0) 0 }) ≡ slot_in m j (drop (row_at i) t)
   read_live d n h k f g =
       sym (slot ∙ rw (ne_eqb (m.ready / 2 ^ j % 2) 1 h, ne_eqb (m.waiting / 2 ^ j % 2) 1 k, f, g) (live (p + 16 + 8 * j) t))
 
@@ -102,11 +87,11 @@ returns-3 c =
 
 returns-4 : tie.Need-returns-4
 returns-4 c =
-    let g = c.before.before in
-    let b = g.before.before.before.before.before.before.before in
+    let b = c.before.before.before.before.before.before.before.before in
     let a = b.before.before.args in
-    read_live a.i a.j b.row_at.result a.m (now a.room) b.row_at.ensures g.before.get23.result g.get3.result
-    g.before.before.before.before.before.if1.false g.before.before.before.if3.false g.before.get23.ensures.0 g.get3.ensures.0
+    read_live a.i a.j b.row_at.result a.m (now a.room) b.row_at.ensures c.before.before.get23.result c.before.get3.result
+    c.before.before.before.before.before.before.if1.false c.before.before.before.before.if3.false
+    c.before.before.get23.ensures.0 c.before.get3.ensures.0
 
 pub slot_at_spec : {M : Type 1} → statement M
 slot_at_spec =
@@ -114,4 +99,4 @@ slot_at_spec =
     (λ c. search needs) returns
     (λ c. search needs) (λ c. search needs) (λ c. search needs) (λ c κs. search needs) returns-2 (λ c. search needs) (λ c. search needs)
     (λ c. search needs) (λ c. search needs) (λ c κs. search needs) returns-3 (λ c. search needs) (λ c. search needs) (λ c. search needs)
-    (λ c κs. search needs) (λ c. search needs) (λ c κs. search needs) (λ c. search needs) (λ c. search needs) (λ c. search needs) (λ c. search needs) returns-4)
+    (λ c κs. search needs) (λ c. search needs) (λ c κs. search needs) (λ c. search needs) (λ c. search needs) returns-4)

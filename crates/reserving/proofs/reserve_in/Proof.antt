@@ -22,7 +22,7 @@ returns c =
     let d = c.before.before.before.before in
     let s = d.before.before.before in
     let a = s.args in
-    reserved_nothing a.row (now a.room) a.queue a.code a.n a.c s.requires.1.1.0.0 d.site-for.new.1.1.0
+    reserved_nothing a.row (now a.room) a.code a.n a.c s.requires.1.1.0.0 d.site-for.new.1.1.0
     (sym c.enum_told.given.1 ∙ d.site-for.ensures.0)
     d.site-for.ensures.1
 
@@ -50,15 +50,15 @@ take-slot-requires c κs =
 -- what the taken slot does to the totals
 takes : (c : tie.After-take-slot) → (let k = c.before.before in
     let a = k.before.before.before.before.before.before.before.before.args in
-    let z = totals a.row (pool_of (grant_in a.row a.c a.queue a.code a.n (offer k).0)) in
+    let z = totals a.row (pool_of (grant_in a.row a.c a.code a.n (offer k).0)) in
     Takes a.n c.take-slot.result.refilled k.before.i.given.0.1.0 z × Small z)
 takes c =
     let k = c.before.before in
     let s = k.before.before.before.before.before.before.before.before in
     let a = s.args in
     let (g, f, o, q) = offer k in
-    let z = totals a.row (pool_of (grant_in a.row a.c a.queue a.code a.n g)) in
-    let d = reserved_counts a.row (now a.room) a.queue a.code a.n a.c s.requires.1.1.0.0 g f (room s) s.requires.1.0 o.spare in (
+    let z = totals a.row (pool_of (grant_in a.row a.c a.code a.n g)) in
+    let d = reserved_counts a.row (now a.room) a.code a.n a.c s.requires.1.1.0.0 g f (room s) s.requires.1.0 o.spare in (
       subst (λ k. Takes a.n c.take-slot.result.refilled k z) (sym q)
           (subst (λ k. Takes a.n k (totals a.row (g.before ++ (group a.c g.slots ∷ g.after))) z)
           (sym (c.take-slot.ensures g o).2) d.0),
@@ -77,7 +77,7 @@ returns-2 c =
     let (g, f, o, q) = offer d in
     let t = k.take-slot in
     let e = t.ensures g o in
-    reserved_slot a.row (now a.room) a.queue a.code a.n a.c s.requires.1.1.0.0 g f t.result.block t.new.1.0 c.taken.result e.0 e.1
+    reserved_slot a.row (now a.room) a.code a.n a.c s.requires.1.1.0.0 g f t.result.block t.new.1.0 c.taken.result e.0 e.1
     (c.taken.ensures _ (takes k).0)
 
 pub reserve_in_spec : {M : Type 1} → statement M

@@ -2,7 +2,7 @@
 use Rattle.mem.proofs.Prelude.{not-false}
 use Rattle.mem.proofs.Tests.{choose-true}
 use Rattle.ops.proofs.Kit.{◌∙◌, ◌≡◌, sym, now, needs, row_bytes, card_row, card_some, view, kept_in, engine, checked, refusing, size-asked, size-given, told}
-use Rattle.model.specs.Plans.{moves, queued}
+use Rattle.model.specs.Plans.{moves}
 use Rattle.model.proofs.Kept.{engine_lawful}
 use Rattle.frames.specs.Blocks.{found_for}
 use Rattle.frames.proofs.Calls.{move-size, size-refused}
@@ -10,7 +10,7 @@ use Rattle.resizing.proofs.move_block.Statement.{statement}
 use Rattle.resizing.proofs.move_block.Tie as tie
 
 returns : tie.Need-returns
-returns d = told d.refused.ensures ∙ refusing _ _ d.before.before.sound.ensures (queued _ (moves _ _)) tt d.before.if1.true
+returns d = told d.refused.ensures ∙ refusing _ _ d.before.before.sound.ensures (moves _ _) tt d.before.if1.true
 
 locate-for-requires : tie.Need-locate-for-requires
 unfolding row_bytes
@@ -21,7 +21,7 @@ locate-for-requires c κs =
 
 -- the tables are sound, so what is located is what is found
 found : (c : tie.After-locate-for) → (let a = c.before.before.before.before.before.before.before.before.args in
-    c.locate-for.result ≡ found_for row_bytes (engine row_bytes) (now a.arena) (kept_in (now a.room) a.t) a.queue a.handle a.n)
+    c.locate-for.result ≡ found_for row_bytes (engine row_bytes) (now a.arena) (kept_in (now a.room) a.t) a.handle a.n)
 unfolding row_bytes
 found c =
     let i = c.before.before.before in
@@ -33,7 +33,7 @@ move-block-requires c κs =
     let b = c.before.before.before in
     let l = b.before.before in
     let a = l.before.before.before.before.before.before.before.before.args in
-    size-asked card_row (now a.arena) (kept_in (now a.room) a.t) (move-size row_bytes (view row_bytes (now a.room)) a.queue a.handle a.n)
+    size-asked card_row (now a.arena) (kept_in (now a.room) a.t) (move-size row_bytes (view row_bytes (now a.room)) a.handle a.n)
     (sym b.b.given.1 ∙ found l)
 
 returns-2 : tie.Need-returns-2
@@ -42,7 +42,7 @@ returns-2 c =
     let b = c.before.before.before.before.before.before.before.before in
     let l = b.before.before in
     let a = l.before.before.before.before.before.before.before.before.args in
-    size-given card_row (now a.arena) (kept_in (now a.room) a.t) (move-size row_bytes (view row_bytes (now a.room)) a.queue a.handle a.n)
+    size-given card_row (now a.arena) (kept_in (now a.room) a.t) (move-size row_bytes (view row_bytes (now a.room)) a.handle a.n)
     (sym b.b.given.1 ∙ found l) c.before.before.before.before.move-block.ensures
 
 returns-3 : tie.Need-returns-3
@@ -52,7 +52,7 @@ returns-3 c =
     let a = l.before.before.before.before.before.before.before.before.args in
     told c.refused2.ensures
     ∙ size-refused (engine row_bytes) (now a.arena) (kept_in (now a.room) a.t)
-    (move-size row_bytes (view row_bytes (now a.room)) a.queue a.handle a.n) (engine_lawful row_bytes card_some) card_some r.r.given.0.0
+    (move-size row_bytes (view row_bytes (now a.room)) a.handle a.n) (engine_lawful row_bytes card_some) card_some r.r.given.0.0
     (sym r.r.given.1 ∙ found l)
 
 pub move_block_spec : {M : Type 1} → statement M

@@ -8,9 +8,9 @@ use Rattle.serving.proofs.serve.Statement.{statement}
 use Rattle.serving.proofs.serve.Tie as tie
 
 returns : tie.Need-returns
-returns c P who n t b e l =
+returns c P n t e l =
     let a = c.before.before.before.before.args in
-    serves_open a.row P who n a.c (now a.spare) (now a.gaps) t b e l c.if1.true
+    serves_open a.row P n a.c (now a.spare) (now a.gaps) t e l c.if1.true
 
 -- what the search for a run finds
 searched : (c : tie.After-lowest-run) → (let a = c.before.before.before.before.before.before.before.args in
@@ -20,11 +20,11 @@ searched c =
     c.lowest-run.ensures ∙ ap (λ k. run_found (lowest_run k 0 (now a.gaps))) c.before.before.rows.ensures.0
 
 returns-2 : tie.Need-returns-2
-returns-2 c P who n t b e l =
+returns-2 c P n t e l =
     let s = c.before.before.before.before.before.before.before.before.before in
     let a = s.args in
     let z : get_or (now a.spare) a.c 0 ≡ 0 = omega (arith, c.before.before.before.before.before.if1.false) in
-    serves_none a.row P who n a.c (now a.spare) (now a.gaps) t b e l (omega (arith, s.requires.1.1)) z
+    serves_none a.row P n a.c (now a.spare) (now a.gaps) t e l (omega (arith, s.requires.1.1)) z
     (found_nothing _ (sym c.enum_told.given.1 ∙ searched c.before.before))
 
 -- the run that is found
@@ -47,7 +47,7 @@ clear-requires : tie.Need-clear-requires
 clear-requires c κs = (omega arith, within c.before)
 
 returns-3 : tie.Need-returns-3
-returns-3 c P who n t b e l =
+returns-3 c P n t e l =
     let k = c.before.before.before.before.before in
     let s = k.before.before.before.before.before.before.before.before.before.before in
     let a = s.args in
@@ -56,7 +56,7 @@ returns-3 c P who n t b e l =
     let z : get_or (now a.spare) a.c 0 ≡ 0 = omega (arith, k.before.before.before.before.before.before.if1.false) in
     let d : i + need - i ≡ rows_of a.row a.c = omega (arith, k.before.before.before.before.before.rows.ensures.0) in
     rw (c.slots.ensures.0, c.before.before.before.clear.ensures, d)
-    (serves_new a.row P who n a.c (now a.spare) (now a.gaps) t b e l (omega (arith, s.requires.1.1)) z i (run k))
+    (serves_new a.row P n a.c (now a.spare) (now a.gaps) t e l (omega (arith, s.requires.1.1)) z i (run k))
 
 pub serve_spec : {M : Type 1} → statement M
 serve_spec =

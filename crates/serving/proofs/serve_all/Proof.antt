@@ -1,7 +1,7 @@
 -- `serve_all` meets its contract. The invariant: the sizes that are left fit exactly if all fit in the pool told of at first.
-use Rattle.mem.proofs.Prelude.{◌∙◌, ◌≡◌, sym, ap, refl, ℕ, ◌<◌, ◌≤◌, ◌-◌, now, needs, lit≤, length}
+use Rattle.mem.proofs.Prelude.{◌∙◌, ◌≡◌, sym, ap, refl, ◌<◌, ◌≤◌, ◌-◌, now, needs, length}
 use Rattle.classes.specs.Classes.{class_of}
-use Rattle.model.specs.State.{Pool, queues}
+use Rattle.model.specs.State.{Pool}
 use Rattle.serving.specs.Survey.{NotesOf}
 use Rattle.model.proofs.Lists.{small_at}
 use Rattle.serving.proofs.Sizes.{ToGo, class-zero, all_to_go, none_to_go, one_refused, one_served}
@@ -11,13 +11,13 @@ use Rattle.serving.proofs.serve_all.Tie as tie
 abbrev invariant-loop : tie.invariant-loop
 invariant-loop row sizes spare₀ map₀ last₀ i₀ spare gaps last i =
     (i ≤ length sizes) × (length spare ≡ length spare₀) × (length gaps ≡ length map₀) × (last.class ≡ class_of last.size) × (last.class < 48)
-    × ((P : Pool) (who : ℕ) → NotesOf row P spare₀ map₀ → who < queues → ToGo row who sizes P i spare gaps)
+    × ((P : Pool) → NotesOf row P spare₀ map₀ → ToGo row sizes P i spare gaps)
 
 abbrev decreases-loop : tie.decreases-loop
 decreases-loop row sizes spare₀ map₀ last₀ i₀ spare gaps last i = length sizes - i
 
 loop-holds : tie.Need-loop-init invariant-loop decreases-loop
-loop-holds c = (search needs, refl, refl, class-zero, search needs, λ P who t _. all_to_go who (now c.before.before.before.args.sizes) t)
+loop-holds c = (search needs, refl, refl, class-zero, search needs, λ P t. all_to_go (now c.before.before.before.args.sizes) t)
 
 with-class-requires : tie.Need-with-class-requires invariant-loop decreases-loop
 with-class-requires c κs =
@@ -29,7 +29,7 @@ serve-requires : tie.Need-serve-requires invariant-loop decreases-loop
 serve-requires c κs =
     let l = c.before.before.before.before.before.loop in
     let s = c.before.before.before.before.before.before.before.before.before in
-    let g = l.invariant.5 s.requires.0.0 0 s.requires.0.1 (lit≤ tt) in
+    let g = l.invariant.5 s.requires.0.0 s.requires.0.1 in
     ((g.pool, g.tells), (c.before.before.with-class.ensures.2, search needs))
 
 returns : tie.Need-returns invariant-loop decreases-loop
@@ -39,7 +39,7 @@ returns c =
     let h = w.before.before in
     let l = h.before in
     let s = l.before.before.before.before in
-    λ P who t b. one_refused (l.loop.invariant.5 P who t b) b h.loop-test.true s.requires.1.0 w.with-class.ensures.1 v.serve.ensures c.if1.true
+    λ P t. one_refused (l.loop.invariant.5 P t) h.loop-test.true s.requires.1.0 w.with-class.ensures.1 v.serve.ensures c.if1.true
 
 loop-again : tie.Need-loop-preserved invariant-loop decreases-loop
 loop-again c =
@@ -53,11 +53,11 @@ loop-again c =
       search needs,
       w.with-class.ensures.1 ∙ ap class_of (sym w.with-class.ensures.0),
       w.with-class.ensures.2,
-      λ P who t b. one_served (l.loop.invariant.5 P who t b) b h.loop-test.true s.requires.1.0 w.with-class.ensures.1 v.serve.ensures c.if1.false,
+      λ P t. one_served (l.loop.invariant.5 P t) h.loop-test.true s.requires.1.0 w.with-class.ensures.1 v.serve.ensures c.if1.false,
     )
 
 returns-2 : tie.Need-returns-2 invariant-loop decreases-loop
-returns-2 c = λ P who t b. none_to_go (c.before.loop.invariant.5 P who t b) c.loop-test.false
+returns-2 c = λ P t. none_to_go (c.before.loop.invariant.5 P t) c.loop-test.false
 
 pub serve_all_spec : {M : Type 1} → statement M
 serve_all_spec =

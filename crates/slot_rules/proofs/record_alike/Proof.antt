@@ -28,4 +28,4 @@ returns c =
 pub record_alike_spec : {M : Type 1} → statement M
 record_alike_spec =
     tie.close (tie.spec sub-enlarged add-enlarged (λ c. search needs) (λ c. search needs) add-own-class (λ c. search needs) (λ c. search needs)
-    (λ c. search needs) sub-aligned returns)
+    (λ c. search needs) (λ c. search needs) sub-aligned returns)

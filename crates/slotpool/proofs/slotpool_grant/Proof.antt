@@ -4,7 +4,7 @@ use denote.Slice.{shr_slice_vals}
 use denote.Ref.{shr_vals}
 use Rattle.slotpool.proofs.Kit.{refl, sym, subst, ◌+◌, [], ◌∷◌, w32, w64, vint, id⊢, Lfts, ◌$◌, !, move, keep, look, init, stop, hop}
 use Rattle.slotpool.proofs.Kit.{from, addr, no_more, assigns, params1, pass1, pass0, Spells, valss, uint_vals, ptr-vals, slice-vals}
-use Rattle.slotpool.proofs.Kit.{types_at, Vals, grants, queued, kept_in, Totals, Gives, takes, calls_by, hears, turns, frees_all, leaving}
+use Rattle.slotpool.proofs.Kit.{types_at, Vals, grants, kept_in, Totals, Gives, takes, calls_by, hears, turns, frees_all, leaving}
 use Rattle.slotpool.proofs.Kit.{stores_slice, stores-number, relends, copies, tells, does, less, by_value, machine, LentWalk, lent_met}
 use Rattle.slotpool.specs.contracts.grant_by as first
 use Rattle.slotpool.proofs.grant_by.Symbol as first_def
@@ -17,35 +17,34 @@ use Rattle.slotpool.proofs.slotpool_grant.Code as code
 
 -- how each parameter is spelled as machine values
 abbrev spells : (κs : Lfts 4) → Spells (types_at (f.signature).params κs)
-spells κs = (shr_slice_vals, (shr_slice_vals, (shr_vals, (uint_vals w64, (uint_vals w64, (shr_vals, tt))))))
+spells κs = (shr_slice_vals, (shr_slice_vals, (shr_vals, (uint_vals w64, (shr_vals, tt)))))
 
 walk : LentWalk f.ended (λ M. f.clauses {M = M}) code.function spells #slotpool·grant-by first.ended (λ M. first.clauses {M = M})
 walk M 𝓤 𝓛 at_mem run C Λ fm known-first known-then κs qs bounds a g are bs =
     let vs : Vals f.signature κs = valss (types_at (f.signature).params κs) (spells κs) a in
     params1 ! $ stores_slice ! 1 refl are.0.0.1.0 $ stores_slice ! 2 refl are.1.0.0.1.0 $ pass1 ! (init ! 3 refl (tt, tt)) $
-    stores-number ! 4 refl are.1.1.1.0.1 $ stores-number ! 5 refl are.1.1.1.1.0.1 $ pass1 ! (init ! 6 refl (tt, tt)) $ pass0 ! $
-    -- [_0 … _15; what frees them; arena, room, totals, queue, n, value; tokens: arena, room, totals, value]
-    relends ! 1 8 9 refl refl refl are.0.0.1.0 $ relends ! 2 10 11 refl refl refl are.1.0.0.1.0 $ move ! (19 ∷ 25 ∷ []) $
-    copies ! 3 12 a.1.1.0 refl refl $ turns ! 3 $
-    -- [_0 … _15; what frees them; arena, room, queue, n, value; tokens: arena, room, value; the totals; totals; tokens: totals]
-    assigns ! (addr ! (from ! (hop ! (look ! 6 refl) (stop !)))) (from ! (stop !)) (init ! 13 refl (tt, tt)) $
-    move ! (22 ∷ 23 ∷ 24 ∷ 17 ∷ 18 ∷ 25 ∷ 19 ∷ 20 ∷ 21 ∷ []) $ calls_by 𝓛 first.ended (first.clauses 𝓛 at_mem run)
+    stores-number ! 4 refl are.1.1.1.0.1 $ pass1 ! (init ! 5 refl (tt, tt)) $ pass0 ! $
+    -- [_0 … _14; what frees them; arena, room, totals, n, value; tokens: arena, room, totals, value]
+    relends ! 1 7 8 refl refl refl are.0.0.1.0 $ relends ! 2 9 10 refl refl refl are.1.0.0.1.0 $ move ! (18 ∷ 23 ∷ []) $
+    copies ! 3 11 a.1.1.0 refl refl $ turns ! 3 $
+    -- [_0 … _14; what frees them; arena, room, n, value; tokens: arena, room, value; the totals; totals; tokens: totals]
+    assigns ! (addr ! (from ! (hop ! (look ! 5 refl) (stop !)))) (from ! (stop !)) (init ! 12 refl (tt, tt)) $
+    move ! (20 ∷ 21 ∷ 22 ∷ 16 ∷ 17 ∷ 23 ∷ 18 ∷ 19 ∷ []) $ calls_by 𝓛 first.ended (first.clauses 𝓛 at_mem run)
     ((less κs κs.1.1.1, less qs qs.1.1.1, tt, by_value a a.1.1.1, machine a vs.1.1.1), tt) ! fm known-first (id⊢ 𝓤 _)
-    (takes ! (1 + 9) refl (takes ! (1 + 11) refl (takes ! (1 + 12) refl (takes ! (1 + 4) refl (takes ! (1 + 5) refl (takes ! (1 + 13) refl (no_more !)))))))
-    (λ w r zs. let Says : Totals → Type 0 = λ t. Gives (does a (queued a.1.1.1.0 (grants a.1.1.1.1.0))) r.number zs.1.1.1.1.1.0
-    zs.0 (kept_in zs.1.0 t) in
+    (takes ! (1 + 8) refl (takes ! (1 + 10) refl (takes ! (1 + 11) refl (takes ! (1 + 4) refl (takes ! (1 + 12) refl (no_more !))))))
+    (λ w r zs. let Says : Totals → Type 0 = λ t. Gives (does a (grants a.1.1.1.0)) r.number zs.1.1.1.1.0 zs.0 (kept_in zs.1.0 t) in
     hears 𝓛 (Says r.totals) (λ es.
-    -- [its result; tokens: arena, room, value; last values: arena, room, totals, queue, n, value; _0 … _15; what frees them; totals; tokens: totals]
-    turns ! 10 $ move ! (19 ∷ 17 ∷ 18 ∷ []) $ tells ! at_mem run fm known-then 3 7 14 15 a.1.1.0 r refl refl refl refl refl refl (λ t e.
-    -- [tokens: totals; last values: the record; the number; _0 … _15; what frees them; tokens: arena, room, value; last values: arena, room, totals, queue,
-    --  n, value]
-    turns ! 3 $ frees_all ! (_ ∷ _ ∷ _ ∷ _ ∷ _ ∷ _ ∷ _ ∷ _ ∷ _ ∷ _ ∷ _ ∷ _ ∷ _ ∷ _ ∷ _ ∷ _ ∷ []) $ keep ! (0 ∷ 1 ∷ 9 ∷ 2 ∷ 3 ∷ 4 ∷ 10 ∷ 6 ∷ 7 ∷ 8 ∷ 11 ∷ []) $
+    -- [its result; tokens: arena, room, value; last values: arena, room, totals, n, value; _0 … _14; what frees them; totals; tokens: totals]
+    turns ! 9 $ move ! (18 ∷ 16 ∷ 17 ∷ []) $ tells ! at_mem run fm known-then 3 6 13 14 a.1.1.0 r refl refl refl refl refl refl (λ t e.
+    -- [tokens: totals; last values: the record; the number; _0 … _14; what frees them; tokens: arena, room, value; last values: arena, room, totals, n,
+    --  value]
+    turns ! 3 $ frees_all ! (_ ∷ _ ∷ _ ∷ _ ∷ _ ∷ _ ∷ _ ∷ _ ∷ _ ∷ _ ∷ _ ∷ _ ∷ _ ∷ _ ∷ _ ∷ []) $ keep ! (0 ∷ 1 ∷ 8 ∷ 2 ∷ 3 ∷ 4 ∷ 9 ∷ 6 ∷ 7 ∷ 10 ∷ []) $
     leaving 𝓛 f.ended (f.clauses 𝓛 at_mem run) ((κs, qs, bounds, a, vs), g) (vint w32 r.number) r.number
     (zs.0, (zs.1.0, (t, zs.1.1.1))) (Says t) (subst Says (sym e) es) (id⊢ 𝓤 _))))
 
 pub slotpool_grant_spec : {M : Type 1} → stated.statement M
 unfolding code.routine
 slotpool_grant_spec {M} 𝓤 𝓛 𝓜 𝓡 = lent_met f.ended spells
-    (λ κs. (λ x v p. p.0.0, (λ x v p. p.0.0, (λ x v p. p.0, (λ x v p. p.0, (λ x v p. p.0, (λ x v p. p.0, tt)))))))
+    (λ κs. (λ x v p. p.0.0, (λ x v p. p.0.0, (λ x v p. p.0, (λ x v p. p.0, (λ x v p. p.0, tt))))))
     (λ M. f.clauses {M = M}) code.function #slotpool·grant-by first.ended (λ M. first.clauses {M = M}) M 𝓤 𝓛 𝓜 𝓡 code.env #slotpool·slotpool-grant
     (code.unfolded 𝓤 𝓛.H 𝓜 𝓡) first_def.routine code.calls-slotpool::grant-by (first_thm.met 𝓤 𝓛 𝓜 𝓡) walk code.calls-totals::record

@@ -39,11 +39,11 @@ serve-all-requires c κs =
     ((view s.args.row (now s.args.room), told-front _ _ (noted_length d) d.note.ensures), s.requires.1)
 
 returns : tie.Need-returns
-returns c who b =
+returns c =
     let v = c.before.before in
     let d = v.before.before.before.before.before in
     let s = d.before.before.before.before.before in
-    v.serve-all.ensures (view s.args.row (now s.args.room)) who (told-front _ _ (noted_length d) d.note.ensures) b
+    v.serve-all.ensures (view s.args.row (now s.args.room)) (told-front _ _ (noted_length d) d.note.ensures)
 
 pub fits_spec : {M : Type 1} → statement M
 fits_spec =

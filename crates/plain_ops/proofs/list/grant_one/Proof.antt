@@ -22,17 +22,17 @@ returns : tie.Need-returns
 returns c =
     let d = c.before.before.before.before in
     let a = d.before.before.before.before.args in
-    let r = reserved-none a.row (reserve a.row (view_by slots_layout a.row (now a.room)) a.queue ordinary a.n)
+    let r = reserved-none a.row (reserve a.row (view_by slots_layout a.row (now a.room)) ordinary a.n)
     (sym d.reserve-slot.ensures.0 ∙ c.enum_told.given.1) in
     (sym (ap (handle_or a.row) r), (sym (ap (next_arena a.row (now a.arena)) r), d.reserve-slot.ensures.1))
 
 -- the place that is reserved
 place : (c : tie.After-known-told) → (let a = c.before.before.before.before.before.before.before.before.before.args in
-    (q : Place) × (reserve a.row (view_by slots_layout a.row (now a.room)) a.queue ordinary a.n ≡ some q) × (block_of a.row q ≡ c.before.b.given.0.0))
+    (q : Place) × (reserve a.row (view_by slots_layout a.row (now a.room)) ordinary a.n ≡ some q) × (block_of a.row q ≡ c.before.b.given.0.0))
 place c =
     let d = c.before.before.before.before.before in
     let a = d.before.before.before.before.args in
-    reserved_place a.row (reserve a.row (view_by slots_layout a.row (now a.room)) a.queue ordinary a.n) c.before.b.given.0.0
+    reserved_place a.row (reserve a.row (view_by slots_layout a.row (now a.room)) ordinary a.n) c.before.b.given.0.0
     (sym d.reserve-slot.ensures.0 ∙ c.before.b.given.1)
 
 lay-out-requires : tie.Need-lay-out-requires
@@ -42,7 +42,7 @@ lay-out-requires c κs =
     let a = s.args in
     let (q, f, e) = place k in (
       subst (Standing a.row (length (now a.arena))) e
-          (reserved_stands (by_slots s.requires.0 s.requires.1.1) a.queue ordinary a.n (plain s.requires.1.0.0 s.requires.1.0.1) q f),
+          (reserved_stands (by_slots s.requires.0 s.requires.1.1) ordinary a.n (plain s.requires.1.0) q f),
       s.requires.1.1,
     )
 
@@ -64,5 +64,5 @@ returns-2 c =
 
 pub grant_one_spec : {M : Type 1} → statement M
 grant_one_spec =
-    tie.close (tie.spec (λ c κs. let s = c.before.before.before in (s.requires.0, (plain s.requires.1.0.0 s.requires.1.0.1, s.requires.1.1))) (λ c. search needs)
+    tie.close (tie.spec (λ c κs. let s = c.before.before.before in (s.requires.0, (plain s.requires.1.0, s.requires.1.1))) (λ c. search needs)
     (λ c. search needs) (λ c. search needs) returns lay-out-requires (λ c. search needs) (λ c. search needs) returns-2)
