@@ -1,4 +1,6 @@
 // The number of a refusal, and number and values of each answer.
+#![tactic(auto)]
+
 ghost use Rattle.std.specs.Prelude.{◌≡◌, get_or};
 ghost use Rattle.model.specs.Answers.{number_of, listed, reply_answer, report_answer};
 

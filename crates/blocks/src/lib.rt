@@ -2,6 +2,8 @@
 //
 // The owned bytes of a slot of class c: 16d bytes before the header, 4 of header, n requested, and the reserved ones, which begin with
 // a zero and end in the guard.
+#![tactic(auto)]
+
 ghost use Rattle.std.specs.Prelude.{◌≡◌, ◌∷◌, ◌++◌, ◌+◌, ◌*◌, ◌-◌, ◌/◌, ◌≤◌, ◌<◌, min, length};
 ghost use Rattle.mem.specs.Bytes.{zeros, low, put, part};
 ghost use Rattle.classes.specs.Classes.{units_of, slot_bytes};

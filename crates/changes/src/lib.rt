@@ -13,14 +13,14 @@ use model::Slot;
 use rows::Block;
 
 // The block of a slot that was taken, and how many waiting slots became ready first.
-#[derive(Drop)]
+#[derive(Clone, Copy)]
 pub struct Taken {
     pub block: Block,
     pub refilled: usize,
 }
 
 // What is left where a slot was given back: its group, or free rows, with the slots of the group that were ready and waiting.
-#[derive(Drop)]
+#[derive(Clone, Copy)]
 pub enum Left {
     Kept,
     Dropped { ready: usize, waiting: usize },

@@ -1,4 +1,6 @@
 // The 48 size classes: units of a slot, slots and rows of a group, and the class of a size. Alignments, by their codes.
+#![tactic(auto)]
+
 ghost use Rattle.std.specs.Prelude.{◌≡◌, ◌-◌, ◌/◌, ◌≤◌, ◌<◌, max, leb};
 ghost use Rattle.classes.specs.Classes.{units_of, slots_of, rows_of, class_of, size_limit, Lawful};
 ghost use Rattle.classes.specs.Alignments.{ordinary, align_of, code_of, enlarged, round_up};
@@ -93,7 +95,7 @@ pub fn class_of(n: usize) -> usize
 }
 
 // A size with its class.
-#[derive(Drop)]
+#[derive(Clone, Copy)]
 pub struct Sized {
     pub size: usize,
     pub class: usize,

@@ -1,4 +1,6 @@
 // A block in the arena, whatever tables it is in: where it lies and its handle, laid out, cleared, judged by what was found at its start.
+#![tactic(auto)]
+
 ghost use Rattle.std.specs.Prelude.{◌≡◌, ◌+◌, ◌*◌, ◌≤◌, ◌<◌, min, length};
 ghost use Rattle.mem.specs.Bytes.{zeros, put, part};
 ghost use Rattle.classes.specs.Classes.{Lawful, slot_bytes, rows_of};
@@ -13,7 +15,7 @@ use model::{Damage, Refusal};
 use rows::{Block, Looked};
 
 // What a handle names: a live block with header and guard as due, or why a call on it is refused.
-#[derive(Drop)]
+#[derive(Clone, Copy)]
 pub enum Located {
     At(Block),
     Refused(Refusal),

@@ -1,4 +1,6 @@
 // Tables with no groups, which are the same bytes in every layout: the size of their room, and the room itself.
+#![tactic(auto)]
+
 ghost use Rattle.std.specs.Prelude.{◌≡◌, ◌≤◌, ◌<◌, length};
 ghost use Rattle.mem.specs.Bytes.{zeros, low, put};
 ghost use Rattle.classes.specs.Classes.{row_bytes};

@@ -8,7 +8,7 @@ ghost use Rattle.line_text.specs.Lines.{field, line_text, answer_of, is_bad, Sho
 use model::{Reply, Report};
 
 // What a record tells: an answer with one value, a report, or that the record is bad.
-#[derive(Drop)]
+#[derive(Clone, Copy)]
 pub enum Said {
     One(Reply),
     Six(Report),

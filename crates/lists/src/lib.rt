@@ -18,7 +18,7 @@ use model::Totals;
 use reserving::Reserved;
 
 // Where a granted block is: its handle, and the first row of its group; and the totals with it.
-#[derive(Drop)]
+#[derive(Clone, Copy)]
 pub struct Placed {
     pub handle: usize,
     pub first: usize,

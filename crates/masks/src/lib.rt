@@ -3,7 +3,7 @@ ghost use Rattle.std.specs.Prelude.{◌≡◌, ◌+◌, ◌-◌, ◌≤◌, ◌<
 ghost use Rattle.std.specs.Int.Count.{ones};
 ghost use Rattle.masks.specs.Sets.{refilled, to_refill, lowest, taken, give_back};
 
-#[derive(Drop)]
+#[derive(Clone, Copy)]
 pub struct Masks {
     pub ready: u32,
     pub waiting: u32,

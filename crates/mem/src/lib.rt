@@ -1,4 +1,6 @@
 // Leaves on byte slices: clear, test, compare, copy, and numbers, low byte first or high byte first.
+#![tactic(auto)]
+
 ghost use Rattle.std.specs.Prelude.{◌≡◌, ◌⊎◌, ◌+◌, ◌-◌, ◌≤◌, ◌<◌, length};
 ghost use Rattle.mem.specs.Bytes.{zeros, number, big, same, part, put};
 

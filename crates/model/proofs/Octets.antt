@@ -11,7 +11,7 @@ use Rattle.model.specs.declared.Slot.{Slot}
 use Rattle.model.specs.declared.Slot.TheVariants.{Fresh, Idle, Live}
 use Rattle.model.specs.declared.Holder.{Holder}
 use Rattle.model.specs.declared.Holder.TheVariants.{Free, First, Later}
-use Rattle.model.specs.State.{Pool, free, group, is_ready, is_waiting, size, slot_sound, span_sound, well_formed, rows}
+use Rattle.model.specs.State.{Pool, free, group, is_ready, is_waiting, slot_sound, span_sound, well_formed, rows}
 use Rattle.model.specs.Tables.{slot_record, holder_bytes, row_record, later_records}
 use Rattle.model.specs.Tables.{encode_by, span_records_by}
 use Rattle.model.specs.Tables.{Layout, masks_layout}

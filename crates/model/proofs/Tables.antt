@@ -1,6 +1,6 @@
 -- Laws of the tables: their exact size, and that one state has one byte form, which says that state.
 use Rattle.mem.proofs.Prelude.{◌∙◌, ◌≡◌, sym, ap, refl, ap₂, true, Bool, false, List, [], ◌∷◌, ◌++◌, append_assoc, map, append-nil, ◌+◌, ℕ, ◌<◌}
-use Rattle.mem.proofs.Prelude.{◌≤◌, ◌*◌, ◌-◌, suc, ◌/◌, zero, ◌^◌, zero-add, arith, eq-eqb, T, eqb, leb, lit≤, ltb, eqb→eq, leb→le, ltb→lt}
+use Rattle.mem.proofs.Prelude.{◌≤◌, ◌*◌, ◌-◌, suc, ◌/◌, zero, ◌^◌, zero-add, arith, eq-eqb, T, eqb, leb, lit≤, eqb→eq, leb→le, ltb→lt}
 use Rattle.mem.proofs.Prelude.{length, drop, length-append, length-map, drop_at}
 use native.Mathlib.Nat.{le_trans, lt_of_lt_of_le, pow-le-pow_right, suc-add}
 use lib.Seq.{take_at}

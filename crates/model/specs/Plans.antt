@@ -5,7 +5,7 @@ use mathlib.Core.List.{List, [], ◌∷◌, ◌++◌, map}
 use Rattle.std.proofs.Math.Dec.{leb, eqb}
 use Rattle.std.proofs.Math.ListN.{take, drop}
 use Rattle.mem.specs.Lists.{choose, every, any, first, find, sum}
-use Rattle.mem.specs.Bytes.{zeros, part, bit}
+use Rattle.mem.specs.Bytes.{zeros, bit}
 use Rattle.classes.specs.Classes.{slot_bytes, class_of, slots_of, rows_of, size_limit, own_class}
 use Rattle.classes.specs.Alignments.{ordinary, align_of, code_of, enlarged, round_up}
 use Rattle.model.specs.declared.Slot.{Slot}

@@ -2,7 +2,9 @@
 
 // What the tables know of a live block: its slot's use count modulo 256, the displacement of its start in units, the requested size, and
 // the code of its alignment (1 for 16 bytes, 2 to 9 for 32 to 4,096).
-#[derive(Drop)]
+#![tactic(auto)]
+
+#[derive(Clone, Copy)]
 pub struct Alloc {
     pub count: u8,
     pub disp: usize,
@@ -12,7 +14,7 @@ pub struct Alloc {
 
 // A slot of a group: never granted in this group, so ready with use count 0; granted before and not live, ready or else waiting,
 // with its use count and the displacement of its last start; or live.
-#[derive(Drop)]
+#[derive(Clone, Copy)]
 pub enum Slot {
     Fresh,
     Idle { ready: bool, count: u8, disp: usize },
@@ -20,7 +22,7 @@ pub enum Slot {
 }
 
 // Who holds a row: nobody, a group whose first row it is (its class), or a group that began some rows before (how many).
-#[derive(Drop)]
+#[derive(Clone, Copy)]
 pub enum Holder {
     Free,
     First(u8),
@@ -28,7 +30,7 @@ pub enum Holder {
 }
 
 // Why a call is refused.
-#[derive(Drop)]
+#[derive(Clone, Copy)]
 pub enum Refusal {
     BadArena,
     Unsound,
@@ -46,7 +48,7 @@ pub enum Refusal {
 }
 
 // Whether the header and the guard of a block are those due, or why a call on it is refused.
-#[derive(Drop)]
+#[derive(Clone, Copy)]
 pub enum Damage {
     Intact,
     Damaged(Refusal),
@@ -54,7 +56,7 @@ pub enum Damage {
 
 // What a call answers: its value, or why it is refused. Grants, resize in place and move give the block's handle, measure its requested size, grant list and
 // its planner the number of entries, set up and release 0.
-#[derive(Drop)]
+#[derive(Clone, Copy)]
 pub enum Reply {
     Done(usize),
     Refused(Refusal),
@@ -63,7 +65,7 @@ pub enum Reply {
 // The totals of report, which are kept in a record beside the tables: live blocks and their requested bytes; rows held and rows free; ready
 // slots and waiting slots.
 #[repr(C)]
-#[derive(Drop)]
+#[derive(Clone, Copy)]
 pub struct Totals {
     pub blocks: usize,
     pub bytes: usize,
@@ -74,14 +76,14 @@ pub struct Totals {
 }
 
 // What a call answers, and the totals after it.
-#[derive(Drop)]
+#[derive(Clone, Copy)]
 pub struct Answered {
     pub reply: Reply,
     pub totals: Totals,
 }
 
 // What report answers.
-#[derive(Drop)]
+#[derive(Clone, Copy)]
 pub enum Report {
     Counted(Totals),
     Refused(Refusal),

@@ -1,4 +1,6 @@
 // Where a grant puts a block in its slot: the displacement, and what becomes of the slot.
+#![tactic(auto)]
+
 ghost use Rattle.std.specs.Prelude.{◌≡◌, ◌+◌, ◌<◌, ◌≤◌};
 ghost use Rattle.classes.specs.Classes.{slot_bytes};
 ghost use Rattle.model.specs.declared.Slot.{Slot};

@@ -19,7 +19,7 @@ pub use list::grant_all;
 use model::{Refusal, Reply};
 use rows::{Block, Found};
 
-#[derive(Drop)]
+#[derive(Clone, Copy)]
 pub enum Reserved {
     Taken(Block),
     NoRoom,

@@ -19,7 +19,7 @@ use trace::{Op, Step};
 pub const TEXT: usize = 1048576;
 
 // What a record tells, and the totals after it.
-#[derive(Drop)]
+#[derive(Clone, Copy)]
 struct Played {
     pub told: Said,
     pub totals: Totals,

@@ -1,4 +1,6 @@
 // Gather lists: the check of a proposal, and the planner.
+#![tactic(auto)]
+
 ghost use Rattle.std.specs.Prelude.{◌≡◌, true, ◌&&◌, ◌≤◌, ◌<◌, min, eqb, length};
 ghost use Rattle.mem.specs.Lists.{every, sum};
 ghost use Rattle.mem.specs.Bytes.{put};

@@ -12,14 +12,14 @@ use model::Totals;
 use rows::{Block, Found};
 
 // The group in which a slot is taken: its first row, and the totals of the tables with it.
-#[derive(Drop)]
+#[derive(Clone, Copy)]
 pub enum Opened {
     In(usize, Totals),
     Nowhere,
 }
 
 // The slot that a grant takes, and the totals with it.
-#[derive(Drop)]
+#[derive(Clone, Copy)]
 pub enum Reserved {
     Taken(Block, Totals),
     NoRoom,

@@ -1,5 +1,7 @@
 // The rows of a table room: who holds one, what a row that keeps no slots must hold, runs of free rows. Nothing here reads how a group
 // keeps its slots.
+#![tactic(auto)]
+
 ghost use Rattle.std.specs.Prelude.{◌≡◌, true, [], ◌+◌, ◌*◌, ◌-◌, ◌≤◌, ◌<◌, length, drop};
 ghost use Rattle.mem.specs.Lists.{starts};
 ghost use Rattle.mem.specs.Bytes.{zeros, put};
@@ -14,21 +16,21 @@ ghost use Rattle.rows.specs.Rows.{Lent, arena_rows, class_held, rows_held, next_
 use model::{Alloc, Holder, Totals};
 
 // The first row of what was looked for.
-#[derive(Drop)]
+#[derive(Clone, Copy)]
 pub enum Found {
     At(usize),
     Nothing,
 }
 
 // The free rows that end before a row, from the first of them on.
-#[derive(Drop)]
+#[derive(Clone, Copy)]
 pub struct Run {
     pub from: usize,
     pub next: usize,
 }
 
 // A live block: its group's first row and class, its slot, and what the tables know of it.
-#[derive(Drop)]
+#[derive(Clone, Copy)]
 pub struct Block {
     pub first: usize,
     pub class: usize,
@@ -37,7 +39,7 @@ pub struct Block {
 }
 
 // What stands at an offset: a live block, the last start of a slot that is not live, or nothing.
-#[derive(Drop)]
+#[derive(Clone, Copy)]
 pub enum Looked {
     Present(Block),
     Freed,
@@ -45,14 +47,14 @@ pub enum Looked {
 }
 
 // The span that begins at a row: how many rows it has, or that it is no span of sound tables.
-#[derive(Drop)]
+#[derive(Clone, Copy)]
 pub enum Tile {
     Rows(usize),
     Unsound,
 }
 
 // What begins at a row, whatever stands in a group's slots: a free row, a group with its class and its rows, or no span of sound tables.
-#[derive(Drop)]
+#[derive(Clone, Copy)]
 pub enum Frame {
     Free,
     Group { class: usize, rows: usize },
@@ -60,7 +62,7 @@ pub enum Frame {
 }
 
 // What is counted of rows that are sound, or that they are not.
-#[derive(Drop)]
+#[derive(Clone, Copy)]
 pub enum Counted {
     Sound(Totals),
     Unsound,

@@ -1,5 +1,7 @@
 // Whether slots for sizes can be taken one after the other, by notes of the tables: the slots of each class that are not live, and the rows
 // that are free. No table is read.
+#![tactic(auto)]
+
 ghost use Rattle.std.specs.Prelude.{◌≡◌, true, ℕ, ◌≤◌, ◌<◌, ltb};
 ghost use Rattle.mem.specs.Lists.{every, is_some};
 ghost use Rattle.classes.specs.Classes.{Lawful, class_of, size_limit};

@@ -14,7 +14,7 @@ fn has(m: u32, i: usize) -> bool
 }
 
 // What is found of the slots of a group: whether they are sound, and the sum of their requested sizes.
-#[derive(Drop)]
+#[derive(Clone, Copy)]
 pub struct Slots {
     pub sound: bool,
     pub bytes: u32,

@@ -17,7 +17,7 @@ ghost use Rattle.gather.specs.Planned.{PlannedFor};
 use model::Totals;
 
 // What a call tells: its number, and the totals after it.
-#[derive(Drop)]
+#[derive(Clone, Copy)]
 pub struct Told {
     pub number: u32,
     pub totals: Totals,

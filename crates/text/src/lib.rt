@@ -1,4 +1,6 @@
 // Numbers as text in a lent buffer: what a program prints is proved up to the bytes that it hands to a write.
+#![tactic(auto)]
+
 ghost use Rattle.std.specs.Prelude.{◌≡◌, ◌+◌, ◌≤◌, length};
 ghost use Rattle.mem.specs.Bytes.{put};
 ghost use Rattle.text.specs.Decimal.{decimal};

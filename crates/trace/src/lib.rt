@@ -9,7 +9,7 @@ const MOST: usize = 65535;
 const VERSION: u8 = 2;
 
 // An operation as it is read: its numbers, and of a store the part of the trace that holds its bytes.
-#[derive(Drop)]
+#[derive(Clone, Copy)]
 pub enum Op {
     Grant(usize),
     Release(usize),
@@ -25,7 +25,7 @@ pub enum Op {
 }
 
 // What stands at a place: a record with the place after it, what is no record, or the end.
-#[derive(Drop)]
+#[derive(Clone, Copy)]
 pub enum Step {
     Record(Op, usize),
     Bad,
@@ -119,7 +119,7 @@ pub fn readable(trace: &[u8]) -> bool
 }
 
 // A reader: the caller's trace, and a place in it.
-#[derive(Drop)]
+#[derive(Clone, Copy)]
 pub struct Reader<'a> {
     pub trace: &'a [u8],
     pub place: usize,

@@ -1,0 +1,30 @@
+-- `slots` computes the definition, with the units that `units` gives.
+use Rattle.mem.proofs.Prelude.{◌≡◌, ap, ℕ, ◌*◌, ◌/◌, arith, rules}
+use Rattle.classes.specs.Classes.{units_of, slot_bytes, slots_of}
+use Rattle.classes.proofs.slots.Goals as goal
+
+-- the quotient
+parts : (u c : ℕ) → u ≡ units_of c → 4080 / (16 * u) ≡ 4080 / slot_bytes c
+unfolding slot_bytes
+parts u c e = ap (λ (v : ℕ). 4080 / (16 * v)) e
+
+pub units-requires : goal.units-requires
+units-requires c = search rules
+
+pub overflow_mul-n : goal.overflow_mul-n
+overflow_mul-n c = search rules
+
+pub nonzero_div-n : goal.nonzero_div-n
+nonzero_div-n c = search rules
+
+pub returns-then-n-lt1 : goal.returns-then-n-lt1
+unfolding slots_of
+returns-then-n-lt1 c = omega (arith, parts c.units.result c.args.c c.units.ensures.value)
+
+pub returns-then-n-gt31 : goal.returns-then-n-gt31
+unfolding slots_of
+returns-then-n-gt31 c = omega (arith, parts c.units.result c.args.c c.units.ensures.value)
+
+pub returns : goal.returns
+unfolding slots_of
+returns c = omega (arith, parts c.units.result c.args.c c.units.ensures.value)
