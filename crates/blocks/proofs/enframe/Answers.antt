@@ -1,5 +1,5 @@
 -- `enframe` meets its contract: its three writes make the frame.
-use Rattle.mem.proofs.Prelude.{◌∙◌, ◌≡◌, arith, rules, length}
+use Rattle.mem.proofs.Prelude.{◌∙◌, ◌≡◌, arith, length}
 use Rattle.classes.specs.Classes.{slot_bytes}
 use Rattle.model.specs.Blocks.{reserved}
 use Rattle.blocks.proofs.Laws.{bytes_small, header_by, frame-put}

@@ -1,5 +1,5 @@
 -- `enframe_at` meets its contract: the slot's part becomes the frame.
-use Rattle.mem.proofs.Prelude.{◌≡◌, ◌+◌, ◌≤◌, ◌-◌, arith, rules, length}
+use Rattle.mem.proofs.Prelude.{◌≡◌, ◌+◌, ◌≤◌, ◌-◌, arith, length}
 use Rattle.mem.proofs.Laws.{part_length, put-part}
 use Rattle.classes.specs.Classes.{slot_bytes}
 use Rattle.model.specs.Blocks.{frame}

@@ -1,5 +1,5 @@
 -- `guard` meets its contract: its digits are those of `low`.
-use Rattle.mem.proofs.Prelude.{◌≡◌, ◌/◌, arith, rules}
+use Rattle.mem.proofs.Prelude.{◌≡◌, ◌/◌, arith}
 use Rattle.model.proofs.Blocks.{guard-bytes}
 use Rattle.blocks.proofs.guard.Goals as goal
 

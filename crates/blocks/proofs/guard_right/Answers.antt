@@ -1,5 +1,5 @@
 -- `guard_right` meets its contract: it compares what the definition does, where there is something to compare.
-use Rattle.mem.proofs.Prelude.{◌∙◌, ◌≡◌, sym, true, ◌&&◌, List, ◌+◌, ℕ, ◌≤◌, ◌*◌, ◌-◌, arith, rules, eq-eqb, ne_eqb, eqb, length, get_or}
+use Rattle.mem.proofs.Prelude.{◌∙◌, ◌≡◌, sym, true, ◌&&◌, List, ◌+◌, ℕ, ◌≤◌, ◌*◌, ◌-◌, arith, eq-eqb, ne_eqb, eqb, length, get_or}
 use Rattle.mem.specs.Bytes.{part, same}
 use Rattle.mem.proofs.Laws.{part-cons}
 use Rattle.classes.specs.Classes.{slot_bytes}

@@ -1,5 +1,5 @@
 -- `inspect` meets its contract: its two tests are those of the definition.
-use Rattle.mem.proofs.Prelude.{◌∙◌, ◌≡◌, ◌+◌, ◌*◌, ◌-◌, arith, rules, not-false, not-true}
+use Rattle.mem.proofs.Prelude.{◌∙◌, ◌≡◌, ◌+◌, ◌*◌, ◌-◌, arith}
 use Rattle.mem.specs.Lists.{choose}
 use Rattle.model.specs.declared.Refusal.TheVariants.{Overrun}
 use Rattle.model.specs.declared.Damage.TheVariants.{Intact, Damaged}
@@ -26,19 +26,19 @@ passed : (c : After-guard_right) → (let a = c.args in
     damage_in a.c a.i a.d a.n a.slot.now ≡ choose c.guard_right.result Intact (Damaged Overrun))
 unfolding damage_in choose
 passed c =
-    rw (← header_test (goal.at.After-guard_right c).After-same_bytes, not-false c.same_bytes.result c.if-not-same_bytes.false, c.guard_right.ensures)
+    rw (← header_test (goal.at.After-guard_right c).After-same_bytes, c.if-not-same_bytes.false, c.guard_right.ensures)
 
 pub returns-then-not-same_bytes : goal.returns-then-not-same_bytes
 unfolding damage_in choose
-returns-then-not-same_bytes c = rw (← header_test (goal.at.returns-then-not-same_bytes c).After-same_bytes, not-true c.same_bytes.result c.if-not-same_bytes.true)
+returns-then-not-same_bytes c = rw (← header_test (goal.at.returns-then-not-same_bytes c).After-same_bytes, c.if-not-same_bytes.true)
 
 pub returns-then-not-guard_right : goal.returns-then-not-guard_right
 unfolding choose
-returns-then-not-guard_right c = rw (passed (goal.at.returns-then-not-guard_right c).After-guard_right, not-true c.guard_right.result c.if-not-guard_right.true)
+returns-then-not-guard_right c = rw (passed (goal.at.returns-then-not-guard_right c).After-guard_right, c.if-not-guard_right.true)
 
 pub returns : goal.returns
 unfolding choose
-returns c = rw (passed (goal.at.returns c).After-guard_right, not-false c.guard_right.result c.if-not-guard_right.false)
+returns c = rw (passed (goal.at.returns c).After-guard_right, c.if-not-guard_right.false)
 
 pub reserved-spare-requires : goal.reserved-spare-requires
 reserved-spare-requires c = (omega arith, omega (arith, bytes_small c.args.c))

@@ -1,5 +1,5 @@
 -- `inspect_at` meets its contract: the slot's part has the bytes of its class.
-use Rattle.mem.proofs.Prelude.{◌∙◌, ◌≡◌, ◌+◌, ◌*◌, ◌-◌, arith, rules}
+use Rattle.mem.proofs.Prelude.{◌∙◌, ◌≡◌, ◌+◌, ◌*◌, ◌-◌, arith}
 use Rattle.mem.proofs.Laws.{part_length}
 use Rattle.classes.specs.Classes.{slot_bytes}
 use Rattle.classes.proofs.Laws.{bytes-units}

@@ -1,11 +1,11 @@
 -- `mark` meets its contract.
-use Rattle.mem.proofs.Prelude.{◌≡◌, ⊎_elim, min, arith}
+use Rattle.mem.proofs.Prelude.{◌≡◌, min, arith}
 use Rattle.blocks.proofs.mark.Goals as goal
-use Rattle.blocks.proofs.mark.Goals.{Joined-spare-lt5}
+use Rattle.blocks.proofs.mark.Goals.{Joined-spare-lt5, else-spare-lt5, then-spare-lt5}
 
 -- the lesser of 5 and the reserved count
 lesser : (c : Joined-spare-lt5) → c.if-spare-lt5.five ≡ min 5 c.args.spare
-lesser c = ⊎_elim (λ w. omega arith) (λ w. omega arith) c.if-spare-lt5.branch
+lesser c = elim c.if-spare-lt5.branch [ then-spare-lt5 w ↦ omega arith | else-spare-lt5 w ↦ omega arith ]
 
 pub returns : goal.returns
 returns c = let e = lesser (goal.at.returns c).Joined-spare-lt5 in record { value = rw e; small = omega arith }

@@ -1,5 +1,5 @@
 -- `reframe` meets its contract: its last two writes are one.
-use Rattle.mem.proofs.Prelude.{◌∙◌, ◌≡◌, sym, ◌+◌, ℕ, ◌≤◌, ◌*◌, ◌-◌, arith, rules, length}
+use Rattle.mem.proofs.Prelude.{◌∙◌, ◌≡◌, sym, ◌+◌, ℕ, ◌≤◌, ◌*◌, ◌-◌, arith, length}
 use Rattle.mem.specs.Bytes.{zeros, put}
 use Rattle.mem.proofs.Laws.{put-append, zeros-length}
 use Rattle.classes.specs.Classes.{slot_bytes}

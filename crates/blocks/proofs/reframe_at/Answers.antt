@@ -1,5 +1,5 @@
 -- `reframe_at` meets its contract: what is written into the slot's part is written into the arena.
-use Rattle.mem.proofs.Prelude.{◌∙◌, ◌≡◌, sym, ap, List, ◌++◌, ◌+◌, ℕ, ◌≤◌, ◌*◌, ◌-◌, arith, rules, length, drop, length-append, take}
+use Rattle.mem.proofs.Prelude.{◌∙◌, ◌≡◌, sym, ap, List, ◌++◌, ◌+◌, ℕ, ◌≤◌, ◌*◌, ◌-◌, arith, length, drop, length-append, take}
 use Rattle.mem.proofs.Prelude.{take-append-drop, length-take-le}
 use Rattle.mem.specs.Bytes.{zeros, part, put}
 use Rattle.mem.proofs.Laws.{part_length, put-length, put_middle, zeros-length}

@@ -1,5 +1,5 @@
 -- `units_to` meets its contract.
-use Rattle.mem.proofs.Prelude.{ℕ, ◌<◌, ◌≤◌, ◌*◌, ◌/◌, arith, rules}
+use Rattle.mem.proofs.Prelude.{ℕ, ◌<◌, ◌≤◌, ◌*◌, ◌/◌, arith}
 use native.Mathlib.Nat.{mul-le-mul}
 use Rattle.blocks.proofs.units_to.Goals as goal
 use Rattle.blocks.proofs.units_to.Goals.{Start}

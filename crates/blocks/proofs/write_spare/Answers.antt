@@ -1,5 +1,5 @@
 -- `write_spare` meets its contract: zeros, then the guard over their end, if there is one.
-use Rattle.mem.proofs.Prelude.{◌∙◌, ◌≡◌, ◌+◌, ◌-◌, arith, rules, length}
+use Rattle.mem.proofs.Prelude.{◌∙◌, ◌≡◌, ◌+◌, ◌-◌, arith, length}
 use Rattle.blocks.proofs.Laws.{spare-short, spare-put}
 use Rattle.blocks.proofs.write_spare.Goals as goal
 

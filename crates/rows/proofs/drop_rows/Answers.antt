@@ -1,5 +1,5 @@
 -- `drop_rows` meets its contract.
-use Rattle.mem.proofs.Prelude.{◌∙◌, ◌≡◌, ap₂, ◌*◌, ◌-◌, arith, rules}
+use Rattle.mem.proofs.Prelude.{◌∙◌, ◌≡◌, ap₂, ◌*◌, ◌-◌, arith}
 use Rattle.model.specs.Tables.{row_record_bytes}
 use Rattle.mem.specs.Bytes.{zeros, put}
 use Rattle.rows.proofs.drop_rows.Goals as goal

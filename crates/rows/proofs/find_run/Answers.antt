@@ -1,9 +1,9 @@
 -- `find_run` meets its contract. The invariant: the search of the whole is that of what is left.
-use Rattle.mem.proofs.Prelude.{◌∙◌, sym, ◌+◌, ◌<◌, ◌≤◌, ◌-◌, arith, rules, length, drop}
+use Rattle.mem.proofs.Prelude.{◌∙◌, sym, ◌+◌, ◌<◌, ◌≤◌, arith, rules, length, drop}
 use Rattle.model.specs.Tables.{Layout, row_at, view_holder, row_record_bytes}
 use Rattle.rows.specs.Rows.{Lent, next_run}
 use Rattle.rows.proofs.Rooms.{row_inside, row_below, row_past}
-use Rattle.rows.proofs.RunSteps.{Ran, run-start, RunStep, run_step, run_end}
+use Rattle.rows.proofs.RunSteps.{run-start, RunStep, run_step, run_end}
 use Rattle.rows.proofs.find_run.Goals as goal
 use Rattle.rows.proofs.find_run.Goals.{After-next_run-run, In-loop-i}
 

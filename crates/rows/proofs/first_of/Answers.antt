@@ -1,5 +1,5 @@
 -- `first_of` meets its contract.
-use Rattle.mem.proofs.Prelude.{◌≡◌, true, arith, rules, leb-true, leb}
+use Rattle.mem.proofs.Prelude.{◌≡◌, true, arith, leb-true, leb}
 use Rattle.rows.proofs.first_of.Goals as goal
 
 pub overflow_sub-result : goal.overflow_sub-result

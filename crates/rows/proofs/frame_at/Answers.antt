@@ -1,5 +1,5 @@
 -- `frame_at` meets its contract, by who holds the first row.
-use Rattle.mem.proofs.Prelude.{◌∙◌, ◌≡◌, sym, ap, rules, drop}
+use Rattle.mem.proofs.Prelude.{◌∙◌, ◌≡◌, sym, ap, drop}
 use Rattle.mem.specs.Lists.{choose}
 use Rattle.mem.proofs.Starts.{starts-zeros}
 use Rattle.model.specs.declared.Holder.{Holder}

@@ -1,5 +1,5 @@
 -- `group_frame` meets its contract: each return is the definition under the tests so far.
-use Rattle.mem.proofs.Prelude.{◌≡◌, sym, ◌+◌, ◌-◌, arith, rules, not-false, not-true, le-leb, lt-leb, le-ltb, lt-ltb, drop, drop-drop}
+use Rattle.mem.proofs.Prelude.{◌≡◌, sym, ◌+◌, ◌-◌, arith, le-leb, lt-leb, le-ltb, lt-ltb, drop, drop-drop}
 use Rattle.mem.specs.Lists.{choose, starts}
 use Rattle.model.specs.Tables.{row_at, later_records}
 use Rattle.rows.proofs.group_frame.Goals as goal
@@ -34,7 +34,7 @@ returns-then-not-laters_sound c =
       ← r.ensures.value,
       le-leb r.result a.n c.if-n-k.false,
       laters (goal.at.returns-then-not-laters_sound c).After-laters_sound,
-      not-true c.laters_sound.result c.if-not-laters_sound.true,
+      c.if-not-laters_sound.true,
     )
 
 pub returns : goal.returns
@@ -47,5 +47,5 @@ returns c =
       ← r.ensures.value,
       le-leb r.result a.n c.if-n-k.false,
       laters (goal.at.returns c).After-laters_sound,
-      not-false c.laters_sound.result c.if-not-laters_sound.false,
+      c.if-not-laters_sound.false,
     )

@@ -1,13 +1,12 @@
 -- `write_row` meets its contract: the holder's bytes stand before zeros.
-use Rattle.mem.proofs.Prelude.{◌∙◌, ◌≡◌, sym, ap, List, [], ◌++◌, ◌+◌, ℕ, ◌-◌, add-zero, arith, now, needs, lit≤}
+use Rattle.mem.proofs.Prelude.{◌∙◌, ◌≡◌, sym, ap, List, [], ◌++◌, ◌+◌, ℕ, ◌-◌, add-zero, arith, lit≤}
 use Rattle.mem.specs.Bytes.{zeros, put}
 use Rattle.mem.proofs.Laws.{put-put}
 use Rattle.model.specs.declared.Holder.{Holder}
 use Rattle.model.specs.declared.Holder.TheVariants.{Free, First, Later}
 use Rattle.model.specs.Tables.{row_at, holder_bytes, row_record, row_record_bytes}
 use Rattle.rows.proofs.Checks.{row_form}
-use Rattle.rows.proofs.write_row.Statement.{statement}
-use Rattle.rows.proofs.write_row.Tie as tie
+use Rattle.rows.proofs.write_row.Goals as goal
 
 whole : (p : ℕ) (h : Holder) (s : List ℕ) → put (p + 0) (holder_bytes h) (put p (zeros row_record_bytes) s) ≡ put p (holder_bytes h ++ zeros 262) s
 unfolding zeros
@@ -22,16 +21,10 @@ written i p h s s₁ e f =
     rw (f, d, row_form h) (ap (λ q. put q (holder_bytes h) (put p (zeros row_record_bytes) s)) (sym (add-zero p)) ∙ whole p h s)
     ∙ ap (λ q. put q (row_record h []) s) e
 
-returns : tie.Need-returns
+pub returns : goal.returns
 returns c =
-    let held = c.before.before.before.before.before.holder-bytes in
-    let cleared = c.before.before.before.before.before.before.before.before.clear in
-    let b = c.before.before.before.before.before.before.before.before.before.before in
-    let a = b.before.before.args in
-    c.before.before.copy-in.ensures
-    ∙ rw held.ensures (written a.i b.row_at.result a.h (now a.room) cleared.new.0 b.row_at.ensures cleared.ensures)
-
-pub write_row_spec : {M : Type 1} → statement M
-write_row_spec =
-    tie.close (tie.spec (λ c κs. search needs) (λ c. search needs) (λ c κs. search needs) (λ c κs. search needs) (λ c. search needs) (λ c κs. search needs)
-    (λ c. search needs) returns)
+    let held = c.holder_bytes-holder in
+    let cleared = c.clear in
+    let a = c.args in
+    c.copy_in.ensures
+    ∙ rw held.ensures (written a.i c.row_at-at.result a.h a.room.now cleared.new.s c.row_at-at.ensures cleared.ensures)

@@ -1,12 +1,11 @@
 -- `holder_at` meets its contract.
-use Rattle.mem.proofs.Prelude.{◌∙◌, ◌≡◌, sym, List, ◌+◌, ℕ, add-zero, arith, now, needs, eq-eqb, ne_eqb, eqb, drop, get_or, get_or-drop}
+use Rattle.mem.proofs.Prelude.{◌∙◌, ◌≡◌, sym, List, ◌+◌, ℕ, add-zero, arith, eq-eqb, ne_eqb, eqb, drop, get_or, get_or-drop}
 use Rattle.mem.specs.Lists.{choose}
 use Rattle.mem.proofs.Tests.{choose-true, choose-false}
 use Rattle.model.specs.declared.Holder.{Holder}
 use Rattle.model.specs.Tables.{view_holder}
 use Rattle.model.specs.Tables.{row_at}
-use Rattle.rows.proofs.holder_at.Statement.{statement}
-use Rattle.rows.proofs.holder_at.Tie as tie
+use Rattle.rows.proofs.holder_at.Goals as goal
 
 -- the holder of the row whose record stands at p
 module _ (i p : ℕ) (t : List ℕ) (e : p ≡ row_at i) where
@@ -27,25 +26,17 @@ module _ (i p : ℕ) (t : List ℕ) (e : p ≡ row_at i) where
   none h k =
       sym (at ∙ choose-false (eqb (get_or t p 0) 1) _ _ (ne_eqb (get_or t p 0) 1 h) ∙ choose-false (eqb (get_or t p 0) 2) _ _ (ne_eqb (get_or t p 0) 2 k))
 
-returns : tie.Need-returns
+pub returns-then-kind-eq1 : goal.returns-then-kind-eq1
+returns-then-kind-eq1 c =
+    let a = c.args in
+    first a.i c.row_at-at.result a.room.now c.row_at-at.ensures c.if-kind-eq1.true
+
+pub returns-then-kind-eq2 : goal.returns-then-kind-eq2
+returns-then-kind-eq2 c =
+    let a = c.args in
+    later a.i c.row_at-at.result a.room.now c.row_at-at.ensures c.if-kind-eq2.true
+
+pub returns : goal.returns
 returns c =
-    let b = c.before.before.before in
-    let a = b.before.before.args in
-    first a.i b.row_at.result (now a.room) b.row_at.ensures c.before.if1.true
-
-returns-2 : tie.Need-returns-2
-returns-2 c =
-    let b = c.before.before.before.before in
-    let a = b.before.before.args in
-    later a.i b.row_at.result (now a.room) b.row_at.ensures c.before.if2.true
-
-returns-3 : tie.Need-returns-3
-returns-3 c =
-    let b = c.before.before.before in
-    let a = b.before.before.args in
-    none a.i b.row_at.result (now a.room) b.row_at.ensures c.before.if1.false c.if2.false
-
-pub holder_at_spec : {M : Type 1} → statement M
-holder_at_spec =
-    tie.close (tie.spec (λ c κs. search needs) (λ c. search needs) (λ c. search needs) (λ c. search needs) returns (λ c. search needs) (λ c. search needs)
-    returns-2 returns-3)
+    let a = c.args in
+    none a.i c.row_at-at.result a.room.now c.row_at-at.ensures c.if-kind-eq1.false c.if-kind-eq2.false

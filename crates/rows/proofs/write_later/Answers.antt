@@ -1,12 +1,11 @@
 -- `write_later` meets its contract. The invariant: writing what is left of the later rows makes all of them written.
-use Rattle.mem.proofs.Prelude.{◌∙◌, ◌≡◌, sym, ap, refl, List, [], ◌+◌, ℕ, ◌<◌, ◌≤◌, ◌-◌, suc, add-one, arith, needs, lit≤, length}
+use Rattle.mem.proofs.Prelude.{◌∙◌, ◌≡◌, sym, ap, refl, List, [], ◌+◌, ℕ, ◌<◌, ◌-◌, suc, add-one, arith, rules, lit≤, length}
 use Rattle.mem.specs.Bytes.{put}
 use Rattle.mem.proofs.Laws.{put-nil, put-append, put-length}
 use Rattle.model.specs.declared.Holder.{Holder}
 use Rattle.model.specs.Tables.{row_at, row_record, later_records}
 use Rattle.model.proofs.Tables.{row_length}
-use Rattle.rows.proofs.write_later.Statement.{statement}
-use Rattle.rows.proofs.write_later.Tie as tie
+use Rattle.rows.proofs.write_later.Goals as goal
 
 -- one turn
 turn : (i n k : ℕ) (s : List ℕ) → k < n
@@ -20,37 +19,24 @@ turn i n k s h =
     ∙ put-append (row_at (i + k)) (row_record (Holder.Later k) []) (later_records (n - (k + 1)) (suc k)) s
     ∙ rw (← f, add-one k))
 
-abbrev invariant-loop : tie.invariant-loop
-invariant-loop room₀ i n k₀ room k =
-    (1 ≤ k) × (k ≤ n) × (length room ≡ length room₀) × (put (row_at (i + k)) (later_records (n - k) k) room ≡ put (row_at (i + 1)) (later_records (n - 1) 1) room₀)
+pub loop-k-init : goal.loop-k-init
+loop-k-init c = (search rules, search rules, refl, refl)
 
-abbrev decreases-loop : tie.decreases-loop
-decreases-loop room₀ i n k₀ room k = n - k
-
-loop-holds : tie.Need-loop-init invariant-loop decreases-loop
-loop-holds c = (search needs, search needs, refl, refl)
-
-loop-again : tie.Need-loop-preserved invariant-loop decreases-loop
-loop-again c =
-    let d = c.before.before in
-    let l = d.before.before.before.loop in
-    let a = d.before.before.before.before.before.args in
-    let h = d.write-row.ensures in (
+pub loop-k-preserved : goal.loop-k-preserved
+loop-k-preserved c =
+    let l = c.loop-k in
+    let a = c.args in
+    let h = c.write_row.ensures in (
       omega arith,
       omega arith,
       ap length h ∙ put-length (row_at (a.i + l.k)) (row_record (Holder.Later l.k) []) l.room ∙ l.invariant.2,
       rw h (turn a.i a.n l.k l.room (omega arith)) ∙ l.invariant.3,
     )
 
-returns : tie.Need-returns invariant-loop decreases-loop
+pub returns : goal.returns
 unfolding later_records
 returns c =
-    let l = c.before.loop in
-    let a = c.before.before.before.args in
+    let l = c.loop-k in
+    let a = c.args in
     let e : a.n - l.k ≡ 0 = omega arith in
     sym (put-nil (row_at (a.i + l.k)) l.room) ∙ ap (λ m. put (row_at (a.i + l.k)) (later_records m l.k) l.room) (sym e) ∙ l.invariant.3
-
-pub write_later_spec : {M : Type 1} → statement M
-write_later_spec =
-    tie.close (tie.spec invariant-loop decreases-loop loop-holds (λ c. search needs) (λ c. search needs) (λ c κs. search needs) (λ c. search needs) (λ c. search needs)
-    loop-again (λ c. search needs) returns)

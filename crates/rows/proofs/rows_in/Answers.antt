@@ -1,0 +1,50 @@
+-- `rows_in` meets its contract: its tests are those of the rule.
+use Rattle.mem.proofs.Prelude.{sym, ◌*◌, ◌%◌, mul_comm, arith, rules, eq-eqb, ne_eqb, le-leb, lt-leb}
+use native.Mathlib.Nat.{div-le_of_le-mul}
+use Rattle.mem.specs.Lists.{choose}
+use Rattle.model.specs.Tables.{arena_right}
+use Rattle.rows.specs.Rows.{arena_rows}
+use Rattle.rows.proofs.rows_in.Goals as goal
+
+pub returns-then-len-row : goal.returns-then-len-row
+unfolding arena_rows arena_right choose
+returns-then-len-row c = let a = c.args in record { value = sym (simp (eq-eqb (a.row % 16) 0 c.requires.2, lt-leb a.row a.len c.if-len-row.true)); small = search rules }
+
+pub returns-then-row-len : goal.returns-then-row-len
+unfolding arena_rows arena_right choose
+returns-then-row-len c =
+    let a = c.args in record {
+      value = sym (simp (
+        eq-eqb (a.row % 16) 0 c.requires.2,
+        le-leb a.row a.len c.if-len-row.false,
+        lt-leb a.len (512 * a.row)
+            c.if-row-len.true,
+      ));
+      small = search rules;
+    }
+
+pub returns-then-len-row-ne0 : goal.returns-then-len-row-ne0
+unfolding arena_rows arena_right choose
+returns-then-len-row-ne0 c =
+    let a = c.args in record {
+      value = sym (simp (
+        eq-eqb (a.row % 16) 0 c.requires.2,
+        le-leb a.row a.len c.if-len-row.false,
+        le-leb a.len (512 * a.row) c.if-row-len.false,
+        ne_eqb (a.len % a.row) 0 c.if-len-row-ne0.true,
+      ));
+      small = search rules;
+    }
+
+pub returns : goal.returns
+unfolding arena_rows arena_right choose
+returns c =
+    let a = c.args in record {
+      value = sym (simp (
+        eq-eqb (a.row % 16) 0 c.requires.2,
+        le-leb a.row a.len c.if-len-row.false,
+        le-leb a.len (512 * a.row) c.if-row-len.false,
+        eq-eqb (a.len % a.row) 0 c.if-len-row-ne0.false,
+      ));
+      small = div-le_of_le-mul a.row (omega (arith, mul_comm 512 a.row));
+    }
