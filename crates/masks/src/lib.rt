@@ -1,4 +1,6 @@
 // The ready set (mallocng's avail) and the waiting set (its freed) of a group: bit i is slot i. A slot in neither is live.
+#![tactic(auto)]
+
 ghost use Rattle.std.specs.Prelude.{◌≡◌, ◌+◌, ◌-◌, ◌≤◌, ◌<◌, ◌^◌};
 ghost use Rattle.std.specs.Int.Count.{ones};
 ghost use Rattle.masks.specs.Sets.{refilled, to_refill, lowest, taken, give_back};

@@ -1,0 +1,12 @@
+use Rattle.mem.proofs.Prelude.{eq-eqb, ne_eqb}
+use Rattle.mem.specs.Lists.{choose}
+use Rattle.masks.specs.Sets.{refilled}
+use Rattle.masks.proofs.Masks.refill.Goals as goal
+
+pub returns-then-self-eq0 : goal.returns-then-self-eq0
+unfolding refilled choose
+returns-then-self-eq0 c = rw (eq-eqb c.args.self.ready 0 c.if-self-eq0.true)
+
+pub returns-else-self-eq0 : goal.returns-else-self-eq0
+unfolding refilled choose
+returns-else-self-eq0 c = rw (ne_eqb c.args.self.ready 0 c.if-self-eq0.false)
