@@ -1,5 +1,5 @@
 -- By the cap, the length, and the sizes.
-use Rattle.mem.proofs.Prelude.{◌∙◌, sym, arith, rules, not-true, not-false}
+use Rattle.mem.proofs.Prelude.{◌∙◌, sym, arith}
 use Rattle.model.specs.Proposals.{entries}
 use Rattle.proposals.proofs.Checks.{cap_facts, check_cap, check_long, check_sizes}
 use Rattle.proposals.proofs.accepts.Goals as goal

@@ -1,8 +1,8 @@
 -- The invariant: the sizes that are left to write make the plan. A size is at least 1, so that what is left falls.
-use Rattle.mem.proofs.Prelude.{◌<◌, arith, rules}
+use Rattle.mem.proofs.Prelude.{◌<◌, arith}
 use Rattle.model.specs.Proposals.{entries}
 use Rattle.proposals.proofs.Checks.{plan_facts, cap_facts}
-use Rattle.proposals.proofs.Filling.{Filled, more-places, filled_more, filled_all, filled_none}
+use Rattle.proposals.proofs.Filling.{more-places, filled_more, filled_all, filled_none}
 use Rattle.proposals.proofs.full_caps.Goals as goal
 use Rattle.proposals.proofs.full_caps.Goals.{After-lesser-n}
 
@@ -23,7 +23,7 @@ pub overflow_sub-left : goal.overflow_sub-left
 overflow_sub-left c = omega (arith, c.lesser-n.ensures)
 
 pub overflow_add-count : goal.overflow_add-count
-overflow_add-count c = omega (arith, place c)
+overflow_add-count c = omega (arith, place (goal.at.overflow_add-count c).After-lesser-n)
 
 pub loop-left-smaller : goal.loop-left-smaller
 loop-left-smaller c =
@@ -42,4 +42,4 @@ returns c =
     let l = c.loop-left in let told = filled_all a.total a.cap a.sizes.now l.sizes l.left l.count l.invariant c.loop-left-test.false in record { value = told.0; sizes_after = told.1 }
 
 pub bounds-sizes-count : goal.bounds-sizes-count
-bounds-sizes-count c = place c
+bounds-sizes-count c = place (goal.at.bounds-sizes-count c).After-lesser-n

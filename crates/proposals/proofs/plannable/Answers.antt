@@ -1,5 +1,5 @@
 -- By the cap.
-use Rattle.mem.proofs.Prelude.{◌∙◌, sym, arith, rules, not-true, not-false}
+use Rattle.mem.proofs.Prelude.{◌∙◌, sym, arith}
 use Rattle.classes.specs.Classes.{size_limit}
 use Rattle.model.specs.Proposals.{entries}
 use Rattle.proposals.proofs.Checks.{cap_facts, plan_cap, plan_tested}

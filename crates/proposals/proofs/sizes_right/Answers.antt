@@ -1,8 +1,8 @@
 -- The invariant: the test of the sizes that are left is the test of all. The sum of i sizes is at most i times the largest cap.
-use Rattle.mem.proofs.Prelude.{◌≡◌, ◌∙◌, refl, sym, ◌*◌, ◌-◌, ◌≤◌, arith, rules, length, get_or, drop}
+use Rattle.mem.proofs.Prelude.{◌∙◌, refl, sym, arith, rules, get_or}
 use Rattle.classes.specs.Classes.{size_limit}
 use Rattle.model.specs.Proposals.{entries}
-use Rattle.proposals.proofs.Checks.{right_from, right_all, right-passed, right-refused, right-done, size-zero, size-over, size_in}
+use Rattle.proposals.proofs.Checks.{right_all, right-passed, right-refused, right-done, size-zero, size-over, size_in}
 use Rattle.proposals.proofs.sizes_right.Goals as goal
 
 pub offset_bounds-sizes-i : goal.offset_bounds-sizes-i

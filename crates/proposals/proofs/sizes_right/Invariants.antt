@@ -1,8 +1,6 @@
 -- The invariant: the test of the sizes that are left is the test of all. The sum of i sizes is at most i times the largest cap.
-use Rattle.mem.proofs.Prelude.{◌≡◌, ◌∙◌, refl, sym, ◌*◌, ◌-◌, ◌≤◌, arith, rules, length, get_or, drop}
-use Rattle.classes.specs.Classes.{size_limit}
-use Rattle.model.specs.Proposals.{entries}
-use Rattle.proposals.proofs.Checks.{right_from, right_all, right-passed, right-refused, right-done, size-zero, size-over, size_in}
+use Rattle.mem.proofs.Prelude.{◌≡◌, ◌*◌, ◌-◌, ◌≤◌, length, drop}
+use Rattle.proposals.proofs.Checks.{right_from}
 use Rattle.proposals.proofs.sizes_right.Given as goal
 
 abbrev pub invariant-loop-i : goal.invariant-loop-i
