@@ -1,4 +1,6 @@
 // The first row of a group by masks: its two masks and its slots' records, read and written.
+#![tactic(auto)]
+
 ghost use Rattle.std.specs.Prelude.{◌≡◌, ◌+◌, ◌≤◌, ◌<◌, length, drop, replicate, ◌++◌};
 ghost use Rattle.mem.specs.Bytes.{low, put};
 ghost use Rattle.classes.specs.Classes.{Lawful, slots_of, rows_of};

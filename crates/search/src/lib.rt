@@ -1,4 +1,6 @@
 // Searches over sound tables by masks: a group that can serve a class, and the block at an offset.
+#![tactic(auto)]
+
 ghost use Rattle.std.specs.Prelude.{◌≡◌, true, [], ◌+◌, ◌≤◌, ◌<◌, length, drop};
 ghost use Rattle.classes.specs.Classes.{Lawful};
 ghost use Rattle.model.specs.Tables.{row_at, row_record_bytes, masks_layout, sound, view, most_rows};

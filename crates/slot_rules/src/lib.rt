@@ -1,4 +1,6 @@
 // The rules of one slot's record, by the numbers in its two halves: of ordinary blocks, of any, and of blocks that all have one alignment.
+#![tactic(auto)]
+
 ghost use Rattle.std.specs.Prelude.{◌≡◌, ◌≤◌, ◌<◌};
 ghost use Rattle.classes.specs.Alignments.{align_of};
 ghost use Rattle.slot_rules.specs.Rules.{record_checked, alike_checked, live_checked, exact_checked};

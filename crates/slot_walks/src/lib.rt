@@ -1,5 +1,7 @@
 // The slots of a group, walked by their records: whether they are sound, and the sum of their requested sizes. Quick loops for groups of ordinary
 // blocks and of one alignment, an exact one for others.
+#![tactic(auto)]
+
 ghost use Rattle.std.specs.Prelude.{◌≡◌, true, ◌+◌, ◌*◌, ◌/◌, ◌%◌, ◌^◌, ◌≤◌, ◌<◌, length, drop, eqb};
 ghost use Rattle.classes.specs.Classes.{slot_bytes, below2};
 ghost use Rattle.model.specs.Tables.{most_slots, slot_record_bytes, sizes_in};

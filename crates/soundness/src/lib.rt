@@ -1,5 +1,7 @@
 // Whether the bytes of a room are sound tables, and the record beside them has their totals. The room is walked once, span by span; what
 // report counts is counted on the way.
+#![tactic(auto)]
+
 ghost use Rattle.std.specs.Prelude.{◌≡◌, ◌+◌, ◌*◌, ◌-◌, ◌%◌, ◌≤◌, ◌<◌, length, drop};
 ghost use Rattle.std.specs.Int.Count.{ones};
 ghost use Rattle.mem.specs.Bytes.{zeros, same, part};

@@ -1,5 +1,7 @@
 // The six totals, brought up to date by a change of one group: it is made, a slot is taken, given back or gets another size, the group is
 // dropped. Nothing is counted again.
+#![tactic(auto)]
+
 ghost use Rattle.std.specs.Prelude.{◌≡◌};
 ghost use Rattle.model.specs.declared.Reply.{Reply};
 ghost use Rattle.model.specs.declared.Totals.{Totals};

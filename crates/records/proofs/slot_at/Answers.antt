@@ -1,5 +1,5 @@
 -- `slot_at` meets its contract.
-use Rattle.mem.proofs.Prelude.{◌∙◌, ◌≡◌, sym, ap, ap₂, true, Bool, false, List, ◌+◌, ℕ, ◌*◌, ◌/◌, ◌^◌, ◌%◌, add_assoc, now, needs, eq-eqb}
+use Rattle.mem.proofs.Prelude.{◌∙◌, ◌≡◌, sym, ap, ap₂, true, Bool, false, List, ◌+◌, ℕ, ◌*◌, ◌/◌, ◌^◌, ◌%◌, add_assoc, eq-eqb}
 use Rattle.mem.proofs.Prelude.{ne_eqb, eqb, lit≤, drop, get_or, drop-drop}
 use Rattle.mem.specs.Lists.{choose}
 use Rattle.mem.specs.Bytes.{number, part}
@@ -9,8 +9,7 @@ use Rattle.masks.specs.declared.Masks.{Masks}
 use Rattle.model.specs.declared.Slot.{Slot}
 use Rattle.model.specs.Tables.{row_at, view_slot}
 use Rattle.records.specs.Records.{has, slot_in}
-use Rattle.records.proofs.slot_at.Statement.{statement}
-use Rattle.records.proofs.slot_at.Tie as tie
+use Rattle.records.proofs.slot_at.Goals as goal
 
 -- the slot that the eight bytes at q say
 module _ (q : ℕ) (t : List ℕ) where
@@ -65,38 +64,26 @@ module _ (i j p : ℕ) (m : Masks) (t : List ℕ) (e : p ≡ row_at i) where
   read_live d n h k f g =
       sym (slot ∙ rw (ne_eqb (m.ready / 2 ^ j % 2) 1 h, ne_eqb (m.waiting / 2 ^ j % 2) 1 k, f, g) (live (p + 16 + 8 * j) t))
 
-returns : tie.Need-returns
+pub returns-then-room-at-eq0 : goal.returns-then-room-at-eq0
+returns-then-room-at-eq0 c =
+    let a = c.args in
+    read-fresh a.i a.j c.row_at.result a.m a.room.now c.row_at.ensures c.if-m-j-eq1.true c.if-room-at-eq0.true
+
+pub returns-then-m-j-eq1 : goal.returns-then-m-j-eq1
+returns-then-m-j-eq1 c =
+    let a = c.args in
+    read_ready a.i a.j c.row_at.result a.m a.room.now c.row_at.ensures c.get2.result
+    c.if-m-j-eq1.true c.if-room-at-eq0.false c.get2.ensures.value
+
+pub returns-then-m-j-eq1-2 : goal.returns-then-m-j-eq1-2
+returns-then-m-j-eq1-2 c =
+    let a = c.args in
+    read_waiting a.i a.j c.row_at.result a.m a.room.now c.row_at.ensures c.get2-then-m-j-eq1-2.result
+    c.if-m-j-eq1.false c.if-m-j-eq1-2.true c.get2-then-m-j-eq1-2.ensures.value
+
+pub returns : goal.returns
 returns c =
-    let b = c.before.before.before.before in
-    let a = b.before.before.args in
-    read-fresh a.i a.j b.row_at.result a.m (now a.room) b.row_at.ensures c.before.before.if1.true c.if2.true
-
-returns-2 : tie.Need-returns-2
-returns-2 c =
-    let b = c.before.before.before.before.before.before in
-    let a = b.before.before.args in
-    read_ready a.i a.j b.row_at.result a.m (now a.room) b.row_at.ensures c.get2.result
-    c.before.before.before.before.if1.true c.before.before.if2.false c.get2.ensures.0
-
-returns-3 : tie.Need-returns-3
-returns-3 c =
-    let b = c.before.before.before.before.before.before in
-    let a = b.before.before.args in
-    read_waiting a.i a.j b.row_at.result a.m (now a.room) b.row_at.ensures c.get22.result
-    c.before.before.before.before.if1.false c.before.before.if3.true c.get22.ensures.0
-
-returns-4 : tie.Need-returns-4
-returns-4 c =
-    let b = c.before.before.before.before.before.before.before.before in
-    let a = b.before.before.args in
-    read_live a.i a.j b.row_at.result a.m (now a.room) b.row_at.ensures c.before.before.get23.result c.before.get3.result
-    c.before.before.before.before.before.before.if1.false c.before.before.before.before.if3.false
-    c.before.before.get23.ensures.0 c.before.get3.ensures.0
-
-pub slot_at_spec : {M : Type 1} → statement M
-slot_at_spec =
-    tie.close (tie.spec (λ c κs. search needs) (λ c. search needs) (λ c. search needs) (λ c. search needs) (λ c. search needs) (λ c. search needs)
-    (λ c. search needs) returns
-    (λ c. search needs) (λ c. search needs) (λ c. search needs) (λ c κs. search needs) returns-2 (λ c. search needs) (λ c. search needs)
-    (λ c. search needs) (λ c. search needs) (λ c κs. search needs) returns-3 (λ c. search needs) (λ c. search needs) (λ c. search needs)
-    (λ c κs. search needs) (λ c. search needs) (λ c κs. search needs) (λ c. search needs) (λ c. search needs) returns-4)
+    let a = c.args in
+    read_live a.i a.j c.row_at.result a.m a.room.now c.row_at.ensures c.get2-2.result c.get3.result
+    c.if-m-j-eq1.false c.if-m-j-eq1-2.false
+    c.get2-2.ensures.value c.get3.ensures.value

@@ -1,5 +1,5 @@
 -- `look_group` meets its contract.
-use Rattle.mem.proofs.Prelude.{◌∙◌, ◌≡◌, sym, true, Bool, false, List, ◌+◌, ℕ, ◌<◌, ◌≤◌, ◌*◌, ◌-◌, ◌/◌, ◌%◌, arith, now, needs, le-leb, lt-leb}
+use Rattle.mem.proofs.Prelude.{◌∙◌, ◌≡◌, sym, true, Bool, false, List, ◌+◌, ℕ, ◌<◌, ◌≤◌, ◌*◌, ◌-◌, ◌/◌, ◌%◌, arith, le-leb, lt-leb}
 use Rattle.mem.proofs.Prelude.{le-ltb, lt-ltb, T, eqb, leb, lit≤, ltb, length, drop, get_or, get_or-drop}
 use native.Mathlib.Nat.{lt_of_lt_of_le, pow-le-pow_right}
 use lib.ListN.{length-take}
@@ -17,11 +17,9 @@ use Rattle.records.specs.Records.{has, masks_in, slot_in, slots_here}
 use Rattle.rows.specs.declared.Looked.{Looked}
 use Rattle.rows.specs.declared.Looked.TheVariants.{Absent}
 use Rattle.search.specs.Found.{disp_small, slot_looked, group_looked}
-use Rattle.search.proofs.look_group.Statement.{statement}
-use Rattle.search.proofs.look_group.Tie as tie
+use Rattle.search.proofs.look_group.Goals as goal
 
 -- ---- the displacement is two bytes of the room
-
 two_bytes : (l : List ℕ) → T (every (λ b. ltb b 256) l) → number (part 2 2 l) < 65536
 two_bytes l t =
     let h : length (part 2 2 l) ≤ 2 = omega (arith, length-take 2 (drop 2 l)) in
@@ -43,7 +41,6 @@ small m j p t h =
     (view-small (has j m.ready) (has j m.waiting) q (every-part (λ b. ltb b 256) (16 + 8 * j) 8 (drop p t) b))
 
 -- ---- the slot that the distance from the group's first byte leads to, u being its units
-
 module _ (first c inside u : ℕ) (s : List ℕ) where
   low : inside < 16 → Absent ≡ group_looked first c inside (slots_here s)
   unfolding group_looked
@@ -64,37 +61,32 @@ module _ (first c inside u : ℕ) (s : List ℕ) where
       ∙ choose-false (leb (slots_of c) ((inside - 16) / slot_bytes c)) _ _ (lt-leb (slots_of c) ((inside - 16) / slot_bytes c) (rw (← e) l))
       ∙ rw (← e, ← f, ← g, k))
 
-returns : tie.Need-returns
+pub returns-then-inside-lt16 : goal.returns-then-inside-lt16
+returns-then-inside-lt16 c =
+    let a = c.args in
+    low a.first a.c a.inside 0 (drop (row_at a.first) a.room.now) c.if-inside-lt16.true
+
+pub returns-then-slots-i : goal.returns-then-slots-i
+returns-then-slots-i c =
+    let u = c.units-bytes in
+    let a = c.args in
+    high a.first a.c a.inside u.result (drop (row_at a.first) a.room.now) u.ensures.value c.if-inside-lt16.false
+    (rw (← c.slots.ensures.value) c.if-slots-i.true)
+
+pub look_slot-requires : goal.look_slot-requires
+look_slot-requires c =
+    let a = c.args in
+    rw c.slot_at-x.ensures (small c.masks_at-m.result _ (row_at a.first) a.room.now
+    (λ i. (c.shared_slice_known-1.given i).fits))
+
+pub returns : goal.returns
 returns c =
-    let a = c.before.before.args in
-    low a.first a.c a.inside 0 (drop (row_at a.first) (now a.room)) c.if1.true
-
-returns-2 : tie.Need-returns-2
-returns-2 c =
-    let u = c.before.before.units in
-    let a = c.before.before.before.before.before.args in
-    high a.first a.c a.inside u.result (drop (row_at a.first) (now a.room)) u.ensures.0 c.before.before.before.if1.false
-    (rw (← c.before.slots.ensures.0) c.if2.true)
-
-look-slot-requires : tie.Need-look-slot-requires
-look-slot-requires c κs =
-    let a = c.before.before.before.before.before.before.before.args in
-    rw c.slot_at.ensures (small c.before.masks-at.result _ (row_at a.first) (now a.room)
-    (λ i. (c.before.before.before.before.before.before.shared-slice-known.given i).fits))
-
-returns-3 : tie.Need-returns-3
-returns-3 c =
-    let u = c.before.before.before.before.before.units in
-    let a = c.before.before.before.before.before.before.before.before.args in
-    let m = c.before.before.masks-at in
-    let x = c.before.slot_at in
-    let r = c.look-slot in
-    slot a.first a.c a.inside u.result (drop (row_at a.first) (now a.room)) m.result x.result r.result m.ensures x.ensures
+    let u = c.units-bytes in
+    let a = c.args in
+    let m = c.masks_at-m in
+    let x = c.slot_at-x in
+    let r = c.look_slot in
+    slot a.first a.c a.inside u.result (drop (row_at a.first) a.room.now) m.result x.result r.result m.ensures x.ensures
     r.ensures
-    u.ensures.0 c.before.before.before.before.before.before.if1.false
-    (rw (← c.before.before.before.before.slots.ensures.0) c.before.before.before.if2.false)
-
-pub look_group_spec : {M : Type 1} → statement M
-look_group_spec =
-    tie.close (tie.spec returns (λ c κs. search needs) (λ c. search needs) (λ c. search needs) (λ c κs. search needs) returns-2 (λ c κs. search needs)
-    (λ c. search needs) (λ c κs. search needs) (λ c. search needs) look-slot-requires returns-3)
+    u.ensures.value c.if-inside-lt16.false
+    (rw (← c.slots.ensures.value) c.if-slots-i.false)

@@ -1,5 +1,5 @@
 -- `make_group` meets its contract.
-use Rattle.mem.proofs.Prelude.{◌∙◌, ◌≡◌, sym, ap, refl, List, [], ◌++◌, map, ◌+◌, ℕ, ◌≤◌, ◌*◌, ◌-◌, suc, zero, ◌^◌, pow-suc, arith, now, needs, lit≤}
+use Rattle.mem.proofs.Prelude.{◌∙◌, ◌≡◌, sym, ap, refl, List, [], ◌++◌, map, ◌+◌, ℕ, ◌≤◌, ◌*◌, ◌-◌, suc, zero, ◌^◌, pow-suc, arith, lit≤}
 use Rattle.mem.proofs.Prelude.{length, replicate, length-replicate}
 use lib.Pow.{pow_pos}
 use Rattle.mem.specs.Lists.{join}
@@ -12,8 +12,7 @@ use Rattle.model.specs.declared.Holder.{Holder}
 use Rattle.model.specs.State.{group, is_ready, is_waiting}
 use Rattle.model.specs.Tables.{row_at, slot_record, row_record, later_records, span_records, span_records_by}
 use Rattle.model.proofs.Tables.{row_length}
-use Rattle.records.proofs.make_group.Statement.{statement}
-use Rattle.records.proofs.make_group.Tie as tie
+use Rattle.records.proofs.make_group.Goals as goal
 
 -- n slots that were never granted
 fresh_ready : (n : ℕ) → mask (map is_ready (replicate n Slot.Fresh)) ≡ 2 ^ n - 1
@@ -59,35 +58,21 @@ made row i c n b p k v s s₁ s₂ s₃ e₁ en eb ev ep e₂ ek e₃ =
     ∙ ap (λ r. put (row_at i) r s) (first c (slots_of c) (slots_small c))) in
     rw (e₃, h, ek, f) (sym (put-append (row_at i) (row_record (Holder.First c) ss) (later_records (rows_of row c - 1) 1) s))
 
-write-row-requires : tie.Need-write-row-requires
-write-row-requires c κs =
-    let a = c.before.before.args in (omega (arith, rows_pos a.row a.c (omega arith)), omega (arith, rows_pos a.row a.c (omega arith)))
+pub write_row-requires : goal.write_row-requires
+write_row-requires c =
+    let a = c.args in (omega (arith, rows_pos a.row a.c (omega arith)), omega (arith, rows_pos a.row a.c (omega arith)))
 
-sub-ready : tie.Need-overflow-sub-t15
-sub-ready c = omega (arith, c.bit-of.ensures, pow_pos c.before.slots.result)
+pub overflow_sub-bit_of : goal.overflow_sub-bit_of
+overflow_sub-bit_of c = omega (arith, c.bit_of.ensures, pow_pos c.slots.result)
 
-copy-in-requires : tie.Need-copy-in-requires
-copy-in-requires c κs =
-    let a = c.before.before.before.before.before.before.before.before.before.before.before.args in
+pub copy_in-requires : goal.copy_in-requires
+copy_in-requires c =
+    let a = c.args in
     omega (arith, rows_pos a.row a.c (omega arith))
 
-returns : tie.Need-returns
+pub returns : goal.returns
 returns c =
-    let d = c.before.before in
-    let e = d.before in
-    let f = e.before.before.before.before in
-    let g = f.before.before in
-    let h = g.before.before in
-    let k = h.before in
-    let l = k.before in
-    let m = l.before.before.before in
-    let a = m.before.before.before.args in
-    made a.row a.i a.c l.slots.result k.bit-of.result g.row_at.result e.rows.result h.mask-bytes.result (now a.room)
-    m.write-row.new.0 f.copy-in.new.0 d.write-later.new.0 m.write-row.ensures l.slots.ensures.0 k.bit-of.ensures
-    h.mask-bytes.ensures g.row_at.ensures f.copy-in.ensures e.rows.ensures.0 d.write-later.ensures
-
-pub make_group_spec : {M : Type 1} → statement M
-make_group_spec =
-    tie.close (tie.spec (λ c. search needs) write-row-requires (λ c κs. search needs) (λ c. search needs) (λ c κs. search needs) sub-ready
-    (λ c κs. search needs) (λ c κs. search needs) (λ c. search needs) (λ c. search needs) copy-in-requires (λ c κs. search needs) (λ c κs. search needs)
-    (λ c. search needs) returns)
+    let a = c.args in
+    made a.row a.i a.c c.slots.result c.bit_of.result c.row_at.result c.rows.result c.mask_bytes-sets.result a.room.now
+    c.write_row.new.room c.copy_in.new.s c.write_later.new.room c.write_row.ensures c.slots.ensures.value c.bit_of.ensures
+    c.mask_bytes-sets.ensures c.row_at.ensures c.copy_in.ensures c.rows.ensures.value c.write_later.ensures
