@@ -1,4 +1,6 @@
 // Changes of one group in tables by masks: take a slot, give one back, change a live one's size.
+#![tactic(auto)]
+
 ghost use Rattle.std.specs.Prelude.{◌≡◌, ℕ, ◌+◌, ◌≤◌};
 ghost use Rattle.mem.specs.Lists.{any};
 ghost use Rattle.classes.specs.Classes.{Lawful, slot_bytes};

@@ -1,5 +1,7 @@
 // What the calls do with a block, over arena and tables: locate it, give it back, resize it in place, move it; a slot is reserved in `reserving`. What changes
 // the tables takes the totals of those that are lent, and gives the totals of those that it leaves.
+#![tactic(auto)]
+
 ghost use Rattle.std.specs.Prelude.{◌≡◌, true, length};
 ghost use Rattle.classes.specs.Classes.{Lawful};
 ghost use Rattle.classes.specs.Alignments.{Askable};

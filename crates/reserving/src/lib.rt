@@ -1,5 +1,7 @@
 // Reserves a slot: in the group that serves, or in a new one at a run of free rows. What changes the tables takes the totals of those that are
 // lent, and gives the totals of those that it leaves.
+#![tactic(auto)]
+
 ghost use Rattle.std.specs.Prelude.{◌≡◌, true, ◌<◌};
 ghost use Rattle.classes.specs.Classes.{Lawful, class_of};
 ghost use Rattle.classes.specs.Alignments.{enlarged, Askable};
