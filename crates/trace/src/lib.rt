@@ -1,4 +1,6 @@
 // The reader of a field trace (02 §2): what stands at a place of the caller's bytes, none of which is copied.
+#![tactic(auto)]
+
 ghost use Rattle.std.specs.Prelude.{◌≡◌, true, ◌+◌, ◌≤◌, length, get_or};
 ghost use Rattle.trace.specs.Trace.{op_at, record_at, step_at, trace_right};
 ghost use Rattle.trace.specs.Trace.{fits as Trace·fits};
