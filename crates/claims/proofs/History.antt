@@ -446,7 +446,9 @@ module _ (row : ℕ) (pos : 0 < row) (F : Form) (L : FormLaws row F) (n : ℕ) w
   calls_kept : (l : Ledger) (t : F.Kept) (cs : List Asked) → Kept l t → Kept (books_after row F l t cs).ledger (books_after row F l t cs).kept
   unfolding books_after
   calls_kept l t [] k = k
-  calls_kept l t (c ∷ cs) k = calls_kept _ (call_by row F c.arena t c.asks).kept cs (call_kept l c.arena t k c.asks)
+  calls_kept l t (c ∷ cs) k =
+      let r = call_by row F c.arena t c.asks in
+      calls_kept (booked l c.asks r.answer) r.kept cs (call_kept l c.arena t k c.asks)
 
   -- what report gives over an arena of n bytes
   kept_told : (b : List ℕ) → length b ≡ n → (l : Ledger) (t : F.Kept) → Kept l t → ReportTells row F b (record { ledger = l; kept = t }) n

@@ -16,7 +16,7 @@ use Rattle.model.specs.Blocks.{reserved, header, guard, first_spare, spare, head
 use Rattle.model.specs.Plans.{Plan, Call, grants_aligned, releases, resizes_in_place, moves, plan, lookup, new_size, on_handle, on_handle_for, release_at, release}
 use Rattle.model.specs.Plans.{discard, fits_in_place, resize_at, move_to, move_at, in_place_at, resize_in_place, move, refused_on}
 use Rattle.model.specs.Plans.{reserve, grant_at, grant_as, grant_aligned, enframe}
-use Rattle.model.specs.Tables.{view, arena_right}
+use Rattle.model.specs.Tables.{arena_right}
 use Rattle.model.specs.Calls.{Form, FormLaws, Stands, Outcome, applied, written, damaged, carried_by, call_by}
 use Rattle.model.proofs.Fresh.{whole_units}
 use Rattle.model.proofs.Blocks.{header-length, guard-fits, spare-length, spare_guarded, spare_bare, spare-first, frame-length}

@@ -29,7 +29,7 @@ use Rattle.model.proofs.Lookup.{Fits, fits, disp_inside, place_unique}
 use Rattle.model.proofs.Reserve.{plain, Served, served, reserve_formed, refill-sound, reserve-size}
 use Rattle.model.proofs.Formed.{on_block_lem, become-fits, vacant-sound}
 use Rattle.claims.specs.Demand1.{LiveAt}
-use Rattle.claims.specs.Demand3.{Gains, gains_grant, gains_aligned, gains_in_place, gains_move, gains_list, given, Cleared}
+use Rattle.claims.specs.Demand3.{Gains, gains_grant, gains_aligned, gains_in_place, gains_move, gains_list, Cleared}
 use Rattle.model.proofs.Handles.{start_cleared}
 use Rattle.claims.proofs.Cases.{release_parts, Named, on_named, on_grant, on_aligned, on_in_place, on_move, reserve-live, taken-same, refuses}
 use Rattle.claims.proofs.Gathers.{framed, list_clears}

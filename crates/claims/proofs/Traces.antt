@@ -132,7 +132,7 @@ module _ (row : ℕ) (pos : 0 < row) (n : ℕ) (h : T (arena_right row n)) where
   lines P a t i (does x ∷ xs) r s =
       ⊎_elim (λ g.
       let f : Follows row n (performed row a t x) (model_step row n P x) = acted P a t r x (s g).0 in
-      ap₂ (line_then i) f.tells (lines _ _ _ (suc i) xs f.holds (s g).1))
+      ap₂ (line_then i) f.tells (lines (model_step row n P x).pool _ _ (suc i) xs f.holds (s g).1))
       (λ e. let (p, q) = e P a t r.long in ended i _ _ _ _ p q) (on_or_ends x)
 
 -- ---- records without the bytes that they store
