@@ -1,5 +1,7 @@
 // The calls for gather lists (02 §3), over a lent arena, a lent table room and the totals in the record beside it, by value: the check of a proposal,
 // the planner, and the grant of a whole list. Each promises one thing, for any bytes, totals, sizes and lists.
+#![tactic(auto)]
+
 ghost use Rattle.std.specs.Prelude.{◌≡◌, length};
 ghost use Rattle.classes.specs.Classes.{row_bytes};
 ghost use Rattle.model.specs.Answers.{reply_answer};

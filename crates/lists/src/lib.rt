@@ -1,4 +1,6 @@
 // The grants of a list that fits, one after the other.
+#![tactic(auto)]
+
 ghost use Rattle.std.specs.Prelude.{◌≡◌, true, map, ◌≤◌, ◌<◌, eqb, ltb, length};
 ghost use Rattle.mem.specs.Lists.{choose, every, is_some};
 ghost use Rattle.mem.specs.Bytes.{put};

@@ -1,12 +1,10 @@
 -- What is reserved, as a place.
 use Rattle.mem.proofs.Prelude.{◌≡◌, refl, some, none, Option, ℕ, arith}
-use Rattle.model.specs.declared.Refusal.TheVariants as refusals
 use Rattle.model.specs.declared.Totals.{Totals}
 use Rattle.model.specs.State.{Place, pool_of}
 use Rattle.model.specs.Plans.{totals}
 use Rattle.rows.specs.declared.Block.{Block}
 use Rattle.rows.specs.Rows.{block_of}
-use Rattle.frames.proofs.Moves as frames
 use Rattle.reserving.specs.declared.Reserved.TheVariants.{Taken, NoRoom}
 use Rattle.reserving.specs.Reserves.{reserved_as}
 

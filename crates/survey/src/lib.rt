@@ -1,5 +1,7 @@
 // Whether sizes can all be granted, one after the other, found without a change of the tables: by the slots of each class that are
 // not live, and the rows that are free.
+#![tactic(auto)]
+
 ghost use Rattle.std.specs.Prelude.{◌≡◌, true, [], ◌∷◌, ◌++◌, ℕ, ◌/◌, ltb};
 ghost use Rattle.mem.specs.Lists.{every, is_some};
 ghost use Rattle.mem.specs.Bytes.{zeros};

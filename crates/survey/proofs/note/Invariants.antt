@@ -1,0 +1,14 @@
+-- `note` meets its contract. The invariant: counts and map tell what the spans passed have.
+use Rattle.mem.proofs.Prelude.{◌∙◌, sym, ap, ◌-◌, ◌/◌, arith, rules, length}
+use Rattle.mem.proofs.Laws.{zeros-length}
+use Rattle.model.specs.Tables.{masks_layout}
+use Rattle.rows.specs.Rows.{Lent}
+use Rattle.rows.proofs.Rooms.{by_masks}
+use Rattle.serving.proofs.Notes.{Passed, Further, begin, ahead, further, end, whole_map}
+use Rattle.survey.proofs.note.Given as goal
+
+abbrev pub invariant-loop-i : goal.invariant-loop-i
+invariant-loop-i l = Passed masks_layout l.row l.len l.room l.i l.spare l.gaps
+
+abbrev pub decreases-loop-i : goal.decreases-loop-i
+decreases-loop-i l = l.n - l.i
