@@ -1,6 +1,8 @@
 // The second engine, 02 §8: "with a plain record per slot, walked one by one, without masks or stored totals". Here: that record, read and written.
 // It has eight bytes: the slot's condition, its use count, the displacement in two bytes, the requested size in three, 0.
 // In each crate a function stands above those that it calls. Read next: plain_rules.
+#![tactic(auto)]
+
 ghost use Rattle.std.specs.Prelude.{◌≡◌, ◌+◌, ◌*◌, ◌≤◌, ◌<◌, length, drop};
 ghost use Rattle.mem.specs.Lists.{choose};
 ghost use Rattle.model.specs.Tables.{row_at, row_record_bytes, slots_at, slot_record_bytes, most_slots, most_rows};

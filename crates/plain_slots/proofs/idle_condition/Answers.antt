@@ -1,0 +1,11 @@
+-- `idle_condition` meets its contract.
+use Rattle.mem.specs.Lists.{choose}
+use Rattle.plain_slots.proofs.idle_condition.Goals as goal
+
+pub returns-then-ready : goal.returns-then-ready
+unfolding choose
+returns-then-ready c = rw c.if-ready.true
+
+pub returns : goal.returns
+unfolding choose
+returns c = rw c.if-ready.false
