@@ -1,4 +1,6 @@
 // Whether the record of a slot is sound, rule by rule: each rule is one test. Read next: plain_sound.
+#![tactic(auto)]
+
 ghost use Rattle.std.specs.Prelude.{◌≡◌, ◌&&◌, ◌+◌, ◌*◌, ◌≤◌, ◌<◌, length, drop};
 ghost use Rattle.mem.specs.Lists.{starts};
 ghost use Rattle.classes.specs.Classes.{size_limit, own_class};
