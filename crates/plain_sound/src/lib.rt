@@ -1,5 +1,7 @@
 // Whether the bytes of a room are sound tables, and what they count. The room is walked once, row by row and slot by slot.
 // Read next: plain_tables.
+#![tactic(auto)]
+
 ghost use Rattle.std.specs.Prelude.{◌≡◌, ◌+◌, ◌*◌, ◌≤◌, ◌<◌, length, drop};
 ghost use Rattle.classes.specs.Classes.{Lawful, slots_of};
 ghost use Rattle.model.specs.declared.Slot.TheVariants.{Idle};
