@@ -1,5 +1,7 @@
 // Searches in sound plain tables: a group that can serve a class, and the block at an offset. Groups and slots are walked one by one.
 // Read next: plain_changes.
+#![tactic(auto)]
+
 ghost use Rattle.std.specs.Prelude.{◌≡◌, true, [], ◌+◌, ◌*◌, ◌≤◌, ◌<◌, length, drop};
 ghost use Rattle.mem.specs.Bytes.{bit};
 ghost use Rattle.classes.specs.Classes.{Lawful};
