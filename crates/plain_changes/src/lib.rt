@@ -1,5 +1,7 @@
 // Changes of one group of plain tables: take a slot, make a group, give a slot back, change a live one's size.
 // Read next: plain_survey.
+#![tactic(auto)]
+
 ghost use Rattle.std.specs.Prelude.{◌≡◌, ◌∷◌, ◌++◌, ℕ, ◌+◌, ◌≤◌, ◌<◌, length, drop, replicate};
 ghost use Rattle.mem.specs.Lists.{any, first};
 ghost use Rattle.mem.specs.Bytes.{put};

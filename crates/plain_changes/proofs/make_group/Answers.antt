@@ -1,6 +1,6 @@
 -- `make_group` meets its contract: the record of a slot that was never granted is all zeros.
 use Rattle.mem.proofs.Prelude.{◌∙◌, ◌≡◌, sym, ap, refl, List, [], ◌++◌, ◌+◌, ℕ, ◌≤◌, ◌*◌, ◌-◌, suc, zero}
-use Rattle.mem.proofs.Prelude.{arith, now, needs, length, replicate, length-replicate}
+use Rattle.mem.proofs.Prelude.{arith, length, replicate, length-replicate}
 use Rattle.mem.specs.Lists.{join}
 use Rattle.mem.specs.Bytes.{zeros, put}
 use Rattle.mem.proofs.Laws.{zeros-add, put-append}
@@ -14,8 +14,7 @@ use Rattle.model.specs.Tables.{row_at, row_record, holder_bytes, later_records, 
 use Rattle.model.specs.Plain.{plain_record, plain_row, slots_layout}
 use Rattle.model.proofs.Plain.{slots_laws}
 use Rattle.rows.proofs.Checks.{row_form}
-use Rattle.plain_changes.proofs.make_group.Statement.{statement}
-use Rattle.plain_changes.proofs.make_group.Tie as tie
+use Rattle.plain_changes.proofs.make_group.Goals as goal
 
 fresh_records : (n : ℕ) → join plain_record (replicate n Fresh) ≡ zeros (8 * n)
 unfolding plain_record zeros
@@ -45,18 +44,12 @@ made row i c k s s₁ s₂ e₁ ek e₂ =
     let f : row_at (i + 1) ≡ row_at i + length (plain_row c ss) = omega (arith, slots_laws.long c ss (omega (arith, slots_small c))) in
     rw (e₂, e₁, ek, f, ← first c (slots_of c) (slots_small c)) (sym (put-append (row_at i) (plain_row c ss) (later_records (rows_of row c - 1) 1) s))
 
-write-row-requires : tie.Need-write-row-requires
-write-row-requires c κs =
-    let a = c.before.before.args in (omega (arith, rows_pos a.row a.c (omega arith)), omega (arith, rows_pos a.row a.c (omega arith)))
+pub write_row-requires : goal.write_row-requires
+write_row-requires c =
+    let a = c.args in (omega (arith, rows_pos a.row a.c (omega arith)), omega (arith, rows_pos a.row a.c (omega arith)))
 
-returns : tie.Need-returns
+pub returns : goal.returns
 returns c =
-    let d = c.before.before in
-    let w = d.before.before.before.before.before in
-    let a = w.before.before.before.args in
-    made a.row a.i a.c d.before.rows.result (now a.room) w.write-row.new.0 d.write-later.new.0 w.write-row.ensures
-    d.before.rows.ensures.0 d.write-later.ensures
-
-pub make_group_spec : {M : Type 1} → statement M
-make_group_spec =
-    tie.close (tie.spec (λ c. search needs) write-row-requires (λ c κs. search needs) (λ c κs. search needs) (λ c. search needs) returns)
+    let a = c.args in
+    made a.row a.i a.c c.rows.result a.room.now c.write_row.new.room c.write_later.new.room c.write_row.ensures
+    c.rows.ensures.value c.write_later.ensures
