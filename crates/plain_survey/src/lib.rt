@@ -1,4 +1,6 @@
 // Whether all of a list fits, found without a change of the tables. Read next: plain_ops.
+#![tactic(auto)]
+
 ghost use Rattle.std.specs.Prelude.{◌≡◌, true, [], ◌∷◌, ◌++◌, ℕ, ◌/◌, ltb};
 ghost use Rattle.mem.specs.Lists.{every, is_some};
 ghost use Rattle.mem.specs.Bytes.{zeros};

@@ -1,0 +1,42 @@
+-- `fits` meets its contract.
+use Rattle.mem.proofs.Prelude.{◌≡◌, refl, ◌/◌, ◌≤◌, arith, length, length-append}
+use Rattle.mem.specs.Bytes.{zeros}
+use Rattle.model.specs.Tables.{view_by}
+use Rattle.model.specs.Plain.{slots_layout}
+use Rattle.rows.specs.Rows.{Lent}
+use Rattle.rows.proofs.Rooms.{row_count, few_rows}
+use Rattle.plain_tables.proofs.Opens.{by_slots}
+use Rattle.serving.proofs.Notes.{whole_map, zeros-front, told-front}
+use Rattle.plain_survey.proofs.fits.Goals as goal
+use Rattle.plain_survey.proofs.fits.Goals.{After-note, Start}
+
+-- the room as its laws take it
+lent : (s : Start) → Lent slots_layout s.args.row s.args.len s.args.room.now
+lent s = by_slots s.requires.room_value s.requires.lawful
+
+few : (s : Start) → s.args.len / s.args.row ≤ 512
+few s = omega (arith, row_count (lent s), few_rows (lent s))
+
+pub slice_bounds-gaps-end : goal.slice_bounds-gaps-end
+slice_bounds-gaps-end c = omega (arith, few (goal.at.slice_bounds-gaps-end c).Start)
+
+pub note-requires : goal.note-requires
+unfolding zeros
+note-requires c =
+    record { room_value = c.requires.room_value; spare_value = (refl, zeros-front (c.args.len / c.args.row) 512 (few (goal.at.note-requires c).Start)); lawful = c.requires.lawful }
+
+-- the map after the walk
+noted_length : (c : After-note)
+    → let a = c.args in length c.note.new.gaps ≡ a.len / a.row
+noted_length c = whole_map (lent (goal.at.After-note c).Start) c.note.ensures
+
+pub slice_bounds-gaps-end-2 : goal.slice_bounds-gaps-end-2
+slice_bounds-gaps-end-2 c = simp length-append (omega (arith, noted_length (goal.at.slice_bounds-gaps-end-2 c).After-note))
+
+pub serve_all-requires : goal.serve_all-requires
+serve_all-requires c =
+    record { notes_of = (view_by slots_layout c.args.row c.args.room.now, told-front _ _ (noted_length (goal.at.serve_all-requires c).After-note) c.note.ensures); sizes_value = c.requires.sizes_value; lawful = c.requires.lawful }
+
+pub returns : goal.returns
+returns c =
+    c.serve_all.ensures (view_by slots_layout c.args.row c.args.room.now) (told-front _ _ (noted_length (goal.at.returns c).After-note) c.note.ensures)

@@ -1,0 +1,11 @@
+-- `note` meets its contract. The invariant: counts and map tell what the spans passed have.
+use Rattle.mem.proofs.Prelude.{◌-◌}
+use Rattle.model.specs.Plain.{slots_layout}
+use Rattle.serving.proofs.Notes.{Passed}
+use Rattle.plain_survey.proofs.note.Given as goal
+
+abbrev pub invariant-loop-i : goal.invariant-loop-i
+invariant-loop-i l = Passed slots_layout l.row l.len l.room l.i l.spare l.gaps
+
+abbrev pub decreases-loop-i : goal.decreases-loop-i
+decreases-loop-i l = l.n - l.i
