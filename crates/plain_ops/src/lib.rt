@@ -1,5 +1,7 @@
 // What the calls do with a block, over arena and plain tables: reserve a slot, locate a block, give it back, resize it in place, move it; then, in
 // list.rt, the grants of a list. What reads no table of either engine, as header and guard of a block, is in frames and blocks. Read next: plain.
+#![tactic(auto)]
+
 mod list;
 
 ghost use Rattle.std.specs.Prelude.{◌≡◌, true, ◌<◌, length};

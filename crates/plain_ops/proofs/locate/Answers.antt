@@ -1,0 +1,25 @@
+-- What the search finds, as it is judged, is what is located.
+use Rattle.mem.proofs.Prelude.{◌∙◌, sym, ap, subst, length}
+use Rattle.model.specs.Plans.{lookup}
+use Rattle.model.specs.Tables.{view_by}
+use Rattle.model.specs.Plain.{slots_layout}
+use Rattle.frames.specs.Blocks.{Lies, judged, located}
+use Rattle.frames.proofs.Places.{found_lies, judged-looked}
+use Rattle.plain_tables.proofs.Opens.{by_slots}
+use Rattle.plain_ops.proofs.locate.Goals as goal
+
+pub judge-requires : goal.judge-requires
+judge-requires c =
+    let a = c.args in record {
+      lies = subst (Lies a.row (length a.arena.now)) (sym c.find_block.ensures)
+          (found_lies (by_slots c.requires.room_value c.requires.lawful) c.start_in.result);
+      lawful = c.requires.lawful;
+    }
+
+pub returns : goal.returns
+returns c =
+    let a = c.args in
+    c.judge.ensures ∙ ap (judged a.row a.arena.now a.handle) c.find_block.ensures
+    ∙ judged-looked a.row a.arena.now a.handle (lookup a.row (view_by slots_layout a.row a.room.now) c.start_in.result)
+    ∙ ap (λ o. located a.row a.arena.now a.handle (lookup a.row (view_by slots_layout a.row a.room.now) o))
+    c.start_in.ensures

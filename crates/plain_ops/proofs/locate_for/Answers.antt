@@ -1,0 +1,24 @@
+-- What the search finds, as it is judged for a size, is what is located for it.
+use Rattle.mem.proofs.Prelude.{◌∙◌, sym, ap, subst}
+use Rattle.model.specs.Plans.{lookup}
+use Rattle.model.specs.Tables.{view_by}
+use Rattle.model.specs.Plain.{slots_layout}
+use Rattle.frames.specs.Blocks.{judged_for, located_for}
+use Rattle.frames.proofs.Places.{Known, found_known, judged_for-looked}
+use Rattle.plain_tables.proofs.Opens.{by_slots}
+use Rattle.plain_ops.proofs.locate_for.Goals as goal
+
+pub judge_for-requires : goal.judge_for-requires
+judge_for-requires c =
+    let r = by_slots c.requires.room_value c.requires.lawful in
+    let k = subst (Known r c.start_in.result) (sym c.find_block.ensures) (found_known r c.start_in.result) in
+    record { lies = k.lies; found_bound = k.last_code; lawful = c.requires.lawful }
+
+pub returns : goal.returns
+returns c =
+    let a = c.args in
+    c.judge_for.ensures ∙ ap (judged_for a.row a.arena.now a.handle a.n) c.find_block.ensures
+    ∙ judged_for-looked a.row a.arena.now a.handle a.n
+    (lookup a.row (view_by slots_layout a.row a.room.now) c.start_in.result)
+    ∙ ap (λ o. located_for a.row a.arena.now a.handle a.n (lookup a.row (view_by slots_layout a.row a.room.now) o))
+    c.start_in.ensures

@@ -1,0 +1,61 @@
+-- Where the block can stay in its slot, the frame is written anew, and the slot's record.
+use Rattle.mem.proofs.Prelude.{◌∙◌, ◌≡◌, sym, ap, true, [], ◌∷◌, arith, length}
+use Rattle.model.specs.declared.Refusal.TheVariants.{NotInPlace}
+use Rattle.model.specs.State.{pool_of}
+use Rattle.model.specs.Answers.{done}
+use Rattle.model.specs.Plans.{resize_at}
+use Rattle.model.specs.Tables.{encode_by}
+use Rattle.model.specs.Plain.{slots_layout}
+use Rattle.rows.specs.Rows.{handle_at}
+use Rattle.frames.specs.Blocks.{Standing, stays_in}
+use Rattle.frames.proofs.Places.{held_stands}
+use Rattle.frames.proofs.Plans.{stays_fits, in_place-writes, in_place_pool, stays_plan, refused-plan, refused_on_lem}
+use Rattle.plain_tables.proofs.Opens.{by_slots}
+use Rattle.plain_ops.proofs.resize_in_place.Goals as goal
+use Rattle.plain_ops.proofs.resize_in_place.Goals.{Else-not-stays_in, Start}
+
+stands : (s : Start) → Standing s.args.row (length s.args.arena.now) s.args.b
+stands s = held_stands (by_slots s.requires.room_value s.requires.lawful) s.requires.holds.1
+
+-- the block can stay
+stayed : (c : Else-not-stays_in) → (let a = c.args in stays_in a.b a.n ≡ true)
+stayed c = sym c.stays_in.ensures ∙ c.if-not-stays_in.false
+
+pub stays_in-requires : goal.stays_in-requires
+stays_in-requires c = let h = stands (goal.at.stays_in-requires c).Start in record { class_bound = (h.class, omega (arith, h.bytes)); askable = c.requires.askable }
+
+pub returns-then-not-stays_in : goal.returns-then-not-stays_in
+returns-then-not-stays_in c p h =
+    let a = c.args in
+    rw (refused-plan h (pool_of p) a.n (sym c.stays_in.ensures ∙ c.if-not-stays_in.true)) (refused_on_lem h a.arena.now NotInPlace)
+
+pub owned_of-requires : goal.owned_of-requires
+owned_of-requires c =
+    let h = stands (goal.at.owned_of-requires c).Start in
+    record { class_bound = (h.class, h.slot, omega (arith, h.few)); lawful = c.requires.lawful }
+
+pub reframe_at-requires : goal.reframe_at-requires
+reframe_at-requires c =
+    let h = stands (goal.at.reframe_at-requires c).Start in record { c_bound = (h.class, stays_fits c.args.b c.args.n (stayed (goal.at.reframe_at-requires c).Else-not-stays_in) (omega (arith, h.bytes))); i_bound = (omega (arith, h.slot), omega (arith, h.owned, c.owned_of.ensures.value)); kept_le_n = omega (arith, c.lesser-kept.ensures) }
+
+pub resize_slot-requires : goal.resize_slot-requires
+resize_slot-requires c =
+    (c.args.row, c.requires.holds.0, c.requires.holds.1)
+
+pub handle_of-requires : goal.handle_of-requires
+handle_of-requires c =
+    let h = stands (goal.at.handle_of-requires c).Start in
+    record { class_bound = (h.class, h.slot, omega (arith, h.few)); disp_bound = omega (arith, h.bytes); lawful = c.requires.lawful }
+
+pub returns : goal.returns
+unfolding resize_at
+returns c p h =
+    let w = c.resize_slot in
+    let kept = c.lesser-kept in
+    let a = c.args in
+    rw (stays_plan h (pool_of p) a.n (stayed (goal.at.returns c).Else-not-stays_in)) (record {
+      answer = ap (λ v. done (v ∷ [])) (c.handle_of.ensures ∙ ap (handle_at a.row) h.block);
+      arena = in_place-writes h a.arena.now a.n c.owned_of.result kept.result c.reframe_at.new.arena c.owned_of.ensures.value
+          kept.ensures c.reframe_at.ensures;
+      kept = w.ensures a.row p h ∙ ap (encode_by slots_layout a.row) (in_place_pool a.row p a.n);
+    })
