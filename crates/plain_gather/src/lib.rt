@@ -1,5 +1,7 @@
 // The plain pool's call for gather lists. One predicate says what it answers, writes to the lent list and leaves, for any bytes, sizes and lists: what
 // the model's call does on these bytes (plain_call, crates/model/specs/Plain.antt). The check of a proposal and the planner see no pool: they are `gather`'s.
+#![tactic(auto)]
+
 ghost use Rattle.std.specs.Prelude.{length};
 ghost use Rattle.classes.specs.Classes.{row_bytes};
 ghost use Rattle.model.specs.Answers.{reply_answer};

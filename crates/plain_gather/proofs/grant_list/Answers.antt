@@ -1,0 +1,61 @@
+-- Test by test, in the order of the answers; then all sizes are granted.
+use Rattle.mem.proofs.Prelude.{sym}
+use Rattle.classes.specs.Classes.{row_bytes}
+use Rattle.classes.proofs.Laws.{card_row}
+use Rattle.plain_ops.proofs.Calls.{Sound, checked, refusing}
+use Rattle.model.specs.declared.Refusal.TheVariants.{Unsound}
+use Rattle.model.specs.Proposals.{entries}
+use Rattle.model.specs.Plans.{grants_list}
+use Rattle.frames.proofs.Listed.{Proposal, proposal, passing, refused-list, not-plannable, few_places, not_accepted, not_fitting, granted-list}
+use Rattle.frames.proofs.Listed.{small-sizes, few_sizes}
+use Rattle.mem.proofs.Prelude.{ap, not}
+use Rattle.plain_gather.proofs.grant_list.Goals as goal
+use Rattle.plain_gather.proofs.grant_list.Goals.{Else-not-accepts, Else-not-sound}
+
+pub returns-then-not-sound : goal.returns-then-not-sound
+returns-then-not-sound c = refused-list Unsound _ (sym (refusing _ _ c.sound.ensures (grants_list _ _ _ _) tt (ap not c.if-not-sound.true)))
+
+-- the tables are sound
+lent : (c : Else-not-sound) → (let a = c.args in Sound a.arena.now a.room.now)
+lent c = checked _ _ c.sound.ensures (ap not c.if-not-sound.false)
+
+pub returns-then-not-plannable : goal.returns-then-not-plannable
+unfolding row_bytes
+returns-then-not-plannable c = not-plannable (lent (goal.at.returns-then-not-plannable c).Else-not-sound) _ _ _ _ c.plannable.ensures (ap not c.if-not-plannable.true)
+
+pub returns-then-handles-lt-ENTRIES : goal.returns-then-handles-lt-ENTRIES
+unfolding row_bytes entries
+returns-then-handles-lt-ENTRIES c = few_places (lent (goal.at.returns-then-handles-lt-ENTRIES c).Else-not-sound) _ _ _ _ c.if-handles-lt-ENTRIES.true
+
+pub returns-then-not-accepts : goal.returns-then-not-accepts
+unfolding row_bytes entries
+returns-then-not-accepts c =
+    not_accepted _ _ _ c.plannable.ensures (ap not c.if-not-plannable.false) c.if-handles-lt-ENTRIES.false (lent (goal.at.returns-then-not-accepts c).Else-not-sound)
+    _ c.accepts.ensures (ap not c.if-not-accepts.true)
+
+-- the list is short enough and has its places, and the proposal is accepted
+right : (c : Else-not-accepts) → (let a = c.args in
+    Proposal a.total a.cap a.handles.now a.sizes.now)
+unfolding entries
+right c = proposal _ _ _ c.plannable.ensures (ap not c.if-not-plannable.false) c.if-handles-lt-ENTRIES.false
+    c.accepts.ensures (ap not c.if-not-accepts.false)
+
+pub fits-requires : goal.fits-requires
+unfolding row_bytes
+fits-requires c = record { room_value = (lent (goal.at.fits-requires c).Else-not-sound).sound; sizes_value = small-sizes (right c); lawful = card_row }
+
+pub returns-then-not-fits : goal.returns-then-not-fits
+unfolding row_bytes
+returns-then-not-fits c =
+    not_fitting (lent (goal.at.returns-then-not-fits c).Else-not-sound) (right (goal.at.returns-then-not-fits c).Else-not-accepts) c.fits.ensures (ap not c.if-not-fits.true)
+
+pub grant_all-requires : goal.grant_all-requires
+unfolding row_bytes
+grant_all-requires c =
+    record { room_value = (lent (goal.at.grant_all-requires c).Else-not-sound).sound; sizes_value = (small-sizes (right (goal.at.grant_all-requires c).Else-not-accepts), few_sizes (right (goal.at.grant_all-requires c).Else-not-accepts)); sizes_value_2 = passing c.fits.ensures (ap not c.if-not-fits.false); lawful = card_row }
+
+pub returns : goal.returns
+unfolding row_bytes
+returns c =
+    let g = c.grant_all.ensures in
+    granted-list (lent (goal.at.returns c).Else-not-sound) (right (goal.at.returns c).Else-not-accepts) c.fits.ensures (ap not c.if-not-fits.false) g.handles_after g.arena_after g.room_after
