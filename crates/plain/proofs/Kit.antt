@@ -1,5 +1,5 @@
 -- What the proofs of the plain pool's calls share: names, the tables as the calls over any form take them, and what is counted.
-pub use Rattle.mem.proofs.Prelude.{◌∙◌, ◌≡◌, sym, ap, refl, subst, some, [], ◌∷◌, ◌<◌, now, needs, arith, lit≤, leb-true, leb-false, not-false, length}
+pub use Rattle.mem.proofs.Prelude.{◌∙◌, ◌≡◌, sym, ap, refl, subst, some, [], ◌∷◌, ◌<◌, rules, arith, lit≤, leb-true, leb-false, not-false, length}
 unfoldable pub use Rattle.classes.specs.Classes.{row_bytes, size_limit}
 pub use Rattle.classes.specs.Alignments.{enlarged, Askable}
 pub use Rattle.classes.proofs.Laws.{card_row, card_some}

@@ -1,5 +1,7 @@
 // The calls of the plain pool, over a lent arena and a lent table room. Each takes any bytes, handle and size, and one equation says what it answers
 // and leaves: what the model's call does on these bytes (plain_call, crates/model/specs/Plain.antt). Lists are plain_gather's. For C: slotpool_plain.
+#![tactic(auto)]
+
 ghost use Rattle.std.specs.Prelude.{◌≡◌, true, ◌≤◌, length};
 ghost use Rattle.classes.specs.Classes.{row_bytes};
 ghost use Rattle.model.specs.Answers.{reply_answer, report_answer};
