@@ -1,5 +1,7 @@
 // The second engine for C: include/slotpool_plain.h. Each function makes the call of plain with its name, and hands out the answer's number and values.
 // A slice is passed as a pointer and a length.
+#![tactic(auto)]
+
 ghost use Rattle.std.specs.Prelude.{◌≡◌, length};
 ghost use Rattle.classes.specs.Classes.{row_bytes};
 ghost use Rattle.model.specs.Plans.{sets_up, grants, grants_aligned, releases, resizes_in_place, moves, measures, reports, grants_list};

@@ -1,0 +1,7 @@
+-- `slotpool_plain_grant` meets its contract.
+use Rattle.model.specs.Answers.{reply_answer}
+use Rattle.answers.proofs.Gives.{gives}
+use Rattle.slotpool_plain.proofs.slotpool_plain_grant.Goals as goal
+
+pub returns : goal.returns
+returns c = let k = c.grant-r in gives (reply_answer k.result) c.number_of.ensures c.value_of.ensures k.ensures

@@ -1,0 +1,7 @@
+-- `slotpool_plain_release` meets its contract.
+use Rattle.model.specs.Answers.{reply_answer}
+use Rattle.answers.proofs.Gives.{leaves}
+use Rattle.slotpool_plain.proofs.slotpool_plain_release.Goals as goal
+
+pub returns : goal.returns
+returns c = let k = c.release in leaves (reply_answer k.result) c.number_of.ensures k.ensures
