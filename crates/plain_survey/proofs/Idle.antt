@@ -1,15 +1,12 @@
 -- The slots of a group that are not live: those that are not counted as live.
-use Rattle.mem.proofs.Prelude.{◌∙◌, ◌≡◌, ap, refl, inl, inr, not, List, [], ◌∷◌, ◌+◌, ◌-◌, ◌≤◌, ◌/◌, ℕ, arith, length, drop}
-use denote.Enum.Declared.{tag_of}
-use types.Run.{OneOf}
+use Rattle.mem.proofs.Prelude.{◌∙◌, ◌≡◌, ap, refl, not, List, [], ◌∷◌, ◌+◌, ◌-◌, ◌≤◌, ◌/◌, ℕ, arith, length, drop}
 use Rattle.mem.specs.Lists.{sum}
 use Rattle.mem.specs.Bytes.{bit}
 use Rattle.classes.specs.Classes.{slots_of}
 use Rattle.model.specs.declared.Slot.{Slot}
 use Rattle.model.specs.declared.Slot.TheVariants.{Fresh, Idle, Live}
 use Rattle.model.specs.declared.Holder.{Holder}
-use Rattle.model.specs.declared.Holder.TheVariants.{Free, First, Later}
-use Rattle.model.specs.contracts.Holder.{the_type}
+use Rattle.model.specs.declared.Holder.TheVariants.{First}
 use Rattle.model.specs.State.{Span, Pool, group, is_live}
 use Rattle.model.specs.Tables.{row_at, view_holder}
 use Rattle.model.specs.Plain.{plain_group, slots_layout}
@@ -29,12 +26,6 @@ idle_sum (Live a ∷ ss) = omega (arith, idle_sum ss)
 -- no more than the group has
 pub live_inside : (c : ℕ) (t : List ℕ) → live_in (plain_group c t) ≤ slots_of c
 live_inside c t = omega (arith, live_few (plain_group c t), group-length c t)
-
--- a row that is no first row is free or a later one
-pub no_slots : (h : Holder) → ((k : ℕ) → h ≡ First k → ⊥) → OneOf (0 ∷ 2 ∷ []) (tag_of the_type h)
-no_slots Free n = inl refl
-no_slots (First k) n = absurd (n k refl)
-no_slots (Later k) n = inr refl
 
 module _ {row len : ℕ} {t : List ℕ} {i : ℕ} {X : Pool} {s : Span} {Y : Pool} {spare gaps : List ℕ} (x : Next slots_layout row len t i X s Y)
     (n : Noted row (len / row) X spare gaps) (h : Holder) (e : h ≡ view_holder (drop (row_at i) t)) (k : ℕ) (g : h ≡ First k) where

@@ -1,12 +1,10 @@
 -- Soundness row by row, in any layout: a span that passes its test is one, and a room whose spans pass is sound.
-use Rattle.mem.proofs.Prelude.{◌∙◌, ◌≡◌, sym, ap, refl, ap₂, subst, true, Bool, false, ◌&&◌, and-false, ⊎_elim, List, [], ◌∷◌, ◌++◌, append_assoc}
+use Rattle.mem.proofs.Prelude.{◌∙◌, ◌≡◌, sym, ap, refl, ap₂, subst, true, Bool, false, ◌&&◌, and-false, List, [], ◌∷◌, ◌++◌, append_assoc}
 use Rattle.mem.proofs.Prelude.{◌+◌, ℕ, ◌<◌, ◌≤◌, ◌*◌, ◌-◌, suc, ◌/◌, ◌^◌, ◌%◌, add-zero, le-div_iff_mul-le, add-one, arith, eq-eqb, le-ltb, T, eqb}
 use Rattle.mem.proofs.Prelude.{lit≤, ltb, eqb→eq, leb→le, le→leb, length, drop, get_or, length-append, length-drop, take-append-drop, drop-drop}
 use Rattle.mem.proofs.Prelude.{get_or-drop, drop_at, eqb-true, eqb-false}
 use mathlib.Core.Path.{subst⁻¹}
 use native.Mathlib.Nat.{div-add-mod, div-eq_of_eq-mul_right, mul-one}
-use denote.Enum.Declared.{tag_of}
-use types.Run.{OneOf}
 use Rattle.mem.specs.Lists.{choose, join, starts}
 use Rattle.mem.specs.Bytes.{zeros, low, number, same, part}
 use Rattle.mem.proofs.Tests.{and_left, and_right, and_both, T_true, true-T, same_test, eq→eqb}
@@ -18,7 +16,6 @@ use Rattle.model.specs.declared.Slot.{Slot}
 use Rattle.model.specs.declared.Holder.{Holder}
 use Rattle.model.specs.declared.Holder.TheVariants.{Free, First, Later}
 use Rattle.model.specs.State.{Span, Pool, free, group, span_sound, well_formed, slots_aligned, aligned_from, aligned, rows, rows_in}
-use Rattle.model.specs.contracts.Holder.{the_type}
 use Rattle.model.specs.Tables.{Layout, LayoutLaws, row_at, holder_bytes, row_record, later_records, room_bytes, arena_right, view_holder, row_record_bytes}
 use Rattle.model.specs.Tables.{span_records_by, encode_by, view_rows_by, view_by, sound_by}
 use Rattle.model.proofs.Tables.{row_length, later_length, span_length, spans_length, encode-length, view_span, encode-sound, sound_facts}
@@ -38,17 +35,6 @@ row_form (Later k) = refl
 pub free_form : row_record Free [] ≡ zeros row_record_bytes
 unfolding row_record zeros
 free_form = refl
-
--- a holder that is no first row, or no later row, by its tag
-pub no_first : (h : Holder) (c : ℕ) → OneOf (0 ∷ 2 ∷ []) (tag_of the_type h) → h ≡ First c → ⊥
-no_first Free c o e = let z : ◌≡◌ {A = ℕ} 0 1 = cc in omega arith
-no_first (First k) c o e = ⊎_elim (λ e. omega arith) (λ e. omega arith) o
-no_first (Later k) c o e = let z : ◌≡◌ {A = ℕ} 0 1 = cc in omega arith
-
-pub no_later : (h : Holder) (k : ℕ) → OneOf (0 ∷ 1 ∷ []) (tag_of the_type h) → h ≡ Later k → ⊥
-no_later Free k o e = let z : ◌≡◌ {A = ℕ} 0 1 = cc in omega arith
-no_later (First c) k o e = let z : ◌≡◌ {A = ℕ} 0 1 = cc in omega arith
-no_later (Later j) k o e = ⊎_elim (λ e. omega arith) (λ e. omega arith) o
 
 -- who holds a row, by its first two bytes
 pub holder_first-bytes : (t : List ℕ) (c : ℕ) → view_holder t ≡ First c → (get_or t 0 0 ≡ 1) × (get_or t 1 0 ≡ c)

@@ -1,8 +1,6 @@
 -- What the walk notes of one span, and that it has noted all at its end.
-use Rattle.mem.proofs.Prelude.{◌∙◌, ◌≡◌, sym, ap, refl, subst, not, ⊎_elim, List, [], ◌∷◌, ◌++◌, append_assoc, append-nil, ◌+◌, ℕ, ◌<◌, ◌≤◌, ◌*◌}
+use Rattle.mem.proofs.Prelude.{◌∙◌, ◌≡◌, sym, ap, refl, subst, not, List, [], ◌∷◌, ◌++◌, append_assoc, append-nil, ◌+◌, ℕ, ◌<◌, ◌≤◌, ◌*◌}
 use Rattle.mem.proofs.Prelude.{◌-◌, ◌/◌, sub-zero, arith, T, eqb, eqb-true, eqb-false, ltb→lt, length, drop, get_or, length-append, set, length-set}
-use denote.Enum.Declared.{tag_of}
-use types.Run.{OneOf}
 use lib.Seq.{take_at, set_at, get_or-set_same, get_or-set_other}
 use Rattle.mem.specs.Lists.{sum, join}
 use Rattle.mem.specs.Bytes.{zeros, bit, part}
@@ -13,7 +11,6 @@ use Rattle.model.specs.declared.Slot.{Slot}
 use Rattle.model.specs.declared.Slot.TheVariants.{Fresh, Idle, Live}
 use Rattle.model.specs.declared.Holder.{Holder}
 use Rattle.model.specs.declared.Holder.TheVariants.{First}
-use Rattle.model.specs.contracts.Holder.{the_type}
 use Rattle.model.specs.State.{Span, Pool, free, group, is_live, span_sound, well_formed, rows, rows_in}
 use Rattle.model.specs.Tables.{Layout, row_at, view_by, view_holder, row_record_bytes}
 use Rattle.model.proofs.Tables.{group_few}
@@ -70,10 +67,9 @@ counts_few row pos c (s ∷ X) t =
 -- ---- who holds the first row
 
 -- no first row of a group: a free row
-free_held : (s : Span) (h : Holder) → h ≡ holder_of s → OneOf (0 ∷ 2 ∷ []) (tag_of the_type h) → s ≡ free
+free_held : (s : Span) (h : Holder) → h ≡ holder_of s → ((c : ℕ) → h ≡ First c → ⊥) → s ≡ free
 free_held free h e o = refl
-free_held (group c ss) h e o =
-    absurd (⊎_elim (λ z. omega arith) (λ z. omega arith) (subst (λ k. OneOf (0 ∷ 2 ∷ []) (tag_of the_type k)) e o))
+free_held (group c ss) h e o = absurd (o c e)
 
 group_held : (s : Span) (k : ℕ) → First k ≡ holder_of s → (ss : List Slot) × (s ≡ group k ss)
 group_held free k e = let z : ◌≡◌ {A = ℕ} 0 1 = cc in absurd (omega arith)
@@ -171,7 +167,7 @@ module _ {L : Layout} {row len : ℕ} {t : List ℕ} {i : ℕ} {X Y : Pool} {spa
 -- by who holds the row
 module _ {L : Layout} {row len : ℕ} {t : List ℕ} {i : ℕ} {X : Pool} {s : Span} {Y : Pool} {spare gaps : List ℕ} (x : Next L row len t i X s Y)
     (n : Noted row (len / row) X spare gaps) (h : Holder) (e : h ≡ view_holder (drop (row_at i) t)) where
-  pub free-next : OneOf (0 ∷ 2 ∷ []) (tag_of the_type h) → (1 ≡ rows_in row s) × Noted row (len / row) (X ++ (s ∷ [])) spare (set gaps i 1)
+  pub free-next : ((c : ℕ) → h ≡ First c → ⊥) → (1 ≡ rows_in row s) × Noted row (len / row) (X ++ (s ∷ [])) spare (set gaps i 1)
   free-next o =
       let f : s ≡ free = free_held s h (e ∙ holder x) o in
       subst (λ s. (1 ≡ rows_in row s) × Noted row (len / row) (X ++ (s ∷ [])) spare (set gaps i 1)) (sym f)

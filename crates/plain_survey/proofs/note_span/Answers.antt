@@ -2,7 +2,7 @@
 use Rattle.mem.proofs.Prelude.{◌≤◌, arith, rules, drop}
 use Rattle.model.specs.Tables.{row_at}
 use Rattle.serving.proofs.Notes.{Countable, span_inside, span_place, free-next, countable, group-next}
-use Rattle.plain_survey.proofs.Idle.{live_inside, no_slots, slots_idle}
+use Rattle.plain_survey.proofs.Idle.{live_inside, slots_idle}
 use Rattle.plain_survey.proofs.note_span.Goals as goal
 use Rattle.plain_survey.proofs.note_span.Goals.{After-live_in, After-wide-c}
 
@@ -13,7 +13,7 @@ pub bounds-gaps-i : goal.bounds-gaps-i
 bounds-gaps-i c = let p = c.requires.by_index in omega (arith, span_place p.4 p.5)
 
 pub returns-in_default : goal.returns-in_default
-returns-in_default c = let h = c.holder_at-h in λ len X s Y x n. free-next x n h.result h.ensures (no_slots h.result c.in_default.not-First)
+returns-in_default c = let h = c.holder_at-h in λ len X s Y x n. free-next x n h.result h.ensures c.in_default.not-First
 
 -- what is known of the group
 known : (c : After-wide-c) → let a = c.args in Countable c.wide-c.result a.spare.now

@@ -1,5 +1,5 @@
 -- `fits` meets its contract.
-use Rattle.mem.proofs.Prelude.{◌≡◌, refl, ◌/◌, ◌≤◌, arith, rules, length, length-append}
+use Rattle.mem.proofs.Prelude.{◌≡◌, refl, ◌/◌, ◌≤◌, arith, length, length-append}
 use Rattle.mem.specs.Bytes.{zeros}
 use Rattle.model.specs.Tables.{masks_layout, view}
 use Rattle.rows.specs.Rows.{Lent}

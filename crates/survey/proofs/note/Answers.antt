@@ -1,10 +1,10 @@
 -- `note` meets its contract. The invariant: counts and map tell what the spans passed have.
-use Rattle.mem.proofs.Prelude.{◌∙◌, sym, ap, ◌-◌, ◌/◌, arith, rules, length}
+use Rattle.mem.proofs.Prelude.{◌∙◌, sym, ap, ◌/◌, arith, rules, length}
 use Rattle.mem.proofs.Laws.{zeros-length}
 use Rattle.model.specs.Tables.{masks_layout}
 use Rattle.rows.specs.Rows.{Lent}
 use Rattle.rows.proofs.Rooms.{by_masks}
-use Rattle.serving.proofs.Notes.{Passed, Further, begin, ahead, further, end, whole_map}
+use Rattle.serving.proofs.Notes.{Further, begin, ahead, further, end, whole_map}
 use Rattle.survey.proofs.note.Goals as goal
 use Rattle.survey.proofs.note.Goals.{After-note_span-i, Start}
 

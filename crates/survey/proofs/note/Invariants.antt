@@ -1,10 +1,7 @@
 -- `note` meets its contract. The invariant: counts and map tell what the spans passed have.
-use Rattle.mem.proofs.Prelude.{◌∙◌, sym, ap, ◌-◌, ◌/◌, arith, rules, length}
-use Rattle.mem.proofs.Laws.{zeros-length}
+use Rattle.mem.proofs.Prelude.{◌-◌}
 use Rattle.model.specs.Tables.{masks_layout}
-use Rattle.rows.specs.Rows.{Lent}
-use Rattle.rows.proofs.Rooms.{by_masks}
-use Rattle.serving.proofs.Notes.{Passed, Further, begin, ahead, further, end, whole_map}
+use Rattle.serving.proofs.Notes.{Passed}
 use Rattle.survey.proofs.note.Given as goal
 
 abbrev pub invariant-loop-i : goal.invariant-loop-i

@@ -12,7 +12,7 @@ pub bounds-gaps-i : goal.bounds-gaps-i
 bounds-gaps-i c = let p = c.requires.by_index in omega (arith, span_place p.4 p.5)
 
 pub returns-in_default : goal.returns-in_default
-returns-in_default c = let h = c.holder_at-h in λ len X s Y x n. free-next x n h.result h.ensures c.in_default.keys2
+returns-in_default c = let h = c.holder_at-h in λ len X s Y x n. free-next x n h.result h.ensures c.in_default.not-First
 
 pub masks_at-m-requires : goal.masks_at-m-requires
 masks_at-m-requires c = span_inside c.requires.by_index.4
