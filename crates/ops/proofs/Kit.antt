@@ -1,5 +1,5 @@
 -- What the proofs of the calls share: names, and what a call tells.
-pub use Rattle.mem.proofs.Prelude.{◌∙◌, ◌≡◌, sym, ap, ap₂, refl, subst, [], ◌∷◌, ◌<◌, ◌/◌, arith, lit≤, leb-true, leb-false, length, List, ℕ}
+pub use Rattle.mem.proofs.Prelude.{◌∙◌, ◌≡◌, sym, ap, ap₂, refl, subst, [], ◌∷◌, ◌<◌, ◌/◌, arith, rules, lit≤, leb-true, leb-false, length, List, ℕ}
 unfoldable pub use Rattle.classes.specs.Classes.{row_bytes, size_limit}
 pub use Rattle.classes.specs.Alignments.{enlarged, Askable}
 pub use Rattle.classes.proofs.Laws.{card_row, card_some}

@@ -3,6 +3,8 @@
 //
 // Each is a paragraph of document 01. One equation says what it answers and what it leaves of arena, room and totals, for any bytes, totals,
 // handle and size: what the model's call does on them (call, crates/model/specs/Calls.antt).
+#![tactic(auto)]
+
 ghost use Rattle.std.specs.Prelude.{◌≡◌, true, ◌≤◌, ◌<◌, length};
 ghost use Rattle.classes.specs.Classes.{row_bytes};
 ghost use Rattle.model.specs.Answers.{reply_answer, report_answer};

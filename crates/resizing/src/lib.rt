@@ -1,5 +1,7 @@
 // The calls that give a block another size, in place or by a move, over a lent arena, a lent table room and the totals in the record beside it, by
 // value, as the calls of `pool` are. The check stands in each of them, since in one function before both it is slower (DECISIONS 151).
+#![tactic(auto)]
+
 ghost use Rattle.std.specs.Prelude.{◌≡◌};
 ghost use Rattle.classes.specs.Classes.{row_bytes};
 ghost use Rattle.model.specs.Answers.{reply_answer};

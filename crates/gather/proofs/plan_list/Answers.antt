@@ -1,0 +1,20 @@
+-- By whether a list can be planned.
+use Rattle.mem.proofs.Prelude.{◌∙◌, sym, rules, not-false, not-true}
+use Rattle.gather.proofs.Lists.{not-planned, is_planned}
+use Rattle.gather.proofs.plan_list.Goals as goal
+use Rattle.gather.proofs.plan_list.Goals.{After-full_caps-arg-1}
+
+pub returns-then-not-plannable : goal.returns-then-not-plannable
+returns-then-not-plannable c =
+    let w = c.plannable in
+    let a = c.args in
+    not-planned a.total a.cap a.sizes.now (sym w.ensures ∙ c.if-not-plannable.true)
+
+pub full_caps-count-requires : goal.full_caps-count-requires
+full_caps-count-requires c = let w = c.plannable in sym w.ensures ∙ c.if-not-plannable.false
+
+pub returns : goal.returns
+returns c =
+    let a = c.args in
+    let g = c.full_caps-count in
+    is_planned a.total a.cap a.sizes.now (full-caps-requires (goal.at.returns c).After-full_caps-arg-1 g.lifetimes) g.ensures.value g.ensures.sizes_after
