@@ -1,4 +1,6 @@
 // The text of a record's line, in a lent buffer (02 §2).
+#![tactic(auto)]
+
 ghost use Rattle.std.specs.Prelude.{◌≡◌, [], ◌+◌, ◌*◌, ◌≤◌, length};
 ghost use Rattle.mem.specs.Lists.{join};
 ghost use Rattle.mem.specs.Bytes.{put};

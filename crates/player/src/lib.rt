@@ -1,4 +1,6 @@
 // What the records of a trace do over a lent pool, and all that a replay prints (02 §2).
+#![tactic(auto)]
+
 ghost use Rattle.std.specs.Prelude.{◌≡◌, ◌+◌, ◌≤◌, leb, length};
 ghost use Rattle.io.specs.Counts.{IsPrefixLen};
 ghost use Rattle.mem.specs.Lists.{choose};

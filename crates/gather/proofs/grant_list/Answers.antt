@@ -1,5 +1,5 @@
 -- Test by test, in the order of the answers; then all sizes are granted.
-use Rattle.mem.proofs.Prelude.{sym, ap₂, rules}
+use Rattle.mem.proofs.Prelude.{sym, ap₂}
 use Rattle.classes.specs.Classes.{row_bytes}
 use Rattle.classes.proofs.Laws.{card_row}
 use Rattle.model.specs.Calls.{kept_in}

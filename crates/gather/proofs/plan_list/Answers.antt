@@ -1,8 +1,7 @@
 -- By whether a list can be planned.
-use Rattle.mem.proofs.Prelude.{◌∙◌, sym, rules, not-false, not-true}
+use Rattle.mem.proofs.Prelude.{◌∙◌, sym}
 use Rattle.gather.proofs.Lists.{not-planned, is_planned}
 use Rattle.gather.proofs.plan_list.Goals as goal
-use Rattle.gather.proofs.plan_list.Goals.{After-full_caps-arg-1}
 
 pub returns-then-not-plannable : goal.returns-then-not-plannable
 returns-then-not-plannable c =
@@ -17,4 +16,4 @@ pub returns : goal.returns
 returns c =
     let a = c.args in
     let g = c.full_caps-count in
-    is_planned a.total a.cap a.sizes.now (full-caps-requires (goal.at.returns c).After-full_caps-arg-1 g.lifetimes) g.ensures.value g.ensures.sizes_after
+    is_planned a.total a.cap a.sizes.now (sym c.plannable.ensures ∙ c.if-not-plannable.false) g.ensures.value g.ensures.sizes_after
