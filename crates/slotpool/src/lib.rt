@@ -3,6 +3,8 @@
 // Each call has two functions. One takes the totals by value and gives those after the call back; the exported one is lent the record: it reads
 // the totals, makes the call, and brings the record up to date. Each promises one thing: what C sees of the model's call
 // (crates/answers/specs/Gives.antt).
+#![tactic(auto)]
+
 ghost use Rattle.std.specs.Prelude.{◌≡◌, length};
 ghost use Rattle.mem.specs.Bytes.{bit};
 ghost use Rattle.classes.specs.Classes.{row_bytes};

@@ -1,3 +1,0 @@
-pub mod Walks
-pub mod Lent
-pub mod Kit
