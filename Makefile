@@ -9,17 +9,18 @@
 .NOTPARALLEL:
 LIB = target/staticlib/libslotpool.a
 LIBS = $(LIB) target/staticlib/libslotpool_plain.a
-PROVED = crates.txt $(shell find crates -name '*.rt' -o -name '*.antt')
+PROVED = crates.txt $(shell find crates -name out -prune -o \( -name '*.rt' -o -name '*.antt' \) -print)
 CC11 = cc -O2 -Wall -Wextra -std=c11 -Iinclude
 
 all: $(LIBS)
 
 # from what has been proved, so they depend on code, definitions and proofs
 $(LIBS): target/staticlib/lib%.a: $(PROVED)
-	.ci/show rt staticlib $*
+	.ci/lib $*
 
 target/bin/replay: $(PROVED)
-	.ci/show rt check replay
+	cd crates/replay && ../../.ci/show rt run < /dev/null
+	install -D crates/replay/out/replay $@
 
 target/bin/trace: host/Cargo.toml host/build.rs $(shell find host/src -name '*.rs') $(LIBS)
 	cd host && cargo build --quiet --release --offline --bin trace

@@ -103,7 +103,7 @@ pub struct Sized {
 
 // A size with its class, where that of another size is at hand: the sizes of a list are often the same.
 pub fn with_class(n: usize, known: Sized) -> Sized
-    requires n_lt_too_large { n < size_limit }
+    requires n_lt_limit { n < size_limit }
     requires class_value { (known.class ≡ class_of known.size) × (known.class < 48) }
     ensures { (result.size ≡ n) × (result.class ≡ class_of n) × (result.class < 48) }
 {

@@ -37,7 +37,7 @@ fn grant_one(
     from: usize,
 ) -> Placed
     requires room_value { sound row (length arena.old) room.old ≡ true }
-    requires size_lt_too_large { (s.size < size_limit) × (s.class ≡ class_of s.size) × (s.class < 48) × NoneOpen masks_layout row room.old s.class from
+    requires size_known { (s.size < size_limit) × (s.class ≡ class_of s.size) × (s.class < 48) × NoneOpen masks_layout row room.old s.class from
         × (t ≡ totals row (view row room.old)) }
     requires lawful { Lawful row }
     ensures handle_value { (result.handle ≡ handle_or row (reserve row (view row room.old) ordinary s.size))
@@ -87,8 +87,8 @@ pub fn grant_all(
     handles: &mut [usize],
 ) -> Totals
     requires room_value { sound row (length arena.old) room.old ≡ true }
-    requires sizes_value { (every (λ n. ltb n size_limit) sizes.now ≡ true) × (length sizes.now ≤ length handles.old) }
-    requires sizes_value_2 { (is_some (reserve_all row (view row room.old) sizes.now) ≡ true) × (t ≡ totals row (view row room.old)) }
+    requires small_sizes { (every (λ n. ltb n size_limit) sizes.now ≡ true) × (length sizes.now ≤ length handles.old) }
+    requires room_enough { (is_some (reserve_all row (view row room.old) sizes.now) ≡ true) × (t ≡ totals row (view row room.old)) }
     requires lawful { Lawful row }
     ensures arena_after { arena.new
         ≡ written arena.old (map (enframe row) (granted (reserve_all row (view row room.old) sizes.now))) }

@@ -76,7 +76,7 @@ pub fn copy_in(s: &mut [u8], at: usize, v: &[u8])
 // Copies n bytes from one place to another; the two stretches are apart.
 pub fn copy_within(s: &mut [u8], from: usize, to: usize, n: usize)
     requires n_in_bounds { (from + n ≤ length s.old) × (to + n ≤ length s.old) }
-    requires fact { (from + n ≤ to) ⊎ (to + n ≤ from) }
+    requires apart { (from + n ≤ to) ⊎ (to + n ≤ from) }
     ensures { s.new ≡ put to (part from n s.old) s.old }
 {
     let mut i = 0;

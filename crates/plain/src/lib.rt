@@ -65,7 +65,7 @@ pub fn grant_aligned(arena: &mut [u8], room: &mut [u8], n: usize, align: usize) 
 // "The slot's s owned bytes become zero, then header and guard are written; no other arena byte changes. The value is the start.", 02 §7: as a handle.
 fn grant_as(arena: &mut [u8], room: &mut [u8], code: u8, n: usize) -> Reply
     requires room_value { sound_by slots_layout row_bytes (length arena.old) room.old ≡ true }
-    requires le_code { (1 ≤ code) × (code ≤ 9) }
+    requires code_in_range { (1 ≤ code) × (code ≤ 9) }
     ensures { CarriedOutBy (plain_form row_bytes) arena.old (grant_as row_bytes (view_by slots_layout row_bytes room.old) code n)
         result arena.new room.new }
 {

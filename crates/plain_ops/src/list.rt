@@ -23,8 +23,8 @@ pub fn grant_all(
     handles: &mut [usize],
 )
     requires room_value { sound_by slots_layout row (length arena.old) room.old ≡ true }
-    requires sizes_value { (every (λ n. ltb n size_limit) sizes.now ≡ true) × (length sizes.now ≤ length handles.old) }
-    requires sizes_value_2 { is_some (reserve_all row (view_by slots_layout row room.old) sizes.now) ≡ true }
+    requires small_sizes { (every (λ n. ltb n size_limit) sizes.now ≡ true) × (length sizes.now ≤ length handles.old) }
+    requires room_enough { is_some (reserve_all row (view_by slots_layout row room.old) sizes.now) ≡ true }
     requires lawful { Lawful row }
     ensures arena_after { arena.new
         ≡ written arena.old (map (enframe row) (granted (reserve_all row (view_by slots_layout row room.old) sizes.now))) }
@@ -44,7 +44,7 @@ pub fn grant_all(
 // The handle of one block more; 0 where there is no room.
 fn grant_one(row: usize, arena: &mut [u8], room: &mut [u8], n: usize) -> usize
     requires room_value { sound_by slots_layout row (length arena.old) room.old ≡ true }
-    requires n_lt_too_large { n < size_limit }
+    requires n_lt_limit { n < size_limit }
     requires lawful { Lawful row }
     ensures value { result ≡ handle_or row (reserve row (view_by slots_layout row room.old) ordinary n) }
     ensures arena_after { arena.new ≡ next_arena row arena.old (reserve row (view_by slots_layout row room.old) ordinary n) }

@@ -18,7 +18,7 @@ use model::Holder;
 // free rows; the sizes are then served from these notes.
 pub fn fits(row: usize, len: usize, room: &[u8], sizes: &[usize]) -> bool
     requires room_value { sound_by slots_layout row len room.now ≡ true }
-    requires sizes_value { every (λ n. ltb n size_limit) sizes.now ≡ true }
+    requires small_sizes { every (λ n. ltb n size_limit) sizes.now ≡ true }
     requires lawful { Lawful row }
     ensures { result ≡ is_some (reserve_all row (view_by slots_layout row room.now) sizes.now) }
 {
@@ -45,7 +45,7 @@ fn note(row: usize, len: usize, room: &[u8], spare: &mut [usize], gaps: &mut [u8
 
 // Notes of what begins at row i, a free row or a group, and how many rows it has.
 fn note_span(row: usize, room: &[u8], i: usize, spare: &mut [usize], gaps: &mut [u8]) -> usize
-    requires by_index { (len : ℕ) × (X : Pool) × (s : Span) × (Y : Pool) × Next slots_layout row len room.now i X s Y
+    requires next_span { (len : ℕ) × (X : Pool) × (s : Span) × (Y : Pool) × Next slots_layout row len room.now i X s Y
         × Noted row (len / row) X spare.old gaps.old }
     requires lawful { Lawful row }
     ensures { (len : ℕ) (X : Pool) (s : Span) (Y : Pool) → Next slots_layout row len room.now i X s Y

@@ -54,8 +54,8 @@ pub fn set_up(arena: &mut [u8], room: &mut [u8], t: Totals) -> Answered
 
 // A grant on sound tables: a slot is reserved in the tables, and its block laid out in the arena.
 fn grant_as(arena: &mut [u8], room: &mut [u8], t: Totals, code: u8, n: usize) -> Answered
-    requires t_value { sound_kept row_bytes (length arena.old) (kept_in room.old t) ≡ true }
-    requires le_code { (1 ≤ code) × (code ≤ 9) }
+    requires totals_value { sound_kept row_bytes (length arena.old) (kept_in room.old t) ≡ true }
+    requires code_in_range { (1 ≤ code) × (code ≤ 9) }
     ensures { CarriedOutBy (engine row_bytes) arena.old (grant_as row_bytes (view row_bytes room.old) code n)
         result.reply arena.new (kept_in room.new result.totals) }
 {

@@ -83,7 +83,7 @@ pub fn reserve_slot(
 ) -> Reserved
     requires room_value { sound row len room.old ≡ true }
     requires askable { Askable code n }
-    requires t_value { t ≡ totals row (view row room.old) }
+    requires totals_value { t ≡ totals row (view row room.old) }
     requires lawful { Lawful row }
     ensures value { result ≡ reserved_as row (reserve row (view row room.old) code n) }
     ensures room_after { room.new ≡ next_room row room.old (reserve row (view row room.old) code n) }

@@ -70,8 +70,8 @@ pub enum Counted {
 
 // The totals of rows and of further rows.
 pub fn plus(a: Totals, b: Totals) -> Totals
-    requires per_row { PerRow a }
-    requires per_row_2 { PerRow b }
+    requires per_row_a { PerRow a }
+    requires per_row_b { PerRow b }
     requires b_bound { all_rows a + all_rows b ≤ most_rows }
     ensures { result ≡ plus a b }
 {
@@ -316,7 +316,7 @@ pub fn write_row(room: &mut [u8], i: usize, h: Holder)
 
 // Writes the records of the later rows of a group of n rows.
 pub fn write_later(room: &mut [u8], i: usize, n: usize)
-    requires le_n { (1 ≤ n) × (n ≤ 256) × (i + n ≤ most_rows) }
+    requires n_in_range { (1 ≤ n) × (n ≤ 256) × (i + n ≤ most_rows) }
     requires n_in_bounds { row_at (i + n) ≤ length room.old }
     ensures { room.new ≡ put (row_at (i + 1)) (later_records (n - 1) 1) room.old }
 {

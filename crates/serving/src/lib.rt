@@ -56,7 +56,7 @@ fn serve(row: usize, c: usize, spare: &mut [usize], gaps: &mut [u8]) -> bool
 // Whether slots for sizes can be taken, one after the other.
 pub fn serve_all(row: usize, sizes: &[usize], spare: &mut [usize], gaps: &mut [u8]) -> bool
     requires notes_of { (P : Pool) × NotesOf row P spare.old gaps.old }
-    requires sizes_value { every (λ n. ltb n size_limit) sizes.now ≡ true }
+    requires small_sizes { every (λ n. ltb n size_limit) sizes.now ≡ true }
     requires lawful { Lawful row }
     ensures { (P : Pool) → NotesOf row P spare.old gaps.old → result ≡ is_some (reserve_all row P sizes.now) }
 {

@@ -41,7 +41,7 @@ fn group_totals(k: usize, n: usize, ready: u32, waiting: u32, bytes: u32) -> Tot
 // The masks and the n slots of a group of class c, which has k rows, and whose first slot begins at a byte of the arena. One slot at least
 // is live.
 fn members_counted(s: &[u8], at: usize, c: usize, n: usize, k: usize, begin: usize) -> Counted
-    requires row_record_bytes_in_bounds { (at + row_record_bytes ≤ length s.now) × (c < 48) × (n ≡ slots_of c) × (n ≤ most_slots) }
+    requires record_in_bounds { (at + row_record_bytes ≤ length s.now) × (c < 48) × (n ≡ slots_of c) × (n ≤ most_slots) }
     requires begin_bound { (begin < 8388608) × (begin % 16 ≡ 0) }
     ensures { result ≡ count_if (members_checked c begin (drop at s.now)) (group_totals k (view_group c (drop at s.now))) }
 {

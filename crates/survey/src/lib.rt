@@ -16,7 +16,7 @@ use model::Holder;
 
 // Notes of one span, whose first row is row i: a free row, or a group's slots that are not live. How many rows it has.
 fn note_span(row: usize, room: &[u8], i: usize, spare: &mut [usize], gaps: &mut [u8]) -> usize
-    requires by_index { (len : ℕ) × (X : Pool) × (s : Span) × (Y : Pool) × Next masks_layout row len room.now i X s Y
+    requires next_span { (len : ℕ) × (X : Pool) × (s : Span) × (Y : Pool) × Next masks_layout row len room.now i X s Y
         × Noted row (len / row) X spare.old gaps.old }
     requires lawful { Lawful row }
     ensures { (len : ℕ) (X : Pool) (s : Span) (Y : Pool) → Next masks_layout row len room.now i X s Y
@@ -52,7 +52,7 @@ fn note(row: usize, len: usize, room: &[u8], spare: &mut [usize], gaps: &mut [u8
 // Whether sizes can all be granted, one after the other.
 pub fn fits(row: usize, len: usize, room: &[u8], sizes: &[usize]) -> bool
     requires room_value { sound row len room.now ≡ true }
-    requires sizes_value { every (λ n. ltb n size_limit) sizes.now ≡ true }
+    requires small_sizes { every (λ n. ltb n size_limit) sizes.now ≡ true }
     requires lawful { Lawful row }
     ensures { result ≡ is_some (reserve_all row (view row room.now) sizes.now) }
 {

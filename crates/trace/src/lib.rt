@@ -52,8 +52,8 @@ fn fits(op: u8, n: usize) -> bool
 
 // The operation whose n bytes stand at a place, and are right for it.
 fn op_at(s: &[u8], at: usize, n: usize) -> Op
-    requires le_n { (1 ≤ n) × (at + n ≤ length s.now) }
-    requires n_value { Trace·fits (get_or s.now at 0) n ≡ true }
+    requires n_in_range { (1 ≤ n) × (at + n ≤ length s.now) }
+    requires n_fits { Trace·fits (get_or s.now at 0) n ≡ true }
     ensures { result ≡ op_at (get_or s.now at 0) s.now at n }
 {
     let op = s[at];

@@ -48,7 +48,7 @@ right c =
 
 pub fits-requires : goal.fits-requires
 unfolding row_bytes
-fits-requires c = record { room_value = (lent (goal.at.fits-requires c).Else-not-sound).room.sound; sizes_value = small-sizes (right c); lawful = card_row }
+fits-requires c = record { room_value = (lent (goal.at.fits-requires c).Else-not-sound).room.sound; small_sizes = small-sizes (right c); lawful = card_row }
 
 pub returns-then-not-fits : goal.returns-then-not-fits
 unfolding row_bytes
@@ -61,7 +61,7 @@ unfolding row_bytes
 grant_all-granted-requires c =
     let p = right (goal.at.grant_all-granted-requires c).Else-not-accepts in
     let r = lent (goal.at.grant_all-granted-requires c).Else-not-sound in
-    record { room_value = r.room.sound; sizes_value = (small-sizes p, few_sizes p); sizes_value_2 = (passing c.fits.ensures (ap not c.if-not-fits.false), r.counts); lawful = card_row }
+    record { room_value = r.room.sound; small_sizes = (small-sizes p, few_sizes p); room_enough = (passing c.fits.ensures (ap not c.if-not-fits.false), r.counts); lawful = card_row }
 
 pub returns : goal.returns
 unfolding row_bytes

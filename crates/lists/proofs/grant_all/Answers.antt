@@ -27,27 +27,27 @@ loop-i-init c =
       refl,
       lit≤ tt,
       open_start masks_layout c.args.row c.args.room.now 0,
-      record { lent = by_masks h.room_value h.lawful; fits = h.sizes_value_2.0; arena = refl; pool = refl; list = refl },
-      h.sizes_value_2.1,
+      record { lent = by_masks h.room_value h.lawful; fits = h.room_enough.0; arena = refl; pool = refl; list = refl },
+      h.room_enough.1,
     )
 
 pub with_class-s-requires : goal.with_class-s-requires
 with_class-s-requires c =
     let l = c.loop-i in
-    record { n_lt_too_large = small_at c.args.sizes.now l.i c.requires.sizes_value.0 c.loop-i-test.true; class_value = (l.invariant.4, l.invariant.5) }
+    record { n_lt_limit = small_at c.args.sizes.now l.i c.requires.small_sizes.0 c.loop-i-test.true; class_value = (l.invariant.4, l.invariant.5) }
 
 pub grant_one-p-requires : goal.grant_one-p-requires
 grant_one-p-requires c =
     let l = c.loop-i in
     let w = c.with_class-s.ensures in
-    let h = small_at c.args.sizes.now l.i c.requires.sizes_value.0 c.loop-i-test.true in
+    let h = small_at c.args.sizes.now l.i c.requires.small_sizes.0 c.loop-i-test.true in
     let p = subst (NoneOpen masks_layout c.args.row l.room c.with_class-s.result.class) (sym c.begin.ensures)
     (begins c.with_class-s.result.class l.last.class l.from l.invariant.6) in
-    record { room_value = l.invariant.7.lent.sound; size_lt_too_large = (omega (arith, w.0, h), w.1 ∙ ap class_of (sym w.0), w.2, p, l.invariant.8); lawful = c.requires.lawful }
+    record { room_value = l.invariant.7.lent.sound; size_known = (omega (arith, w.0, h), w.1 ∙ ap class_of (sym w.0), w.2, p, l.invariant.8); lawful = c.requires.lawful }
 
 pub bounds-handles-i : goal.bounds-handles-i
 bounds-handles-i c =
-    omega (arith, c.requires.sizes_value.1, c.loop-i.invariant.3, c.loop-i-test.true)
+    omega (arith, c.requires.small_sizes.1, c.loop-i.invariant.3, c.loop-i-test.true)
 
 pub overflow_add-i : goal.overflow_add-i
 overflow_add-i c =
@@ -64,7 +64,7 @@ loop-i-preserved c =
     let a = c.args in
     let n = reserve a.row (view a.row l.room) ordinary in
     let e = w.ensures.0 in
-    let x = one_further masks_layout a.row a.sizes.now _ _ _ c.requires.sizes_value.0 l.i l.arena l.room l.handles c.loop-i-test.true
+    let x = one_further masks_layout a.row a.sizes.now _ _ _ c.requires.small_sizes.0 l.i l.arena l.room l.handles c.loop-i-test.true
     l.invariant.7 g.new.arena g.new.room g.result.handle (g.ensures.handle_value.0 ∙ ap (λ k. handle_or a.row (n k)) e)
     (g.ensures.arena_after ∙ ap (λ k. next_arena a.row l.arena (n k)) e)
     (g.ensures.room_after ∙ ap (λ k. next_room a.row l.room (n k)) e) g.auto.arena in (

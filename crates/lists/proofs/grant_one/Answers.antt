@@ -18,7 +18,7 @@ lent s = by_masks s.requires.room_value s.requires.lawful
 
 pub reserve_in-requires : goal.reserve_in-requires
 reserve_in-requires c =
-    let (h, e, l, p, q) = c.requires.size_lt_too_large in
+    let (h, e, l, p, q) = c.requires.size_known in
     record { room_value = c.requires.room_value; askable = plain h; c_value = (e, l, p, q); lawful = c.requires.lawful }
 
 pub returns-in_default : goal.returns-in_default
@@ -28,10 +28,10 @@ returns-in_default c =
     (sym c.reserve_in.ensures.value ∙ c.in_default.is) in record { handle_value = (sym (ap (handle_or a.row) r), sym (ap (first_or a.row) r), sym (ap (totals_or a.row a.t) r)); arena_after = sym (ap (next_arena a.row a.arena.now) r); room_after = c.reserve_in.ensures.room_after }
 
 -- the block that is granted
-block : (c : In-Taken) → (GrantedOne (lent (goal.at.In-Taken c).Start) c.args.s.size c.requires.size_lt_too_large.0 c.args.arena.now c.args.t c.in-Taken.b
+block : (c : In-Taken) → (GrantedOne (lent (goal.at.In-Taken c).Start) c.args.s.size c.requires.size_known.0 c.args.arena.now c.args.t c.in-Taken.b
     c.in-Taken.taken)
 block c =
-    granted_one (lent (goal.at.In-Taken c).Start) c.args.s.size c.requires.size_lt_too_large.0 c.args.arena.now c.args.t c.in-Taken.b
+    granted_one (lent (goal.at.In-Taken c).Start) c.args.s.size c.requires.size_known.0 c.args.arena.now c.args.t c.in-Taken.b
     c.in-Taken.taken (sym c.reserve_in.ensures.value ∙ c.in-Taken.is)
 
 pub lay_out-handle-requires : goal.lay_out-handle-requires

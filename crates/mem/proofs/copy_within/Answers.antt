@@ -28,7 +28,7 @@ loop-i-preserved c =
     let l = c.loop-i in
     let a = c.args in
     let q = c.requires in
-    let t = turn a.from a.to a.n l.i l.s (omega arith) (omega arith) q.fact in
+    let t = turn a.from a.to a.n l.i l.s (omega arith) (omega arith) q.apart in
     (omega arith, simp length-set l.invariant.1, sym t ∙ l.invariant.2)
 
 pub returns : goal.returns

@@ -27,7 +27,7 @@ some c = omega (arith, c.if-code-eq0.false)
 
 pub grant_as-requires : goal.grant_as-requires
 unfolding row_bytes
-grant_as-requires c = record { room_value = (lent (goal.at.grant_as-requires c).Else-not-sound).sound; le_code = (some (goal.at.grant_as-requires c).Else-code-eq0, c.code_of-code.ensures.small) }
+grant_as-requires c = record { room_value = (lent (goal.at.grant_as-requires c).Else-not-sound).sound; code_in_range = (some (goal.at.grant_as-requires c).Else-code-eq0, c.code_of-code.ensures.small) }
 
 pub returns : goal.returns
 unfolding row_bytes

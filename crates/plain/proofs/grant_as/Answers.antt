@@ -24,8 +24,8 @@ small : (c : Else-too_large) → (let a = c.args in Askable a.code a.n)
 small c =
     let a = c.args in
     record {
-      some_code = c.requires.le_code.0;
-      last_code = c.requires.le_code.1;
+      some_code = c.requires.code_in_range.0;
+      last_code = c.requires.code_in_range.1;
       small = leb-false size_limit (enlarged a.code a.n) (sym c.too_large.ensures ∙ c.if-too_large.false);
     }
 

@@ -83,7 +83,7 @@ copy_within-requires c =
         omega (arith, l, from, m, o.owned, o.bytes),
         omega (arith, l, at, m, h.owned, h.bytes, z, zb),
       );
-      fact = ⊎_elim (λ x. inl (omega (arith, x, from, to, m))) (λ x. inr (omega (arith, x, from, to, m)))
+      apart = ⊎_elim (λ x. inl (omega (arith, x, from, to, m))) (λ x. inr (omega (arith, x, from, to, m)))
           (copy_apart (room (goal.at.copy_within-requires c).Start) a.b.alloc.align a.n c.requires.askable q f c.requires.holds.1 (min a.b.alloc.size a.n) (omega arith)
           (omega (arith, z)));
     }

@@ -23,7 +23,7 @@ begun c =
 
 pub plus-s-requires : goal.plus-s-requires
 plus-s-requires c =
-    record { per_row = c.loop-s.invariant.light; per_row_2 = (begun (goal.at.plus-s-requires c).In-Sound).light; b_bound = omega (arith, (begun (goal.at.plus-s-requires c).In-Sound).few) }
+    record { per_row_a = c.loop-s.invariant.light; per_row_b = (begun (goal.at.plus-s-requires c).In-Sound).light; b_bound = omega (arith, (begun (goal.at.plus-s-requires c).In-Sound).few) }
 
 pub loop-s-smaller : goal.loop-s-smaller
 loop-s-smaller c = rw c.plus-s.ensures (omega (arith, (begun (goal.at.loop-s-smaller c).In-Sound).some, (begun (goal.at.loop-s-smaller c).In-Sound).few))

@@ -7,10 +7,10 @@ use Rattle.plain_survey.proofs.note_span.Goals as goal
 use Rattle.plain_survey.proofs.note_span.Goals.{After-live_in, After-wide-c}
 
 pub holder_at-h-requires : goal.holder_at-h-requires
-holder_at-h-requires c = span_inside c.requires.by_index.4
+holder_at-h-requires c = span_inside c.requires.next_span.4
 
 pub bounds-gaps-i : goal.bounds-gaps-i
-bounds-gaps-i c = let p = c.requires.by_index in omega (arith, span_place p.4 p.5)
+bounds-gaps-i c = let p = c.requires.next_span in omega (arith, span_place p.4 p.5)
 
 pub returns-in_default : goal.returns-in_default
 returns-in_default c = let h = c.holder_at-h in λ len X s Y x n. free-next x n h.result h.ensures c.in_default.not-First
@@ -18,7 +18,7 @@ returns-in_default c = let h = c.holder_at-h in λ len X s Y x n. free-next x n 
 -- what is known of the group
 known : (c : After-wide-c) → let a = c.args in Countable c.wide-c.result a.spare.now
 known c =
-    let p = c.requires.by_index in
+    let p = c.requires.next_span in
     rw c.wide-c.ensures.0 (countable p.4 p.5 c.holder_at-h.result c.holder_at-h.ensures c.in-First.k c.in-First.is)
 
 -- no more slots are live than the group has
@@ -40,7 +40,7 @@ pub slots-requires : goal.slots-requires
 slots-requires c = (known c).class
 
 pub live_in-requires : goal.live_in-requires
-live_in-requires c = record { i_lt_most_rows = span_inside c.requires.by_index.4; c_bound = (known (goal.at.live_in-requires c).After-wide-c).class }
+live_in-requires c = record { i_lt_most_rows = span_inside c.requires.next_span.4; c_bound = (known (goal.at.live_in-requires c).After-wide-c).class }
 
 pub overflow_sub-spare : goal.overflow_sub-spare
 overflow_sub-spare c = few c

@@ -15,7 +15,7 @@ lent c = checked _ _ c.sound.ensures (ap not c.if-not-sound.false)
 
 pub grant_as-requires : goal.grant_as-requires
 unfolding row_bytes
-grant_as-requires c = record { t_value = (lent (goal.at.grant_as-requires c).Else-not-sound).form.sound; le_code = (lit≤ tt, lit≤ tt) }
+grant_as-requires c = record { totals_value = (lent (goal.at.grant_as-requires c).Else-not-sound).form.sound; code_in_range = (lit≤ tt, lit≤ tt) }
 
 pub returns : goal.returns
 unfolding row_bytes

@@ -8,7 +8,7 @@ use Rattle.pool.proofs.grant_as.Goals.{Else-too_large, In-Taken, Start}
 
 -- the tables are sound
 lent : (s : Start) → Checked row_bytes s.args.arena.now (kept_in s.args.room.now s.args.t)
-lent s = by_check s.args.arena.now (kept_in s.args.room.now s.args.t) s.requires.t_value card_row
+lent s = by_check s.args.arena.now (kept_in s.args.room.now s.args.t) s.requires.totals_value card_row
 
 pub returns-then-too_large : goal.returns-then-too_large
 returns-then-too_large c =
@@ -19,12 +19,12 @@ returns-then-too_large c =
 small : (c : Else-too_large) → (let a = c.args in Askable a.code a.n)
 small c =
     let h = leb-false size_limit (enlarged c.args.code c.args.n) (sym c.too_large.ensures ∙ c.if-too_large.false) in
-    record { some_code = c.requires.le_code.0; last_code = c.requires.le_code.1; small = h }
+    record { some_code = c.requires.code_in_range.0; last_code = c.requires.code_in_range.1; small = h }
 
 pub reserve_slot-requires : goal.reserve_slot-requires
 unfolding row_bytes
 reserve_slot-requires c =
-    let r = lent (goal.at.reserve_slot-requires c).Start in record { room_value = r.room.sound; askable = small (goal.at.reserve_slot-requires c).Else-too_large; t_value = r.counts; lawful = card_row }
+    let r = lent (goal.at.reserve_slot-requires c).Start in record { room_value = r.room.sound; askable = small (goal.at.reserve_slot-requires c).Else-too_large; totals_value = r.counts; lawful = card_row }
 
 pub returns-in_default : goal.returns-in_default
 unfolding row_bytes

@@ -12,7 +12,7 @@ loop-i-init c = (search rules, refl, refl, class-zero, search rules, λ P t. all
 pub with_class-last-requires : goal.with_class-last-requires
 with_class-last-requires c =
     let l = c.loop-i in
-    record { n_lt_too_large = small_at c.args.sizes.now l.i c.requires.sizes_value c.loop-i-test.true; class_value = (l.invariant.3, l.invariant.4) }
+    record { n_lt_limit = small_at c.args.sizes.now l.i c.requires.small_sizes c.loop-i-test.true; class_value = (l.invariant.3, l.invariant.4) }
 
 pub serve-requires : goal.serve-requires
 serve-requires c =
@@ -22,7 +22,7 @@ serve-requires c =
 
 pub returns-then-not-serve : goal.returns-then-not-serve
 returns-then-not-serve c =
-    λ P t. one_refused (c.loop-i.invariant.5 P t) c.loop-i-test.true c.requires.sizes_value c.with_class-last.ensures.1 c.serve.ensures (ap not c.if-not-serve.true)
+    λ P t. one_refused (c.loop-i.invariant.5 P t) c.loop-i-test.true c.requires.small_sizes c.with_class-last.ensures.1 c.serve.ensures (ap not c.if-not-serve.true)
 
 pub loop-i-preserved : goal.loop-i-preserved
 loop-i-preserved c = (
@@ -31,7 +31,7 @@ loop-i-preserved c = (
   search rules,
   c.with_class-last.ensures.1 ∙ ap class_of (sym c.with_class-last.ensures.0),
   c.with_class-last.ensures.2,
-  λ P t. one_served (c.loop-i.invariant.5 P t) c.loop-i-test.true c.requires.sizes_value c.with_class-last.ensures.1 c.serve.ensures (ap not c.if-not-serve.false),
+  λ P t. one_served (c.loop-i.invariant.5 P t) c.loop-i-test.true c.requires.small_sizes c.with_class-last.ensures.1 c.serve.ensures (ap not c.if-not-serve.false),
 )
 
 pub returns : goal.returns

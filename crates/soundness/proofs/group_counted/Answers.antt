@@ -58,7 +58,7 @@ overflow_add-row c = omega (arith, row_begin c)
 
 pub members_counted-requires : goal.members_counted-requires
 members_counted-requires c =
-    record { row_record_bytes_in_bounds = search rules; begin_bound = (omega (arith, row_begin c), whole c.args.row c.args.i (omega arith)) }
+    record { record_in_bounds = search rules; begin_bound = (omega (arith, row_begin c), whole c.args.row c.args.i (omega arith)) }
 
 pub returns : goal.returns
 returns c =

@@ -19,7 +19,7 @@ law c =
     let a = c.args in
     let r = c.quad-r in
     let w = c.quad-w in
-    members_law a.s.now a.at a.c a.begin a.n r.result w.result c.requires.row_record_bytes_in_bounds.2 r.ensures w.ensures
+    members_law a.s.now a.at a.c a.begin a.n r.result w.result c.requires.record_in_bounds.2 r.ensures w.ensures
     ∙ rw (← c.slots_right-found.ensures.sound_value)
 
 pub returns-then-not-found : goal.returns-then-not-found
@@ -61,6 +61,6 @@ returns c =
     let t = drop a.at a.s.now in
     let right : members_checked a.c a.begin t ≡ true = live_law (goal.at.returns c).After-group_totals-t ∙ ap not (ne_eqb c.group_totals-t.result.blocks 0 (λ z. omega arith)) in
     ap Sound (c.group_totals-t.ensures
-    ∙ members_totals a.s.now a.at a.c a.begin a.n r.result w.result right c.requires.row_record_bytes_in_bounds.2 r.ensures w.ensures
+    ∙ members_totals a.s.now a.at a.c a.begin a.n r.result w.result right c.requires.record_in_bounds.2 r.ensures w.ensures
     c.slots_right-found.result.bytes a.k c.slots_right-found.ensures.bytes_value)
     ∙ sym (choose-true (members_checked a.c a.begin t) (Sound (group_totals a.k (view_group a.c t))) Unsound right)

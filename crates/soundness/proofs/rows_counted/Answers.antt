@@ -22,7 +22,7 @@ begun c =
 
 pub plus-s-requires : goal.plus-s-requires
 plus-s-requires c =
-    record { per_row = c.loop-s.invariant.light; per_row_2 = (begun c).light; b_bound = omega (arith, (begun c).few) }
+    record { per_row_a = c.loop-s.invariant.light; per_row_b = (begun c).light; b_bound = omega (arith, (begun c).few) }
 
 pub loop-s-smaller : goal.loop-s-smaller
 loop-s-smaller c = rw c.plus-s.ensures (omega (arith, (begun (goal.at.loop-s-smaller c).In-Sound).some, (begun (goal.at.loop-s-smaller c).In-Sound).few))

@@ -33,7 +33,7 @@ slice_bounds-gaps-end-2 c = simp length-append (omega (arith, noted_length (goal
 
 pub serve_all-requires : goal.serve_all-requires
 serve_all-requires c =
-    record { notes_of = (view c.args.row c.args.room.now, told-front _ _ (noted_length (goal.at.serve_all-requires c).After-note) c.note.ensures); sizes_value = c.requires.sizes_value; lawful = c.requires.lawful }
+    record { notes_of = (view c.args.row c.args.room.now, told-front _ _ (noted_length (goal.at.serve_all-requires c).After-note) c.note.ensures); small_sizes = c.requires.small_sizes; lawful = c.requires.lawful }
 
 pub returns : goal.returns
 returns c =

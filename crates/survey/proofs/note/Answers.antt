@@ -19,7 +19,7 @@ lent s = by_masks s.requires.room_value s.requires.lawful
 pub note_span-i-requires : goal.note_span-i-requires
 note_span-i-requires c =
     let a = ahead (lent (goal.at.note_span-i-requires c).Start) c.loop-i.invariant c.loop-i-test.true in
-    record { by_index = (c.args.len, a.0, a.1, a.2, a.3, a.4); lawful = search rules }
+    record { next_span = (c.args.len, a.0, a.1, a.2, a.3, a.4); lawful = search rules }
 
 turn : (c : After-note_span-i)
     → let a = c.args in

@@ -6,27 +6,27 @@ use Rattle.survey.proofs.note_span.Goals as goal
 use Rattle.survey.proofs.note_span.Goals.{After-masks_at-m, After-wide-c}
 
 pub holder_at-h-requires : goal.holder_at-h-requires
-holder_at-h-requires c = span_inside c.requires.by_index.4
+holder_at-h-requires c = span_inside c.requires.next_span.4
 
 pub bounds-gaps-i : goal.bounds-gaps-i
-bounds-gaps-i c = let p = c.requires.by_index in omega (arith, span_place p.4 p.5)
+bounds-gaps-i c = let p = c.requires.next_span in omega (arith, span_place p.4 p.5)
 
 pub returns-in_default : goal.returns-in_default
 returns-in_default c = let h = c.holder_at-h in λ len X s Y x n. free-next x n h.result h.ensures c.in_default.not-First
 
 pub masks_at-m-requires : goal.masks_at-m-requires
-masks_at-m-requires c = span_inside c.requires.by_index.4
+masks_at-m-requires c = span_inside c.requires.next_span.4
 
 -- what is known of the group
 known : (c : After-wide-c)
     → let a = c.args in Countable c.wide-c.result a.spare.now
 known c =
-    let p = c.requires.by_index in
+    let p = c.requires.next_span in
     rw c.wide-c.ensures.0 (countable p.4 p.5 c.holder_at-h.result c.holder_at-h.ensures c.in-First.k c.in-First.is)
 
 few : (c : After-masks_at-m) → ones c.masks_at-m.result.ready + ones c.masks_at-m.result.waiting ≤ 31
 few c =
-    let p = c.requires.by_index in
+    let p = c.requires.next_span in
     let h = c.holder_at-h in
     rw c.masks_at-m.ensures
     (omega (arith, masks_idle p.4 p.5 h.result h.ensures c.in-First.k c.in-First.is, idle_slots p.4 p.5 h.result h.ensures c.in-First.k c.in-First.is))

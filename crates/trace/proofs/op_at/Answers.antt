@@ -10,28 +10,28 @@ is : (k j : ℕ) (s : List ℕ) (p n : ℕ) → k ≡ j → op_at j s p n ≡ op
 is k j s p n e = ap (λ (i : ℕ). op_at i s p n) (sym e)
 
 pub big4-requires : goal.big4-requires
-big4-requires c = omega (arith, five _ 1 _ c.in-1.is (search rules) (search rules) c.requires.n_value)
+big4-requires c = omega (arith, five _ 1 _ c.in-1.is (search rules) (search rules) c.requires.n_fits)
 
 pub big4-requires-in-2 : goal.big4-requires-in-2
-big4-requires-in-2 c = omega (arith, five _ 2 _ c.in-2.is (search rules) (search rules) c.requires.n_value)
+big4-requires-in-2 c = omega (arith, five _ 2 _ c.in-2.is (search rules) (search rules) c.requires.n_fits)
 
 pub big4-requires-in-3 : goal.big4-requires-in-3
-big4-requires-in-3 c = omega (arith, five _ 3 _ c.in-3.is (search rules) (search rules) c.requires.n_value)
+big4-requires-in-3 c = omega (arith, five _ 3 _ c.in-3.is (search rules) (search rules) c.requires.n_fits)
 
 pub big4-requires-in-3-2 : goal.big4-requires-in-3-2
-big4-requires-in-3-2 c = omega (arith, nine _ 3 _ c.in-3.is (inl refl) c.requires.n_value)
+big4-requires-in-3-2 c = omega (arith, nine _ 3 _ c.in-3.is (inl refl) c.requires.n_fits)
 
 pub big4-requires-in-4 : goal.big4-requires-in-4
-big4-requires-in-4 c = omega (arith, five _ 4 _ c.in-4.is (search rules) (search rules) c.requires.n_value)
+big4-requires-in-4 c = omega (arith, five _ 4 _ c.in-4.is (search rules) (search rules) c.requires.n_fits)
 
 pub big4-requires-in-5 : goal.big4-requires-in-5
-big4-requires-in-5 c = omega (arith, five _ 5 _ c.in-5.is (search rules) (search rules) c.requires.n_value)
+big4-requires-in-5 c = omega (arith, five _ 5 _ c.in-5.is (search rules) (search rules) c.requires.n_fits)
 
 pub big4-requires-in-7 : goal.big4-requires-in-7
-big4-requires-in-7 c = omega (arith, nine _ 7 _ c.in-7.is (inr refl) c.requires.n_value)
+big4-requires-in-7 c = omega (arith, nine _ 7 _ c.in-7.is (inr refl) c.requires.n_fits)
 
 pub big4-requires-in-7-2 : goal.big4-requires-in-7-2
-big4-requires-in-7-2 c = omega (arith, nine _ 7 _ c.in-7.is (inr refl) c.requires.n_value)
+big4-requires-in-7-2 c = omega (arith, nine _ 7 _ c.in-7.is (inr refl) c.requires.n_fits)
 
 pub returns-in-1 : goal.returns-in-1
 unfolding op_at choose

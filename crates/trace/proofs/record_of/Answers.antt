@@ -14,7 +14,7 @@ pub returns-then-not-fits : goal.returns-then-not-fits
 returns-then-not-fits c = record-bad _ _ _ (sym c.fits.ensures ∙ c.if-not-fits.true)
 
 pub op_at-op-requires : goal.op_at-op-requires
-op_at-op-requires c = record { le_n = (omega arith, c.requires); n_value = sym c.fits.ensures ∙ c.if-not-fits.false }
+op_at-op-requires c = record { n_in_range = (omega arith, c.requires); n_fits = sym c.fits.ensures ∙ c.if-not-fits.false }
 
 pub returns : goal.returns
 returns c = record_good _ _ _ _ (sym c.fits.ensures ∙ c.if-not-fits.false) c.op_at-op.ensures

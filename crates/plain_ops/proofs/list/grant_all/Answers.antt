@@ -13,17 +13,17 @@ loop-i-init c =
       refl,
       refl,
       refl,
-      record { lent = by_slots h.room_value h.lawful; fits = h.sizes_value_2; arena = refl; pool = refl; list = refl },
+      record { lent = by_slots h.room_value h.lawful; fits = h.room_enough; arena = refl; pool = refl; list = refl },
     )
 
 pub grant_one-requires : goal.grant_one-requires
 grant_one-requires c =
     let l = c.loop-i in
-    record { room_value = l.invariant.4.lent.sound; n_lt_too_large = small_at c.args.sizes.now l.i c.requires.sizes_value.0 c.loop-i-test.true; lawful = c.requires.lawful }
+    record { room_value = l.invariant.4.lent.sound; n_lt_limit = small_at c.args.sizes.now l.i c.requires.small_sizes.0 c.loop-i-test.true; lawful = c.requires.lawful }
 
 pub bounds-handles-i : goal.bounds-handles-i
 bounds-handles-i c =
-    omega (arith, c.requires.sizes_value.1, c.loop-i.invariant.3, c.loop-i-test.true)
+    omega (arith, c.requires.small_sizes.1, c.loop-i.invariant.3, c.loop-i-test.true)
 
 pub loop-i-preserved : goal.loop-i-preserved
 loop-i-preserved c =
@@ -34,7 +34,7 @@ loop-i-preserved c =
       g.auto.arena ∙ l.invariant.1,
       g.auto.room ∙ l.invariant.2,
       length-set l.handles l.i g.result ∙ l.invariant.3,
-      (one_further slots_layout a.row a.sizes.now _ _ _ c.requires.sizes_value.0 l.i l.arena l.room l.handles c.loop-i-test.true l.invariant.4
+      (one_further slots_layout a.row a.sizes.now _ _ _ c.requires.small_sizes.0 l.i l.arena l.room l.handles c.loop-i-test.true l.invariant.4
           g.new.arena g.new.room g.result g.ensures.value g.ensures.arena_after g.ensures.room_after g.auto.arena).rest,
     )
 

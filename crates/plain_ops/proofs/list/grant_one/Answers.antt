@@ -38,7 +38,7 @@ lay_out-requires c =
     let a = c.args in
     let (q, f, e) = place (goal.at.lay_out-requires c).In-Taken in record {
       standing = subst (Standing a.row (length a.arena.now)) e
-          (reserved_stands (by_slots c.requires.room_value c.requires.lawful) ordinary a.n (plain c.requires.n_lt_too_large) q f);
+          (reserved_stands (by_slots c.requires.room_value c.requires.lawful) ordinary a.n (plain c.requires.n_lt_limit) q f);
       lawful = c.requires.lawful;
     }
 
@@ -55,4 +55,4 @@ returns c =
     }
 
 pub reserve_slot-requires : goal.reserve_slot-requires
-reserve_slot-requires c = record { room_value = c.requires.room_value; askable = plain c.requires.n_lt_too_large; lawful = c.requires.lawful }
+reserve_slot-requires c = record { room_value = c.requires.room_value; askable = plain c.requires.n_lt_limit; lawful = c.requires.lawful }
