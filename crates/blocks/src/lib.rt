@@ -9,7 +9,7 @@ ghost use Rattle.mem.specs.Bytes.{zeros, low, put, part};
 ghost use Rattle.classes.specs.Classes.{units_of, slot_bytes};
 ghost use Rattle.model.specs.Blocks.{reserved, header, guard, spare, frame, guard_right, damage_in};
 
-use model::{Damage, Refusal};
+use model::Refusal;
 
 // The bytes between the requested bytes and the end of a slot of so many bytes.
 fn reserved(bytes: usize, d: usize, n: usize) -> usize
@@ -107,7 +107,7 @@ fn guard_right(slot: &[u8], c: usize, d: usize, n: usize) -> bool
 }
 
 // Whether the header and the guard of a block are those due.
-fn inspect(slot: &[u8], c: usize, i: usize, d: usize, n: usize) -> Damage
+fn inspect(slot: &[u8], c: usize, i: usize, d: usize, n: usize) -> Result<(), Refusal>
     requires c_bound { (c < 48) × (16 * d + n + 4 ≤ slot_bytes c) }
     requires i_bound { (i < 32) × (length slot.now ≡ slot_bytes c) }
     ensures { result ≡ damage_in c i d n slot.now }
@@ -116,12 +116,12 @@ fn inspect(slot: &[u8], c: usize, i: usize, d: usize, n: usize) -> Damage
     let spare = reserved(slot.len(), d, n);
     let h = header(c, i, d, spare);
     if !mem::same_bytes(&slot[at..at + 4], &h) {
-        return Damage::Damaged(Refusal::HeaderDamaged);
+        return Err(Refusal::HeaderDamaged);
     }
     if !guard_right(slot, c, d, n) {
-        return Damage::Damaged(Refusal::Overrun);
+        return Err(Refusal::Overrun);
     }
-    Damage::Intact
+    Ok(())
 }
 
 // Writes the reserved bytes, which stand last in the slot.
@@ -165,7 +165,14 @@ fn reframe(slot: &mut [u8], c: usize, i: usize, d: usize, kept: usize, n: usize)
 }
 
 // The same over the whole arena, with the place of the slot's first owned byte: the slot's part is handed on.
-pub fn inspect_at(arena: &[u8], at: usize, c: usize, i: usize, d: usize, n: usize) -> Damage
+pub fn inspect_at(
+    arena: &[u8],
+    at: usize,
+    c: usize,
+    i: usize,
+    d: usize,
+    n: usize,
+) -> Result<(), Refusal>
     requires c_bound { (c < 48) × (16 * d + n + 4 ≤ slot_bytes c) }
     requires i_bound { (i < 32) × (at + slot_bytes c ≤ length arena.now) }
     ensures { result ≡ damage_in c i d n (part at (slot_bytes c) arena.now) }

@@ -3,7 +3,7 @@
 
 ghost use Rattle.std.specs.Prelude.{◌≡◌, ℕ, ◌+◌, ◌≤◌};
 ghost use Rattle.mem.specs.Lists.{any};
-ghost use Rattle.classes.specs.Classes.{Lawful, slot_bytes};
+ghost use Rattle.classes.specs.Classes.{slot_bytes};
 ghost use Rattle.model.specs.State.{Place, pool_of, become};
 ghost use Rattle.model.specs.Plans.{Site, grant_in, release_at};
 ghost use Rattle.model.specs.Tables.{masks_layout, encode};
@@ -11,6 +11,7 @@ ghost use Rattle.rows.specs.Rows.{block_of, resized, Holds, Offers};
 ghost use Rattle.totals.specs.Changes.{refills};
 ghost use Rattle.changes.specs.Changes.{left_as};
 
+use classes::Row;
 use model::Slot;
 use rows::Block;
 
@@ -29,18 +30,17 @@ pub enum Left {
 }
 
 // Takes the lowest ready slot of the group of class c at row i, for n bytes. If none is ready, all waiting slots become ready first.
-pub fn take_slot(row: usize, room: &mut [u8], i: usize, c: usize, code: u8, n: usize) -> Taken
-    requires offers { (g : Site) × Offers masks_layout row room.old i c g }
+pub fn take_slot(row: Row, room: &mut [u8], i: usize, c: usize, code: u8, n: usize) -> Taken
+    requires offers { (g : Site) × Offers masks_layout row.bytes room.old i c g }
     requires code_bound { (code ≤ 9) × (n + 4 ≤ slot_bytes c) }
-    requires lawful { Lawful row }
-    ensures { (g : Site) → Offers masks_layout row room.old i c g
-        → (result.block ≡ block_of row (grant_in row c code n g)) × (room.new ≡ encode row (pool_of (grant_in row c code n g)))
+    ensures { (g : Site) → Offers masks_layout row.bytes room.old i c g
+        → (result.block ≡ block_of row.bytes (grant_in row.bytes c code n g)) × (room.new ≡ encode row.bytes (pool_of (grant_in row.bytes c code n g)))
         × (result.refilled ≡ refills g.slots) }
 {
     let old = records::masks_at(room, i);
     let m = old.refill();
     let j = m.lowest();
-    let begin = row * i + 16 + j as usize * (16 * classes::units(c));
+    let begin = row.bytes * i + 16 + j as usize * (16 * classes::units(c));
     let a = placing::grant_slot(c, code, n, begin, records::slot_at(room, i, m, j));
     records::store(room, i, m.take(), j as usize, Slot::Live(a));
     Taken {
@@ -55,11 +55,10 @@ pub fn take_slot(row: usize, room: &mut [u8], i: usize, c: usize, code: u8, n: u
 }
 
 // Gives a block's slot back, which then waits. If no slot of its group is live any more, the group goes and its rows are free.
-pub fn give_slot(row: usize, room: &mut [u8], b: Block) -> Left
-    requires holds { (p : Place) × Holds masks_layout row room.old b p }
-    requires lawful { Lawful row }
-    ensures { (p : Place) → Holds masks_layout row room.old b p
-        → (result ≡ left_as p) × (room.new ≡ encode row (release_at row p).pool) }
+pub fn give_slot(row: Row, room: &mut [u8], b: Block) -> Left
+    requires holds { (p : Place) × Holds masks_layout row.bytes room.old b p }
+    ensures { (p : Place) → Holds masks_layout row.bytes room.old b p
+        → (result ≡ left_as p) × (room.new ≡ encode row.bytes (release_at row.bytes p).pool) }
 {
     let i = b.first;
     let c = b.class;

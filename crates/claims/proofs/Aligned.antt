@@ -1,5 +1,5 @@
 -- Aligned grants: those up to 16 are ordinary, what they refuse, and that the start is the lowest multiple in its slot.
-use Rattle.mem.proofs.Prelude.{◌∙◌, ◌≡◌, sym, ap, refl, subst, ℕ, ◌+◌, ◌*◌, ◌-◌, ◌%◌, ◌^◌, ◌<◌, ◌≤◌, suc, zero, ◌/◌, some, not, ⊎_elim, inl, inr, ◌⊎◌}
+use Rattle.mem.proofs.Prelude.{◌∙◌, ◌≡◌, sym, ap, refl, subst, ℕ, ◌+◌, ◌*◌, ◌-◌, ◌%◌, ◌^◌, ◌<◌, ◌≤◌, suc, zero, ◌/◌, Some, not, ⊎_elim, inl, inr, ◌⊎◌}
 use Rattle.mem.proofs.Prelude.{arith, T, ltb, leb, length, lit≤, lt-ltb, lt-leb}
 use Prim.Native.Nat.{max}
 use native.Mathlib.Nat.{pow-le-pow_right}
@@ -125,7 +125,7 @@ aligned_as_said row pos F L a t n b z =
     stands : Stands row (length a) P
     stands = (L.only (length a) t y.sound-tables).0
 
-    said : (q : Place) → Askable (code_of b) n → reserve row P (code_of b) n ≡ some q → call_by row F a t asks ≡ applied F a (grant_at row P (some q))
+    said : (q : Place) → Askable (code_of b) n → reserve row P (code_of b) n ≡ Some q → call_by row F a t asks ≡ applied F a (grant_at row P (Some q))
         → GrantedAligned row F a t n b q
     said q h e l =
         let k : ℕ = code_of b in

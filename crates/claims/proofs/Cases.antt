@@ -1,5 +1,5 @@
 -- What a call's plan is, case by case.
-use Rattle.mem.proofs.Prelude.{◌∙◌, ◌≡◌, sym, ap, refl, subst, ⊎_elim, some, none, Option, List, [], ◌∷◌, ◌++◌, ℕ, ◌<◌, ◌≤◌, arith, leb-false, T, leb}
+use Rattle.mem.proofs.Prelude.{◌∙◌, ◌≡◌, sym, ap, refl, subst, ⊎_elim, Some, None, Option, List, [], ◌∷◌, ◌++◌, ℕ, ◌<◌, ◌≤◌, arith, leb-false, T, leb}
 use Rattle.mem.proofs.Prelude.{ltb, replicate}
 use borrow.Author.Tests.{ltb-true}
 use Rattle.mem.specs.Lists.{any}
@@ -51,15 +51,15 @@ by_call M s f reports = f reports tt
 by_call M s f (grants_list total cap places ns) = f (grants_list total cap places ns) tt
 
 -- a release, whether its group stays or goes
-pub release_parts : (row : ℕ) (p : Place) → ((release_at row p).checks ≡ some p) × ((release_at row p).answer ≡ done (0 ∷ []))
+pub release_parts : (row : ℕ) (p : Place) → ((release_at row p).checks ≡ Some p) × ((release_at row p).answer ≡ done (0 ∷ []))
 unfolding release_at
 release_parts row p =
-    choose_case (λ (r : Plan). (r.checks ≡ some p) × (r.answer ≡ done (0 ∷ []))) (any is_live (p.lower ++ p.upper)) _ _
+    choose_case (λ (r : Plan). (r.checks ≡ Some p) × (r.answer ≡ done (0 ∷ []))) (any is_live (p.lower ++ p.upper)) _ _
     (λ e. (refl, refl)) (λ e. (refl, refl))
 
 -- the live block that a call names by its handle
 pub record Named (row : ℕ) (P : Pool) (h : ℕ) (p : Place) : Type 0 where
-  pub found : lookup row P (start_of h) ≡ some p
+  pub found : lookup row P (start_of h) ≡ Some p
   pub pool : pool_of p ≡ P
   pub live : T (is_live p.state)
   pub starts : start row p ≡ start_of h
@@ -73,7 +73,7 @@ module _ (row : ℕ) (pos : 0 < row) (P : Pool) (M : Plan → Type 0) (no : (r :
       (λ p e i l b. k p (record { found = e; pool = i; live = l; starts = (lookup_found row pos P (start_of h) p e).2; present = b }))
 
   -- a grant with an alignment that the tables keep
-  pub on_grant : (k n : ℕ) → 1 ≤ k → k ≤ 9 → ((q : Place) → Askable k n → reserve row P k n ≡ some q → M (grant_at row P (some q)))
+  pub on_grant : (k n : ℕ) → 1 ≤ k → k ≤ 9 → ((q : Place) → Askable k n → reserve row P k n ≡ Some q → M (grant_at row P (Some q)))
       → M (grant_as row P k n)
   unfolding grant_as
   on_grant k n s l f =
@@ -81,11 +81,11 @@ module _ (row : ℕ) (pos : 0 < row) (P : Pool) (M : Plan → Type 0) (no : (r :
       (λ e. go (record { some_code = s; last_code = l; small = leb-false size_limit (enlarged k n) e }) (reserve row P k n) refl)
     where
       go : Askable k n → (r : Option Place) → reserve row P k n ≡ r → M (grant_at row P r)
-      go h none e = no NoRoom
-      go h (some q) e = f q h e
+      go h None e = no NoRoom
+      go h (Some q) e = f q h e
 
   -- an aligned grant is one of the alignment's code, if it has one
-  pub on_aligned : (n b : ℕ) → ((q : Place) → Askable (code_of b) n → reserve row P (code_of b) n ≡ some q → M (grant_at row P (some q)))
+  pub on_aligned : (n b : ℕ) → ((q : Place) → Askable (code_of b) n → reserve row P (code_of b) n ≡ Some q → M (grant_at row P (Some q)))
       → M (grant_aligned row P n b)
   unfolding grant_aligned
   on_aligned n b f =
@@ -107,15 +107,15 @@ module _ (row : ℕ) (pos : 0 < row) (P : Pool) (M : Plan → Type 0) (no : (r :
 
   -- a move asks for the block's own alignment
   pub on_move : T (well_formed P) → (h n : ℕ) → ((p : Place) → Named row P h p → M (refused_on NoRoom P p))
-      → ((p q : Place) → Named row P h p → Askable (align p.state) n → reserve row P (align p.state) n ≡ some q → M (move_to row P p n (some q)))
+      → ((p q : Place) → Named row P h p → Askable (align p.state) n → reserve row P (align p.state) n ≡ Some q → M (move_to row P p n (Some q)))
       → M (move row P h n)
   unfolding move move_at
   on_move w h n full moved = on_named_for w h n (move_at row P n) (λ p b s. go p b s (reserve row P (align p.state) n) refl)
     where
       go : (p : Place) → Named row P h p → Askable (align p.state) n → (r : Option Place) → reserve row P (align p.state) n ≡ r
           → M (move_to row P p n r)
-      go p b s none e = full p b
-      go p b s (some q) e = moved p q b s e
+      go p b s None e = full p b
+      go p b s (Some q) e = moved p q b s e
 
 -- what a grant takes is live
 pub reserve-live : (row : ℕ) (P : Pool) (k n : ℕ) (q : Place) → Served row P k n q → T (is_live q.state)

@@ -1,5 +1,5 @@
 -- What the tables say of each byte of the arena, arenas that agree with it, and what a write to one slot leaves.
-use Rattle.mem.proofs.Prelude.{◌∙◌, ◌≡◌, sym, ap, refl, ap₂, subst, List, [], ◌∷◌, ◌++◌, append_assoc, map, append-nil, ◌+◌, ℕ, ◌<◌, ◌≤◌, ◌*◌, ◌-◌}
+use Rattle.mem.proofs.Prelude.{◌∙◌, ◌≡◌, sym, ap, refl, ap₂, subst, List, [], ◌∷◌, ◌++◌, append_assoc, map, append-nil, ◌+◌, ℕ, ◌<◌, ◌≤◌, ◌*◌, ◌-◌, Ok}
 use Rattle.mem.proofs.Prelude.{suc, zero, min, zero-add, arith, T, ltb→lt, length, drop, length-append, replicate, take, length-map, length-replicate}
 use mathlib.Core.List.{map-append}
 use native.Mathlib.Nat.{mul-zero}
@@ -12,7 +12,6 @@ use Rattle.classes.specs.Classes.{slot_bytes, slots_of, rows_of}
 use Rattle.classes.proofs.Laws.{rows_hold}
 use Rattle.model.specs.declared.Slot.{Slot}
 use Rattle.model.specs.declared.Slot.TheVariants.{Live}
-use Rattle.model.specs.declared.Damage.TheVariants.{Intact}
 use Rattle.model.specs.State.{Span, Pool, Place, free, group, is_live, disp, size, slot_sound, span_sound, well_formed, pool_of, slot_number, rows, owned, count}
 use Rattle.model.specs.State.{become, start, align}
 use Rattle.model.specs.Blocks.{reserved, header, first_spare, spare, guard, frame, header_right, guard_right, damage_in, owned_bytes, damage}
@@ -229,7 +228,7 @@ first-due c i d n bs f =
     due_agrees z _ (agrees_part (16 * d + 4 + n) (length z) A (due z) (due rest) bs l (due-length z) (subst (λ l. Agrees l bs) q f))
 
 -- header and guard are those due
-undamaged_in : (c i d n : ℕ) (bs : List ℕ) → 16 * d + n + 4 ≤ slot_bytes c → Agrees (block_cells c i d n) bs → damage_in c i d n bs ≡ Intact
+undamaged_in : (c i d n : ℕ) (bs : List ℕ) → 16 * d + n + 4 ≤ slot_bytes c → Agrees (block_cells c i d n) bs → damage_in c i d n bs ≡ Ok tt
 unfolding block_cells damage_in header_right guard_right spare choose
 undamaged_in c i d n bs h f =
     let r : ℕ = reserved c d n in
@@ -259,7 +258,7 @@ undamaged_in c i d n bs h f =
 
 module _ (row : ℕ) (pos : 0 < row) (p : Place) (f : Fits p) (a : List ℕ) where
   -- a live block is undamaged
-  pub undamaged : T (is_live p.state) → Agrees (cells row (pool_of p)) a → damage row a p ≡ Intact
+  pub undamaged : T (is_live p.state) → Agrees (cells row (pool_of p)) a → damage row a p ≡ Ok tt
   undamaged l g =
       let M : List Cell = slot_cells p.cls (slot_number p) p.state in
       let r : Agrees M (owned_bytes row a p) =

@@ -1,5 +1,5 @@
 -- Demand 1: every call ends with the number of the first reason that is due, or 0, and a refusal changes no byte.
-use Rattle.mem.proofs.Prelude.{◌≡◌, sym, ap, refl, subst, true, Bool, false, inl, inr, some, none, Option, List, [], ◌∷◌, ℕ, ◌<◌, ◌≤◌, ◌+◌, ◌-◌, ◌%◌, arith}
+use Rattle.mem.proofs.Prelude.{◌≡◌, sym, ap, refl, subst, true, Bool, false, inl, inr, Some, None, Option, List, [], ◌∷◌, ℕ, ◌<◌, ◌≤◌, ◌+◌, ◌-◌, ◌%◌, arith}
 use Rattle.mem.proofs.Prelude.{◌&&◌, not, leb-false, leb-true, eqb-true, eqb-false, T, eqb, leb, ltb, T_not, length, replicate, ⊎_elim, true≢false}
 use mathlib.Core.Logic.{◌↔◌}
 use borrow.Author.Tests.{ltb-true, ltb-false}
@@ -12,9 +12,8 @@ use Rattle.model.specs.declared.Slot.{Slot}
 use Rattle.model.specs.declared.Slot.TheVariants.{Fresh, Idle, Live}
 use Rattle.model.specs.declared.Refusal.TheVariants.{BadArena, TooLarge, AlreadyFree, Stale, NotInPlace, NoRoom}
 use Rattle.model.specs.declared.Refusal.TheVariants.{TooLong, BadProposal, BadAlignment}
-use Rattle.model.specs.declared.Damage.{Damage}
 use Rattle.model.specs.State.{Pool, Place, is_live, granted, count, align, well_formed, use_bits, start_of, pool_of, start, handle}
-use Rattle.model.specs.Blocks.{damage_in}
+use Rattle.model.specs.Blocks.{damage_in, Damage}
 use Rattle.model.specs.Answers.{number_of, refusal}
 use Rattle.model.specs.Plans.{Plan, Call, sets_up, grants, grants_aligned, releases, resizes_in_place, moves, measures, reports, grants_list, values_of}
 use Rattle.model.specs.Plans.{refused, refused_on, plan, NoPlace}
@@ -46,17 +45,17 @@ idle_size (Live a) n e = absurd (true≢false e)
 
 module _ (row : ℕ) (pos : 0 < row) (P : Pool) (o : ℕ) where
   -- the look-up finds the one granted slot that starts at an offset
-  pub starts_found : (p : Place) → T (well_formed P) → StartsAt row P o p → lookup row P o ≡ some p
+  pub starts_found : (p : Place) → T (well_formed P) → StartsAt row P o p → lookup row P o ≡ Some p
   starts_found p w s =
       rw (← s.slotted.pool, ← s.starts) (lookup-start row pos p (subst (λ Q. T (well_formed Q)) (sym s.slotted.pool) w) s.slotted.granted_once)
 
-  pub none-starts : (p : Place) → T (well_formed P) → lookup row P o ≡ none → StartsAt row P o p → ⊥
+  pub none-starts : (p : Place) → T (well_formed P) → lookup row P o ≡ None → StartsAt row P o p → ⊥
   none-starts p w e s =
-      let f : lookup row P o ≡ some p = starts_found p w s in
+      let f : lookup row P o ≡ Some p = starts_found p w s in
       let z : ◌≡◌ {A = ℕ} 0 1 = cc in
       omega arith
 
-  pub found_starts : (p : Place) → lookup row P o ≡ some p → StartsAt row P o p
+  pub found_starts : (p : Place) → lookup row P o ≡ Some p → StartsAt row P o p
   found_starts p e =
       let f : (pool_of p ≡ P) × T (granted p.state) × (start row p ≡ o) = lookup_found row pos P o p e in
       record { slotted = record { pool = f.0; granted_once = f.1 }; starts = f.2 }
@@ -64,8 +63,8 @@ module _ (row : ℕ) (pos : 0 < row) (P : Pool) (o : ℕ) where
   -- so there is but one
   pub starts-same : (p q : Place) → T (well_formed P) → StartsAt row P o p → StartsAt row P o q → p ≡ q
   starts-same p q w s r =
-      let e : lookup row P o ≡ some p = starts_found p w s in
-      let f : lookup row P o ≡ some q = starts_found q w r in
+      let e : lookup row P o ≡ Some p = starts_found p w s in
+      let f : lookup row P o ≡ Some q = starts_found q w r in
       cc
 
   pub starts_alike : (M : Place → Bool) (p q : Place) → T (well_formed P) → StartsAt row P o p → StartsAt row P o q → T (M p) → T (M q)
@@ -92,8 +91,8 @@ module _ (row : ℕ) (pos : 0 < row) (P : Pool) (h : ℕ) where
       o = start_of h
 
       go : (r : Option Place) → lookup row P o ≡ r → (size_limit ≤ new_size r n) ↔ TooLargeAt row P h n
-      go none e = (inl, ⊎_elim (λ x. x) (λ (p, l, _). absurd (none-starts row pos P o p w e l.here)))
-      go (some p) e = (
+      go None e = (inl, ⊎_elim (λ x. x) (λ (p, l, _). absurd (none-starts row pos P o p w e l.here)))
+      go (Some p) e = (
         by_state (is_live p.state) refl,
         ⊎_elim (λ x. omega (arith, x, enlarged_least (align p.state) n))
             (λ (q, l, x). subst (λ y. size_limit ≤ enlarged (align y.state) n) (starts-same row pos P o q p w l.here (found_starts row pos P o p e))
@@ -176,8 +175,8 @@ module _ (row : ℕ) (pos : 0 < row) (F : Form) (L : FormLaws row F) (a : List �
     granted-right k n {D} {E} large full = small-right _ (enlarged k n) large (room (reserve row P k n) refl)
       where
         room : (r : Option Place) → reserve row P k n ≡ r → Right c (when NoRoom E ∷ []) (carried_by row F a t (grant_at row P r))
-        room none e = refused-right (full.0 (reserve-none row pos P k n e))
-        room (some q) e = later_right c (λ d. reserve-some row P k n q e (full.1 d)) (done-right c _ refl)
+        room None e = refused-right (full.0 (reserve-none row pos P k n e))
+        room (Some q) e = later_right c (λ d. reserve-some row P k n q e (full.1 d)) (done-right c _ refl)
 
   -- and on a block by its handle
   module _ (s : Sound) (c : Call) (v : values_of c ≡ 1) (h : ℕ) where
@@ -185,7 +184,7 @@ module _ (row : ℕ) (pos : 0 < row) (F : Form) (L : FormLaws row F) (a : List �
     o = start_of h
 
     -- a live block's header and guard
-    intact_right : (rs : List Reason) (p : Place) (f : Plan) → f.checks ≡ some p → LiveAt row P o p
+    intact_right : (rs : List Reason) (p : Place) (f : Plan) → f.checks ≡ Some p → LiveAt row P o p
         → Right c rs (applied F a f) → Right c (header_damaged row a P h ∷ overrun row a P h ∷ rs) (carried_by row F a t f)
     unfolding carried_by unless damage_in
     intact_right rs p f k l r =
@@ -204,7 +203,7 @@ module _ (row : ℕ) (pos : 0 < row) (F : Form) (L : FormLaws row F) (a : List �
         alike M q m e = starts_alike row pos P o M p q s.0.formed l.here m.here (true-T (M p) e)
 
     -- and before them the bits of the handle
-    present_right : (rs : List Reason) (p : Place) (f : Place → Plan) → (f p).checks ≡ some p → LiveAt row P o p → Right c rs (applied F a (f p))
+    present_right : (rs : List Reason) (p : Place) (f : Place → Plan) → (f p).checks ≡ Some p → LiveAt row P o p → Right c rs (applied F a (f p))
         → Right c (stale row a P h ∷ header_damaged row a P h ∷ overrun row a P h ∷ rs) (carried_by row F a t (by_handle P h f p))
     present_right rs p f k l r =
         let bits : (handle row p ≡ h) ↔ (h % 16 ≡ use_bits (count p.state)) = by_bits row p h l.here.starts in
@@ -217,14 +216,14 @@ module _ (row : ℕ) (pos : 0 < row) (F : Form) (L : FormLaws row F) (a : List �
 
     -- what is done with the block of a handle
     block_right : (rs : List Reason) (f : Place → Plan)
-        → ((p : Place) → ((f p).checks ≡ some p) × (LiveAt row P o p → Right c rs (applied F a (f p))))
+        → ((p : Place) → ((f p).checks ≡ Some p) × (LiveAt row P o p → Right c rs (applied F a (f p))))
         → Right c (block_reasons row a P h rs) (carried_by row F a t (on_handle row P h f))
     unfolding on_handle
     block_right rs f k = found (lookup row P o) refl
       where
         found : (r : Option Place) → lookup row P o ≡ r → Right c (block_reasons row a P h rs) (carried_by row F a t (on_block P (by_handle P h f) r))
-        found none e = refused-right s c v (λ p h. none-starts row pos P o p s.0.formed e h)
-        found (some p) e =
+        found None e = refused-right s c v (λ p h. none-starts row pos P o p s.0.formed e h)
+        found (Some p) e =
             let i : StartsAt row P o p = found_starts row pos P o p e in
             later_right c (λ d. d p i)
             (choose_case (λ z. Right c (already_free row a P h ∷ stale row a P h ∷ header_damaged row a P h ∷ overrun row a P h ∷ rs) (carried_by row F a t z))
@@ -263,7 +262,7 @@ module _ (row : ℕ) (pos : 0 < row) (F : Form) (L : FormLaws row F) (a : List �
 
     -- a call that gives the block of a handle n bytes, and that the block itself may refuse
     sized-right : (c : Call) → values_of c ≡ 1 → (h n : ℕ) (r : Reason) (f : Place → Plan)
-        → ((p : Place) → ((f p).checks ≡ some p) × (LiveAt row P (start_of h) p → Right c (r ∷ []) (applied F a (f p))))
+        → ((p : Place) → ((f p).checks ≡ Some p) × (LiveAt row P (start_of h) p → Right c (r ∷ []) (applied F a (f p))))
         → Right c (new_size_reasons row a P h n r) (carried_by row F a t (on_handle_for row P h n f))
     unfolding on_handle_for
     sized-right c v h n r f k =
@@ -274,7 +273,7 @@ module _ (row : ℕ) (pos : 0 < row) (F : Form) (L : FormLaws row F) (a : List �
     unfolding plan
     in_place-right h n =
         sized-right c refl h n no_place (in_place_at row P n)
-        (λ p. choose_case (λ (z : Plan). (z.checks ≡ some p) × (LiveAt row P o p → Right c (no_place ∷ []) (applied F a z))) (fits_in_place p n)
+        (λ p. choose_case (λ (z : Plan). (z.checks ≡ Some p) × (LiveAt row P o p → Right c (no_place ∷ []) (applied F a z))) (fits_in_place p n)
         (resize_at row p n) (refused_on NotInPlace P p)
         (λ e. (refl, λ l. later_right c (λ (q, m, d). d (fitting p q e l m)) (done-right c _ refl)))
         (λ e. (refl, λ l. due-right c (gives_one c refl) (sym s.1) (p, l, λ v. subst T e ((live_serves row pos P o p n s.0.formed l).1 v)))))
@@ -313,13 +312,13 @@ module _ (row : ℕ) (pos : 0 < row) (F : Form) (L : FormLaws row F) (a : List �
         Full m = NoPlace row P (class_of m)
 
         room : (p : Place) (r : Option Place) → reserve row P (align p.state) n ≡ r
-            → ((move_to row P p n r).checks ≡ some p) × (LiveAt row P o p → Right c (no_room ∷ []) (applied F a (move_to row P p n r)))
-        room p none f = (
+            → ((move_to row P p n r).checks ≡ Some p) × (LiveAt row P o p → Right c (no_room ∷ []) (applied F a (move_to row P p n r)))
+        room p None f = (
           refl,
           λ l. due-right c (gives_one c refl) (sym s.1)
               (p, l, subst Full (live-enlarged row pos P o p n s.0.formed l) (reserve-none row pos P (align p.state) n f)),
         )
-        room p (some q) f = (
+        room p (Some q) f = (
           refl,
           λ l. later_right c
               (λ (x, m, d). reserve-some row P (align p.state) n q f
@@ -349,8 +348,8 @@ module _ (row : ℕ) (pos : 0 < row) (F : Form) (L : FormLaws row F) (a : List �
         M rs p = Right c rs (carried_by row F a t p)
 
         room : (o : Option (List Place)) → reserve_all row P ns ≡ o → M (when NoRoom (Meets row P ns) ∷ []) (grant_all_at row P o)
-        room none e = refused-right s c refl (meets row pos P ns e)
-        room (some qs) e = later_right c (meets_none row P ns qs e) (done-right c _ refl)
+        room None e = refused-right s c refl (meets row pos P ns e)
+        room (Some qs) e = later_right c (meets_none row P ns qs e) (done-right c _ refl)
 
   call-right : (c : Call) → Right c (reasons row F a t c) (call_by row F a t c)
   unfolding call_by choose plan carried_by unless

@@ -1,6 +1,6 @@
 -- Demand 2: release, measure and grant accept exactly what document 01 says, a granted block is where and what it says, and live blocks
 -- never share a byte.
-use Rattle.mem.proofs.Prelude.{◌∙◌, ◌≡◌, sym, ap, refl, ap₂, subst, true, Bool, false, not, ⊎_elim, inl, inr, ◌⊎◌, some, none, Option, List, [], ◌∷◌, ◌++◌, ℕ}
+use Rattle.mem.proofs.Prelude.{◌∙◌, ◌≡◌, sym, ap, refl, ap₂, subst, true, Bool, false, not, ⊎_elim, inl, inr, ◌⊎◌, Some, None, Option, List, [], ◌∷◌, ◌++◌, ℕ, Ok, Err}
 use Rattle.mem.proofs.Prelude.{◌<◌, ◌≤◌, ◌+◌, ◌*◌, ◌-◌, ◌%◌, ◌&&◌, arith, le-leb, leb, leb-true, leb-false, T, T_not, eqb, eq-eqb, eqb→eq, lit≤, length}
 use Rattle.mem.proofs.Prelude.{length-map, map, get_or}
 use mathlib.Core.Logic.{◌↔◌}
@@ -14,11 +14,9 @@ use Rattle.classes.specs.Alignments.{ordinary, align_of, enlarged, Askable}
 use Rattle.model.specs.declared.Slot.{Slot}
 use Rattle.model.specs.declared.Slot.TheVariants.{Fresh, Idle, Live}
 use Rattle.model.specs.declared.Refusal.TheVariants.{TooLarge, NotInPlace}
-use Rattle.model.specs.declared.Damage.{Damage}
-use Rattle.model.specs.declared.Damage.TheVariants.{Intact, Damaged}
 use Rattle.model.specs.State.{Pool, Place, group, is_live, is_ready, count, disp, size, align, well_formed, use_bits, start_of, pool_of, slot_number, rows}
 use Rattle.model.specs.State.{beginning, owned, start, handle}
-use Rattle.model.specs.Blocks.{frame, damage_in}
+use Rattle.model.specs.Blocks.{frame, damage_in, Damage}
 use Rattle.model.specs.Answers.{number_of, refusal}
 use Rattle.model.specs.Plans.{Plan, Site, fresh_pool, AllLive, NoPlace, plan, reserve, turn_ready, refill, displaced, grant_slot, enframe}
 use Rattle.model.specs.Plans.{Call, sets_up, grants, grants_aligned, releases, resizes_in_place, moves, measures, reports, grants_list}
@@ -117,8 +115,8 @@ module _ (row : ℕ) (pos : 0 < row) (F : Form) (L : FormLaws row F) (a : List �
       asked-sound (grants_list total cap places ns) k n = unrefuted (F.sound (length a) t) n.0
 
       intact : (d : Damage) → call_by row F a t c ≡ unless d (applied F a p) (λ r. keeps (refusal r) a t) → call_by row F a t c ≡ applied F a p
-      intact Intact e = e
-      intact (Damaged r) e = absurd (refuses r (ap (λ r. r.answer.number) (sym e) ∙ z))
+      intact (Ok tt) e = e
+      intact (Err r) e = absurd (refuses r (ap (λ r. r.answer.number) (sym e) ∙ z))
 
   pub set_up_accepted : (call_by row F a t sets_up).answer.number ≡ 0 → T (set_up_right_by row F a t)
   set_up_accepted z = unrefuted (set_up_right_by row F a t) (none-due (reasons row F a t sets_up) _ (demand1 row pos F L a t sets_up).number z).0
@@ -168,8 +166,8 @@ module _ (row : ℕ) (pos : 0 < row) (F : Form) (L : FormLaws row F) (a : List �
       o = start_of h
 
       whole : (r : Option Place) → lookup row P o ≡ r → NoneDue (block_reasons row a P h rs) → (p : Place) × demand2.Intact row a P h p
-      whole none e (n₄, _) = absurd (n₄ (λ p i. none-starts row pos P o p w e i))
-      whole (some p) e (_, (n₅, (n₁₀, (n₆, (n₇, _))))) =
+      whole None e (n₄, _) = absurd (n₄ (λ p i. none-starts row pos P o p w e i))
+      whole (Some p) e (_, (n₅, (n₁₀, (n₆, (n₇, _))))) =
           let i : StartsAt row P o p = found_starts row pos P o p e in
           let l : LiveAt row P o p = record { here = i; live = unrefuted (is_live p.state) (λ d. n₅ (p, i, d)) } in
           let m : T (header_due row a p) = unrefuted (header_due row a p) (λ d. n₆ (p, l, d)) in (
@@ -326,8 +324,8 @@ module _ (row : ℕ) (pos : 0 < row) (F : Form) (L : FormLaws row F) (a : List �
   abbrev c : ℕ
   c = class_of (enlarged k n)
 
-  pub granted_by : Stands row (length a) S → (q : Place) → Askable k n → reserve row S k n ≡ some q
-      → call_by row F a t asks ≡ applied F a (grant_at row S (some q)) → GrantedBy row F a t asks k n c q
+  pub granted_by : Stands row (length a) S → (q : Place) → Askable k n → reserve row S k n ≡ Some q
+      → call_by row F a t asks ≡ applied F a (grant_at row S (Some q)) → GrantedBy row F a t asks k n c q
   unfolding grant_in grant_slot enframe
   granted_by y q h e l =
       let w : T (well_formed S) = y.formed in

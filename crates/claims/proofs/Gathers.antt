@@ -1,5 +1,5 @@
 -- What a list of grants does to the arena: it leaves the requested bytes of live blocks, and those of its own blocks are zero when it ends.
-use Rattle.mem.proofs.Prelude.{◌∙◌, ◌≡◌, sym, ap, subst, ⊎_elim, inl, inr, some, List, ◌∷◌, ◌++◌, append_assoc, map, ◌+◌, ℕ, ◌<◌, ◌≤◌, ◌*◌, ◌%◌, refl, arith, T}
+use Rattle.mem.proofs.Prelude.{◌∙◌, ◌≡◌, sym, ap, subst, ⊎_elim, inl, inr, Some, List, ◌∷◌, ◌++◌, append_assoc, map, ◌+◌, ℕ, ◌<◌, ◌≤◌, ◌*◌, ◌%◌, refl, arith, T}
 use Rattle.mem.proofs.Prelude.{length, get_or, length-append}
 use Rattle.mem.specs.Bytes.{zeros, put}
 use Rattle.mem.proofs.Laws.{zeros-length, zeros-put, put-before, put-past}
@@ -39,7 +39,7 @@ module _ (row : ℕ) where
     Leaves P qs = (p : Place) → pool_of p ≡ P → T (is_live p.state) → (a : List ℕ) (i : ℕ) → start row p ≤ i → i < start row p + size p.state
         → get_or (written a (map (enframe row) qs)) i 0 ≡ get_or a i 0
 
-    module _ (P : Pool) (j n : ℕ) (q : Place) (w : T (well_formed P)) (s : Askable j n) (r : reserve row P j n ≡ some q) where
+    module _ (P : Pool) (j n : ℕ) (q : Place) (w : T (well_formed P)) (s : Askable j n) (r : reserve row P j n ≡ Some q) where
       grant-leaves : (p : Place) → pool_of p ≡ P → T (is_live p.state) → (a : List ℕ) (i : ℕ) → start row p ≤ i → i < start row p + size p.state
           → get_or (write a (enframe row q)) i 0 ≡ get_or a i 0
       unfolding enframe
@@ -63,7 +63,7 @@ module _ (row : ℕ) where
     abbrev Clears : Pool → List ℕ → List Place → Type 0
     Clears P ns qs = Leaves P qs × ((a : List ℕ) (i : ℕ) → GainsEach row (map (handle row) qs) ns i → get_or (written a (map (enframe row) qs)) i 0 ≡ 0)
 
-    clears_more : row % 16 ≡ 0 → (P : Pool) (n : ℕ) (ns : List ℕ) (q : Place) (qs : List Place) → T (well_formed P) → reserve row P ordinary n ≡ some q
+    clears_more : row % 16 ≡ 0 → (P : Pool) (n : ℕ) (ns : List ℕ) (q : Place) (qs : List Place) → T (well_formed P) → reserve row P ordinary n ≡ Some q
         → Clears (pool_of q) ns qs → (a : List ℕ) (i : ℕ) → GainsEach row (map (handle row) (q ∷ qs)) (n ∷ ns) i
         → get_or (written a (map (enframe row) (q ∷ qs))) i 0 ≡ 0
     clears_more u P n ns q qs w r k a i (inl g) =
@@ -73,7 +73,7 @@ module _ (row : ℕ) where
         ∙ framed q a i from (omega (arith, to, z))
     clears_more u P n ns q qs w r k a i (inr g) = k.1 (write a (enframe row q)) i g
 
-    pub list_clears : row % 16 ≡ 0 → (P : Pool) (ns : List ℕ) (qs : List Place) → T (well_formed P) → T (small ns) → reserve_all row P ns ≡ some qs
+    pub list_clears : row % 16 ≡ 0 → (P : Pool) (ns : List ℕ) (qs : List Place) → T (well_formed P) → T (small ns) → reserve_all row P ns ≡ Some qs
         → (a : List ℕ) (i : ℕ) → GainsEach row (map (handle row) qs) ns i → get_or (written a (map (enframe row) qs)) i 0 ≡ 0
     list_clears u P ns qs w h e =
         (by_grants row Clears (λ P. ((λ p e t a i h₁ h₂. refl), λ a i g. absurd g))

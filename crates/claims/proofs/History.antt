@@ -1,5 +1,5 @@
 -- The history of report: what the tables count to is what the calls since the last set up come to.
-use Rattle.mem.proofs.Prelude.{◌∙◌, ◌≡◌, sym, ap, refl, ap₂, subst, true, Bool, false, ◌&&◌, not, true≢false, some, List, [], ◌∷◌, ◌++◌, append_assoc, map, ◌+◌}
+use Rattle.mem.proofs.Prelude.{◌∙◌, ◌≡◌, sym, ap, refl, ap₂, subst, true, Bool, false, ◌&&◌, not, true≢false, Some, List, [], ◌∷◌, ◌++◌, append_assoc, map, ◌+◌}
 use Rattle.mem.proofs.Prelude.{ℕ, ◌<◌, ◌≤◌, ◌*◌, suc, ◌/◌, ◌%◌, zero, add-zero, zero-add, add_assoc, mul-div_cancel_left, arith, eqb-false, eqb-true, T, eqb}
 use Rattle.mem.proofs.Prelude.{eqb_refl, lit≤, length, length-append, replicate}
 use Rattle.mem.specs.Lists.{choose, any, sum}
@@ -157,7 +157,7 @@ module _ (row : ℕ) (f : LedgerBlock → ℕ) where
       ))
 
   -- the slot that a grant takes
-  reserve_weigh : (P : Pool) (k n : ℕ) (q : Place) → T (well_formed P) → reserve row P k n ≡ some q
+  reserve_weigh : (P : Pool) (k n : ℕ) (q : Place) → T (well_formed P) → reserve row P k n ≡ Some q
       → weigh 0 (pool_of q) ≡ f (record { handle = handle row q; size = n }) + weigh 0 P
   unfolding rest
   reserve_weigh P k n q w e =
@@ -241,12 +241,12 @@ module _ (row : ℕ) where
   fresh_tallies n = record { sums = λ f. sym (fresh_weigh row f 0 n); count = refl }
 
   -- a grant, with whatever alignment
-  grant_tallies : (P : Pool) (k n : ℕ) (q : Place) → T (well_formed P) → reserve row P k n ≡ some q → (l : Ledger) → Tallies l P
+  grant_tallies : (P : Pool) (k n : ℕ) (q : Place) → T (well_formed P) → reserve row P k n ≡ Some q → (l : Ledger) → Tallies l P
       → Tallies (entered_grant l (handle row q) n) (pool_of q)
   grant_tallies P k n q w r l t = record { sums = λ f. omega (arith, t.sums f, reserve_weigh row f P k n q w r); count = omega (arith, t.count) }
 
   -- each entry of a list is a grant
-  list_tallies : (P : Pool) (ns : List ℕ) (qs : List Place) → T (well_formed P) → T (small ns) → reserve_all row P ns ≡ some qs
+  list_tallies : (P : Pool) (ns : List ℕ) (qs : List Place) → T (well_formed P) → T (small ns) → reserve_all row P ns ≡ Some qs
       → (l : Ledger) → Tallies l P → Tallies (entered_each l (map (handle row) qs) ns) (pool_after P qs)
   list_tallies =
       by_grants row (λ P ns qs. (l : Ledger) → Tallies l P → Tallies (entered_each l (map (handle row) qs) ns) (pool_after P qs)) (λ P l t. t)
@@ -309,8 +309,8 @@ module _ (row : ℕ) where
         }
 
     -- the old block is where it was when the new one has been granted
-    moved_enters : (h m : ℕ) (p q : Place) → Named row P h p → Askable (align p.state) m → reserve row P (align p.state) m ≡ some q
-        → Enters (moves h m) (move_to row P p m (some q))
+    moved_enters : (h m : ℕ) (p q : Place) → Named row P h p → Askable (align p.state) m → reserve row P (align p.state) m ≡ Some q
+        → Enters (moves h m) (move_to row P p m (Some q))
     moved_enters h m p q n s e z =
         let k : ℕ = align p.state in
         let y : Old row pos P w k m s q e p n.pool n.live = old row pos P w k m s q e p n.pool n.live in

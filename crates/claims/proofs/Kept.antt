@@ -1,5 +1,5 @@
 -- Another size keeps the alignment: in place the slot keeps it, and a move is a grant of it.
-use Rattle.mem.proofs.Prelude.{◌∙◌, ◌≡◌, sym, ap, refl, subst, some, List, [], ◌∷◌, ℕ, ◌%◌, ◌<◌, length, T}
+use Rattle.mem.proofs.Prelude.{◌∙◌, ◌≡◌, sym, ap, refl, subst, Some, List, [], ◌∷◌, ℕ, ◌%◌, ◌<◌, length, T}
 use Rattle.classes.specs.Alignments.{Askable}
 use Rattle.model.specs.declared.Refusal.TheVariants.{NotInPlace, NoRoom}
 use Rattle.model.specs.State.{Pool, Place, is_live, align, well_formed, start_of, pool_of, start, handle}
@@ -45,7 +45,7 @@ module _ (row : ℕ) (pos : 0 < row) (P : Pool) (w : T (well_formed P)) (u : row
     }
 
     -- a new block is at another start, so the release of the old one keeps it
-    moved : Askable (align p.state) n → (q : Place) → reserve row P (align p.state) n ≡ some q → Keeps row P h (move_to row P p n (some q))
+    moved : Askable (align p.state) n → (q : Place) → reserve row P (align p.state) n ≡ Some q → Keeps row P h (move_to row P p n (Some q))
     moved s q f =
         let k : Old row pos P w (align p.state) n s q f p b.pool b.live = old row pos P w (align p.state) n s q f p b.pool b.live in
         let l : T (is_live q.state) = reserve-live row P (align p.state) n q (served row P (align p.state) n q w f) in

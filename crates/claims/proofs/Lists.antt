@@ -1,5 +1,5 @@
 -- Gather lists: the planner's proposals are accepted, and a list is its grants, all of them or none.
-use Rattle.mem.proofs.Prelude.{◌∙◌, ◌≡◌, sym, ap, refl, subst, true, Bool, false, ◌&&◌, ◌||◌, some, none, Option, List, [], ◌∷◌, map, ℕ, ◌<◌, ◌≤◌, ◌*◌}
+use Rattle.mem.proofs.Prelude.{◌∙◌, ◌≡◌, sym, ap, refl, subst, true, Bool, false, ◌&&◌, ◌||◌, Some, None, Option, List, [], ◌∷◌, map, ℕ, ◌<◌, ◌≤◌, ◌*◌}
 use Rattle.mem.proofs.Prelude.{arith, T, eqb, leb, eqb→eq, leb→le, ltb→lt, lt-leb, le→leb, lt→ltb, length, get_or}
 use mathlib.Core.Logic.{◌↔◌}
 use Rattle.mem.specs.Lists.{any, every, sum}
@@ -109,8 +109,8 @@ none-eight (v ∷ vs) t = none-eight vs t
 module _ (row : ℕ) (F : Form) where
   -- what grants one after the other come to from a pool P, by the places that they take
   abbrev Granting : Pool → List ℕ → F.Kept → List ℕ → Option (List Place) → Type 0
-  Granting P a t ns none = T (any eight (granting row F a t ns).answers)
-  Granting P a t ns (some qs) =
+  Granting P a t ns None = T (any eight (granting row F a t ns).answers)
+  Granting P a t ns (Some qs) =
       ((granting row F a t ns).answers ≡ map (λ h. done (h ∷ [])) (map (handle row) qs))
       × ((granting row F a t ns).arena ≡ written a (map (enframe row) qs)) × ((granting row F a t ns).kept ≡ F.encode (pool_after P qs))
 
@@ -122,12 +122,12 @@ module _ (row : ℕ) (F : Form) where
         call-sound row F a t s (grants n) tt
         ∙ ap (carried_by row F a t) (choose-false (leb size_limit n) _ _ (lt-leb size_limit n h) ∙ ap (grant_at row (F.view t)) e)
 
-    taken-call : (q : Place) → reserve row (F.view t) ordinary n ≡ some q
-        → call_by row F a t (grants n) ≡ applied F a (grant_at row (F.view t) (some q))
-    taken-call q e = granted-call (some q) e ∙ carried_whole row F a t (grant_at row (F.view t) (some q)) refl
+    taken-call : (q : Place) → reserve row (F.view t) ordinary n ≡ Some q
+        → call_by row F a t (grants n) ≡ applied F a (grant_at row (F.view t) (Some q))
+    taken-call q e = granted-call (Some q) e ∙ carried_whole row F a t (grant_at row (F.view t) (Some q)) refl
 
-    full_call : reserve row (F.view t) ordinary n ≡ none → (call_by row F a t (grants n)).answer ≡ refusal NoRoom
-    full_call e = ap (λ (r : Outcome F.Kept). r.answer) (granted-call none e ∙ carried_whole row F a t (grant_at row (F.view t) none) refl)
+    full_call : reserve row (F.view t) ordinary n ≡ None → (call_by row F a t (grants n)).answer ≡ refusal NoRoom
+    full_call e = ap (λ (r : Outcome F.Kept). r.answer) (granted-call None e ∙ carried_whole row F a t (grant_at row (F.view t) None) refl)
 
   module _ (pos : 0 < row) (L : FormLaws row F) where
     grantings : (P : Pool) (a : List ℕ) (t : F.Kept) (ns : List ℕ) → F.view t ≡ P → F.sound (length a) t ≡ true → T (small ns)
@@ -143,21 +143,21 @@ module _ (row : ℕ) (F : Form) where
         Later = (Q : Pool) (b : List ℕ) (u : F.Kept) → F.view u ≡ Q → F.sound (length b) u ≡ true → T (small ns)
             → Granting Q b u ns (reserve_all row Q ns)
 
-        lift : (q : Place) → call_by row F a t (grants n) ≡ applied F a (grant_at row (F.view t) (some q))
+        lift : (q : Place) → call_by row F a t (grants n) ≡ applied F a (grant_at row (F.view t) (Some q))
             → (o : Option (List Place)) → Granting (pool_of q) (write a (enframe row q)) (F.encode (pool_of q)) ns o
             → Granting P a t (n ∷ ns) (placed q o)
-        lift q c none k =
+        lift q c None k =
             subst (λ (r : Outcome F.Kept). T (eight r.answer || any eight (granting row F r.arena r.kept ns).answers)) (sym c) k
-        lift q c (some qs) k = (
+        lift q c (Some qs) k = (
           ap (λ (r : Outcome F.Kept). r.answer ∷ (granting row F r.arena r.kept ns).answers) c ∙ ap (λ l. done (handle row q ∷ []) ∷ l) k.0,
           ap (λ (r : Outcome F.Kept). (granting row F r.arena r.kept ns).arena) c ∙ k.1,
           ap (λ (r : Outcome F.Kept). (granting row F r.arena r.kept ns).kept) c ∙ k.2,
         )
 
-        next : (q : Place) → reserve row P ordinary n ≡ some q → Later → Granting P a t (n ∷ ns) (placed q (reserve_all row (pool_of q) ns))
+        next : (q : Place) → reserve row P ordinary n ≡ Some q → Later → Granting P a t (n ∷ ns) (placed q (reserve_all row (pool_of q) ns))
         next q e k =
             let f = (L.only (length a) t (true-T (F.sound (length a) t) s)).0 in
-            let r : reserve row (F.view t) ordinary n ≡ some q = ap (λ P. reserve row P ordinary n) v ∙ e in
+            let r : reserve row (F.view t) ordinary n ≡ Some q = ap (λ P. reserve row P ordinary n) v ∙ e in
             let g : Granted row (F.view t) ordinary n q = reserve_formed row (F.view t) ordinary n q f.formed (plain small_n) r in
             let b : List ℕ = write a (enframe row q) in
             let l : length b ≡ length a = put-length (owned row q) (frame q.cls (slot_number q) (disp q.state) (size q.state)) a in
@@ -174,11 +174,11 @@ module _ (row : ℕ) (F : Form) where
             (k (pool_of q) b (F.encode (pool_of q)) (L.says (pool_of q) g.formed) (T_true _ u) (small_rest n ns h))
 
         go : (o : Option Place) → reserve row P ordinary n ≡ o → Later → Granting P a t (n ∷ ns) (placed_by o (λ q. reserve_all row (pool_of q) ns))
-        go none e k =
+        go None e k =
             let o : Outcome F.Kept = call_by row F a t (grants n) in
             subst (λ (r : Answer). T (eight r || any eight (granting row F o.arena o.kept ns).answers))
             (sym (full_call a t n s small_n (ap (λ P. reserve row P ordinary n) v ∙ e))) tt
-        go (some q) e k = next q e k
+        go (Some q) e k = next q e k
 
     pub lists_as_grants : ListsAsGrants row F
     unfolding plan
@@ -218,11 +218,11 @@ module _ (row : ℕ) (F : Form) where
 
         by_places : (o : Option (List Place)) → reserve_all row P ns ≡ o
             → ((call_by row F a t (grants_list total cap places ns)).answer.number ≡ 8) ↔ T (any eight (granting row F a t ns).answers)
-        by_places none e =
-            let n = ap (λ (r : Outcome F.Kept). r.answer.number) (whole none e ∙ carried_whole row F a t (grant_all_at row P none) refl) in
+        by_places None e =
+            let n = ap (λ (r : Outcome F.Kept). r.answer.number) (whole None e ∙ carried_whole row F a t (grant_all_at row P None) refl) in
             let g = subst (Granting P a t ns) e (grantings P a t ns refl (T_true (F.sound (length a) t) s) (accepts-small total cap ns k)) in
             ((λ _. g), λ _. n)
-        by_places (some qs) e =
-            let n = ap (λ (r : Outcome F.Kept). r.answer.number) (whole (some qs) e ∙ carried_whole row F a t (grant_all_at row P (some qs)) refl) in
+        by_places (Some qs) e =
+            let n = ap (λ (r : Outcome F.Kept). r.answer.number) (whole (Some qs) e ∙ carried_whole row F a t (grant_all_at row P (Some qs)) refl) in
             let g = subst (Granting P a t ns) e (grantings P a t ns refl (T_true (F.sound (length a) t) s) (accepts-small total cap ns k)) in
             ((λ x. absurd (omega (arith, n, x))), λ x. absurd (none-eight (map (handle row) qs) (subst (λ l. T (any eight l)) g.0 x)))

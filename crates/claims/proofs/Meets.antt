@@ -1,5 +1,5 @@
 -- Where a list call's reasons are due: the list is too long, or a size finds no place once those before it are granted.
-use Rattle.mem.proofs.Prelude.{◌∙◌, ◌≡◌, sym, ap, refl, subst, true, false, Bool, ◌&&◌, some, none, Option, List, [], ◌∷◌, ◌++◌, ℕ, ◌<◌, ◌*◌, arith}
+use Rattle.mem.proofs.Prelude.{◌∙◌, ◌≡◌, sym, ap, refl, subst, true, false, Bool, ◌&&◌, Some, None, Option, List, [], ◌∷◌, ◌++◌, ℕ, ◌<◌, ◌*◌, arith}
 use Rattle.mem.proofs.Prelude.{T, leb, ltb, leb→le, leb-false, ltb→lt}
 use borrow.Author.Tests.{ltb-false}
 use Rattle.mem.proofs.Tests.{and_left, and_right, true-T}
@@ -48,7 +48,7 @@ module _ (total cap places : ℕ) where
 -- ---- no room
 
 module _ (row : ℕ) where
-  meets_here : 0 < row → (P : Pool) (n : ℕ) (ns : List ℕ) → reserve row P ordinary n ≡ none → Meets row P (n ∷ ns)
+  meets_here : 0 < row → (P : Pool) (n : ℕ) (ns : List ℕ) → reserve row P ordinary n ≡ None → Meets row P (n ∷ ns)
   unfolding reserve_all
   meets_here pos P n ns e = record {
     earlier = [];
@@ -60,7 +60,7 @@ module _ (row : ℕ) where
     no_place = reserve-none row pos P ordinary n e;
   }
 
-  meets_later : (P : Pool) (n : ℕ) (ns : List ℕ) (q : Place) → reserve row P ordinary n ≡ some q → Meets row (pool_of q) ns → Meets row P (n ∷ ns)
+  meets_later : (P : Pool) (n : ℕ) (ns : List ℕ) (q : Place) → reserve row P ordinary n ≡ Some q → Meets row (pool_of q) ns → Meets row P (n ∷ ns)
   unfolding reserve_all
   meets_later P n ns q e m = record {
     earlier = n ∷ m.earlier;
@@ -73,48 +73,48 @@ module _ (row : ℕ) where
   }
 
   -- a list that is refused meets it
-  pub meets : 0 < row → (P : Pool) (ns : List ℕ) → reserve_all row P ns ≡ none → Meets row P ns
+  pub meets : 0 < row → (P : Pool) (ns : List ℕ) → reserve_all row P ns ≡ None → Meets row P ns
   unfolding reserve_all
   meets pos P [] e = let z : ◌≡◌ {A = ℕ} 0 1 = cc in absurd (omega arith)
   meets pos P (n ∷ ns) e = go (reserve row P ordinary n) refl e (λ Q. meets pos Q ns)
     where
-      rest : (q : Place) (o : Option (List Place)) → placed q o ≡ none → o ≡ none
-      rest q none e = refl
-      rest q (some qs) e = let z : ◌≡◌ {A = ℕ} 0 1 = cc in absurd (omega arith)
+      rest : (q : Place) (o : Option (List Place)) → placed q o ≡ None → o ≡ None
+      rest q None e = refl
+      rest q (Some qs) e = let z : ◌≡◌ {A = ℕ} 0 1 = cc in absurd (omega arith)
 
-      go : (o : Option Place) → reserve row P ordinary n ≡ o → placed_by o (λ q. reserve_all row (pool_of q) ns) ≡ none
-          → ((Q : Pool) → reserve_all row Q ns ≡ none → Meets row Q ns) → Meets row P (n ∷ ns)
-      go none r e k = meets_here pos P n ns r
-      go (some q) r e k = meets_later P n ns q r (k (pool_of q) (rest q (reserve_all row (pool_of q) ns) e))
+      go : (o : Option Place) → reserve row P ordinary n ≡ o → placed_by o (λ q. reserve_all row (pool_of q) ns) ≡ None
+          → ((Q : Pool) → reserve_all row Q ns ≡ None → Meets row Q ns) → Meets row P (n ∷ ns)
+      go None r e k = meets_here pos P n ns r
+      go (Some q) r e k = meets_later P n ns q r (k (pool_of q) (rest q (reserve_all row (pool_of q) ns) e))
 
   -- one that is granted does not
-  met : (P : Pool) (ms : List ℕ) (n : ℕ) (later : List ℕ) (ps qs : List Place) → reserve_all row P ms ≡ some ps → NoPlace row (pool_after P ps) (class_of n)
-      → reserve_all row P (ms ++ (n ∷ later)) ≡ some qs → ⊥
+  met : (P : Pool) (ms : List ℕ) (n : ℕ) (later : List ℕ) (ps qs : List Place) → reserve_all row P ms ≡ Some ps → NoPlace row (pool_after P ps) (class_of n)
+      → reserve_all row P (ms ++ (n ∷ later)) ≡ Some qs → ⊥
   unfolding reserve_all
   met P [] n later [] qs e h f = go (reserve row P ordinary n) refl f
     where
-      go : (o : Option Place) → reserve row P ordinary n ≡ o → placed_by o (λ q. reserve_all row (pool_of q) later) ≡ some qs → ⊥
-      go none r f = let z : ◌≡◌ {A = ℕ} 0 1 = cc in omega arith
-      go (some q) r f = reserve-some row P ordinary n q r h
+      go : (o : Option Place) → reserve row P ordinary n ≡ o → placed_by o (λ q. reserve_all row (pool_of q) later) ≡ Some qs → ⊥
+      go None r f = let z : ◌≡◌ {A = ℕ} 0 1 = cc in omega arith
+      go (Some q) r f = reserve-some row P ordinary n q r h
   met P [] n later (p ∷ ps) qs e h f = let z : ◌≡◌ {A = ℕ} 0 1 = cc in omega arith
   met P (m ∷ ms) n later ps qs e h f = go (reserve row P ordinary m) e f (λ Q. met Q ms n later)
     where
       Later : Type 0
-      Later = (Q : Pool) (ps qs : List Place) → reserve_all row Q ms ≡ some ps → NoPlace row (pool_after Q ps) (class_of n)
-          → reserve_all row Q (ms ++ (n ∷ later)) ≡ some qs → ⊥
+      Later = (Q : Pool) (ps qs : List Place) → reserve_all row Q ms ≡ Some ps → NoPlace row (pool_after Q ps) (class_of n)
+          → reserve_all row Q (ms ++ (n ∷ later)) ≡ Some qs → ⊥
 
-      rest : (q : Place) (o : Option (List Place)) → reserve_all row (pool_of q) ms ≡ o → placed q o ≡ some ps
-          → (u : Option (List Place)) → reserve_all row (pool_of q) (ms ++ (n ∷ later)) ≡ u → placed q u ≡ some qs → Later → ⊥
-      rest q none x e u y f k = let z : ◌≡◌ {A = ℕ} 0 1 = cc in omega arith
-      rest q (some rs) x e none y f k = let z : ◌≡◌ {A = ℕ} 0 1 = cc in omega arith
-      rest q (some rs) x e (some us) y f k =
+      rest : (q : Place) (o : Option (List Place)) → reserve_all row (pool_of q) ms ≡ o → placed q o ≡ Some ps
+          → (u : Option (List Place)) → reserve_all row (pool_of q) (ms ++ (n ∷ later)) ≡ u → placed q u ≡ Some qs → Later → ⊥
+      rest q None x e u y f k = let z : ◌≡◌ {A = ℕ} 0 1 = cc in omega arith
+      rest q (Some rs) x e None y f k = let z : ◌≡◌ {A = ℕ} 0 1 = cc in omega arith
+      rest q (Some rs) x e (Some us) y f k =
           let z : ps ≡ q ∷ rs = cc in k (pool_of q) rs us x (subst (λ l. NoPlace row (pool_after P l) (class_of n)) z h) y
 
-      go : (o : Option Place) → placed_by o (λ q. reserve_all row (pool_of q) ms) ≡ some ps
-          → placed_by o (λ q. reserve_all row (pool_of q) (ms ++ (n ∷ later))) ≡ some qs → Later → ⊥
-      go none e f k = let z : ◌≡◌ {A = ℕ} 0 1 = cc in omega arith
-      go (some q) e f k = rest q (reserve_all row (pool_of q) ms) refl e (reserve_all row (pool_of q) (ms ++ (n ∷ later))) refl f k
+      go : (o : Option Place) → placed_by o (λ q. reserve_all row (pool_of q) ms) ≡ Some ps
+          → placed_by o (λ q. reserve_all row (pool_of q) (ms ++ (n ∷ later))) ≡ Some qs → Later → ⊥
+      go None e f k = let z : ◌≡◌ {A = ℕ} 0 1 = cc in omega arith
+      go (Some q) e f k = rest q (reserve_all row (pool_of q) ms) refl e (reserve_all row (pool_of q) (ms ++ (n ∷ later))) refl f k
 
-  pub meets_none : (P : Pool) (ns : List ℕ) (qs : List Place) → reserve_all row P ns ≡ some qs → Meets row P ns → ⊥
+  pub meets_none : (P : Pool) (ns : List ℕ) (qs : List Place) → reserve_all row P ns ≡ Some qs → Meets row P ns → ⊥
   meets_none P ns qs e m =
       met P m.earlier m.size m.later m.places qs m.granted-before m.no_place (ap (reserve_all row P) (sym m.split) ∙ e)

@@ -3,7 +3,7 @@ use Rattle.mem.proofs.Prelude.{◌∙◌, sym, ap, subst, ℕ, ◌<◌, T, lengt
 use Rattle.mem.proofs.Tests.{T_true, true-T}
 use Rattle.model.specs.Answers.{done, listed}
 use Rattle.model.specs.Tables.{sound}
-use Rattle.model.specs.Calls.{KeptBytes, Result, engine, sound_kept, set_up, call, call_by}
+use Rattle.model.specs.Calls.{KeptBytes, EngineOutcome, engine, sound_kept, set_up, call, call_by}
 use Rattle.model.proofs.Fresh.{fresh-totals, set_up-done}
 use Rattle.model.proofs.Kept.{kept_right, kept_sound, kept_totals, engine_lawful}
 use Rattle.claims.specs.History.{opening, books_after}
@@ -21,7 +21,7 @@ sound_exactly row n t = (
 pub records_fresh : (row : ℕ) → 0 < row → RecordsFresh row
 unfolding call_by
 records_fresh row pos a t z =
-    ap (λ (r : Result). r.kept.totals) (set_up-done row (engine row) a t (set_up_accepted row pos (engine row) (engine_lawful row pos) a t z))
+    ap (λ (r : EngineOutcome). r.kept.totals) (set_up-done row (engine row) a t (set_up_accepted row pos (engine row) (engine_lawful row pos) a t z))
     ∙ fresh-totals row _
 
 pub reports-record : (row : ℕ) → ReportsRecord row
@@ -35,6 +35,6 @@ history_recorded row pos a t cs b h e =
 
 pub keeps-record : (row : ℕ) → 0 < row → KeepsRecord row
 keeps-record row pos a t c z =
-    let r : Result = call row a t c in
+    let r : EngineOutcome = call row a t c in
     kept_totals row (length r.arena) r.kept
     (T_true (sound_kept row (length r.arena) r.kept) (leaves-sound row pos (engine row) (engine_lawful row pos) a t c z))

@@ -1,5 +1,5 @@
 -- What gives a block another size leaves what document 01 says: in place, or as a grant, a copy and a release.
-use Rattle.mem.proofs.Prelude.{◌∙◌, ◌≡◌, sym, ap, refl, subst, ⊎_elim, inl, inr, ◌⊎◌, some, none, Option, List, [], ◌∷◌, ◌++◌}
+use Rattle.mem.proofs.Prelude.{◌∙◌, ◌≡◌, sym, ap, refl, subst, ⊎_elim, inl, inr, ◌⊎◌, Some, None, Option, List, [], ◌∷◌, ◌++◌, Ok}
 use Rattle.mem.proofs.Prelude.{append_assoc, append-nil, ◌+◌, ℕ, ◌<◌, ◌≤◌, ◌*◌, ◌-◌, arith, lt-leb, lt-ltb, T, leb, ltb, drop, get_or}
 use Rattle.mem.proofs.Prelude.{length, length-append}
 use Rattle.mem.specs.Lists.{choose}
@@ -10,7 +10,6 @@ use Rattle.mem.proofs.Laws.{zeros-put, eq→same}
 use Rattle.classes.specs.Classes.{slot_bytes, size_limit}
 use Rattle.classes.specs.Alignments.{align_of, code_of, enlarged, Askable}
 use Rattle.model.specs.declared.Refusal.TheVariants.{NotInPlace, NoRoom}
-use Rattle.model.specs.declared.Damage.TheVariants.{Intact}
 use Rattle.model.specs.State.{Pool, Place, disp, size, align, well_formed, aligned, start_of, pool_of, slot_number, rows, owned, start, handle}
 use Rattle.model.specs.Blocks.{reserved, header, guard, first_spare, spare, header_right, guard_right, damage_in, damage, frame}
 use Rattle.model.specs.Plans.{Plan, Call, grants_aligned, releases, resizes_in_place, moves, plan, lookup, new_size, on_handle, on_handle_for, release_at, release}
@@ -182,7 +181,7 @@ module _ (row : ℕ) (pos : 0 < row) (a : List ℕ) (n : ℕ) (p : Place) (w : T
 
 -- the old block p and the new block q, which has its alignment, in an arena as long as the pool
 module _ (row : ℕ) (pos : 0 < row) (P : Pool) (w : T (well_formed P)) (a : List ℕ) (long : length a ≡ row * rows row P) (n : ℕ) (p : Place)
-    (asked : Askable (align p.state) n) (q : Place) (found : reserve row P (align p.state) n ≡ some q)
+    (asked : Askable (align p.state) n) (q : Place) (found : reserve row P (align p.state) n ≡ Some q)
     (h : ℕ) (i : demand2.Intact row a P h p) where
   abbrev code : ℕ
   code = align p.state
@@ -261,7 +260,7 @@ module _ (row : ℕ) (pos : 0 < row) (P : Pool) (w : T (well_formed P)) (a : Lis
       ∙ part-put (owned row p) (slot_bytes p.cls) (owned row q) framed a (⊎_elim inl (λ x. inr (omega (arith, x, framed_length))) apart)
 
   -- so it is not damaged
-  old_whole : damage row copy beside.place ≡ Intact
+  old_whole : damage row copy beside.place ≡ Ok tt
   unfolding damage_in choose
   old_whole =
       let s = beside.stays in
@@ -316,14 +315,14 @@ module _ (row : ℕ) (pos : 0 < row) (P : Pool) (w : T (well_formed P)) (a : Lis
         (reserve-live row P code n q (served row P code n q w found)) o g.none-live)
 
     -- the grant, the copy and the release make the move
-    moved : (t : F.Kept) → P ≡ F.view t → (g z : Outcome F.Kept) → g ≡ applied F a (grant_at row P (some q)) → T (arena_right row (length a))
-        → T (aligned row P) → z ≡ applied F a (move_to row P p n (some q)) → MovedBy row F a t h n p g z
+    moved : (t : F.Kept) → P ≡ F.view t → (g z : Outcome F.Kept) → g ≡ applied F a (grant_at row P (Some q)) → T (arena_right row (length a))
+        → T (aligned row P) → z ≡ applied F a (move_to row P p n (Some q)) → MovedBy row F a t h n p g z
     unfolding enframe
     moved t says g z e m b l =
         let r : Outcome F.Kept = call_by row F copy (F.encode (pool_of q)) (releases h) in
         let x : r ≡ applied F copy (release_at row beside.place) = release-done m b in
         let v : start_of (handle row q) ≡ start row q = start_cleared row (whole_units row (length a) m) q in
-        let G : Outcome F.Kept = applied F a (grant_at row P (some q)) in
+        let G : Outcome F.Kept = applied F a (grant_at row P (Some q)) in
         let y : z.arena ≡ r.arena =
         ap (λ (r : Outcome F.Kept). r.arena) l ∙ ap (λ (d : Plan). written copy d.changes) discarded_old
         ∙ sym (ap (λ (r : Outcome F.Kept). r.arena) x) in
@@ -364,7 +363,7 @@ module _ (row : ℕ) (pos : 0 < row) (F : Form) (L : FormLaws row F) (a : List �
   abbrev asks : Call
   asks = grants_aligned n (align_of (align p.state))
 
-  grant-done : (q : Place) → reserve row P (align p.state) n ≡ some q → call_by row F a t asks ≡ applied F a (grant_at row P (some q))
+  grant-done : (q : Place) → reserve row P (align p.state) n ≡ Some q → call_by row F a t asks ≡ applied F a (grant_at row P (Some q))
   unfolding plan grant_as
   grant-done q e =
       let k : ℕ = align p.state in
@@ -372,7 +371,7 @@ module _ (row : ℕ) (pos : 0 < row) (F : Form) (L : FormLaws row F) (a : List �
       ∙ ap (carried_by row F a t) (aligned_as row P k n asked.some_code asked.last_code
       ∙ choose-false (leb size_limit (enlarged k n)) _ (grant_at row P (reserve row P k n)) (lt-leb size_limit (enlarged k n) asked.small)
       ∙ ap (grant_at row P) e)
-      ∙ carried_whole row F a t (grant_at row P (some q)) refl
+      ∙ carried_whole row F a t (grant_at row P (Some q)) refl
 
   -- a call that was done, of the block p
   in_place-done : (h : ℕ) → demand2.Intact row a P h p → (z : Outcome F.Kept) → z.answer.number ≡ 0
@@ -391,8 +390,8 @@ module _ (row : ℕ) (pos : 0 < row) (F : Form) (L : FormLaws row F) (a : List �
     where
       go : (r : Option Place) → reserve row P (align p.state) n ≡ r → z ≡ applied F a (move_to row P p n r)
           → MovedBy row F a t h n p (call_by row F a t asks) z
-      go none f l = absurd (omega (arith, d, ap (λ (r : Outcome F.Kept). r.answer.number) l))
-      go (some q) f l =
+      go None f l = absurd (omega (arith, d, ap (λ (r : Outcome F.Kept). r.answer.number) l))
+      go (Some q) f l =
           moved row pos P s.formed a s.long n p asked q f h i F L t refl (call_by row F a t asks) z (grant-done q f) s.lawful s.bounds l
 
 -- the block of an accepted call that gives it n bytes, and that its plan for the block is carried out

@@ -1,5 +1,5 @@
 -- A slot over a call: it keeps its count and displacement, and is live only if it was; or it was not live, and a grant takes it.
-use Rattle.mem.proofs.Prelude.{◌∙◌, ◌≡◌, sym, ap, refl, subst, not, ⊎_elim, inl, inr, some, List, [], ◌∷◌, ◌++◌, ℕ, ◌<◌, arith}
+use Rattle.mem.proofs.Prelude.{◌∙◌, ◌≡◌, sym, ap, refl, subst, not, ⊎_elim, inl, inr, Some, List, [], ◌∷◌, ◌++◌, ℕ, ◌<◌, arith}
 use Rattle.mem.proofs.Prelude.{T, add-zero, lit≤}
 use Rattle.mem.specs.Lists.{any}
 use Rattle.mem.proofs.Tests.{choose_case, true-T}
@@ -135,8 +135,8 @@ module _ (row : ℕ) (pos : 0 < row) where
         steps-after c k p'.state q.state g (subst (NotGranted p'.state) (ap (λ p. p.state) (sym z)) (refl, refl, λ z. z))
 
     -- a move: a grant, and the old block is given back
-    move-steps : (h n : ℕ) (o g : Place) → Named row P h o → Askable (align o.state) n → reserve row P (align o.state) n ≡ some g
-        → Fate (moves h n) (move_to row P o n (some g))
+    move-steps : (h n : ℕ) (o g : Place) → Named row P h o → Askable (align o.state) n → reserve row P (align o.state) n ≡ Some g
+        → Fate (moves h n) (move_to row P o n (Some g))
     move-steps h n o g b s f _ q i u =
         let (p', a, v, go) = reserve_goes row P (align o.state) n g w f p e in
         let y : Old row pos P w (align o.state) n s g f o b.pool b.live = old row pos P w (align o.state) n s g f o b.pool b.live in
@@ -157,7 +157,7 @@ module _ (row : ℕ) (pos : 0 < row) where
         inl ((given_back o (subst (λ Q. T (well_formed Q)) (sym b.pool) w) b.live q i).others p (e ∙ sym b.pool) u)
 
   -- grants, one after the other
-  list_goes : (P : Pool) (ns : List ℕ) (qs : List Place) → T (well_formed P) → T (small ns) → reserve_all row P ns ≡ some qs → (p : Place) → pool_of p ≡ P
+  list_goes : (P : Pool) (ns : List ℕ) (qs : List Place) → T (well_formed P) → T (small ns) → reserve_all row P ns ≡ Some qs → (p : Place) → pool_of p ≡ P
       → GoesIn row (pool_after P qs) p
   list_goes =
       by_grants row (λ P ns qs. (p : Place) → pool_of p ≡ P → GoesIn row (pool_after P qs) p)

@@ -1,5 +1,5 @@
 -- A live block that a call does not name is where it was after it, in the same state: so its handle stays.
-use Rattle.mem.proofs.Prelude.{◌∙◌, ◌≡◌, sym, ap, refl, subst, Bool, not, ⊎_elim, inl, inr, ◌⊎◌, some, List, [], ◌∷◌, ◌++◌, append_assoc, append-nil}
+use Rattle.mem.proofs.Prelude.{◌∙◌, ◌≡◌, sym, ap, refl, subst, Bool, not, ⊎_elim, inl, inr, ◌⊎◌, Some, List, [], ◌∷◌, ◌++◌, append_assoc, append-nil}
 use Rattle.mem.proofs.Prelude.{ℕ, ◌<◌, arith, T, T_not, length, length-append, add-zero, lit≤}
 use Rattle.mem.specs.Lists.{any, every}
 use Rattle.mem.proofs.Tests.{and_left, every-left, every-right, every-not, choose_case}
@@ -174,8 +174,8 @@ module _ (row : ℕ) where
       Keeps r = KeptIn r.pool p
 
       -- a move is a grant, then a release of the old block
-      move-keeps : (old q : Place) (n : ℕ) → (start row p ≡ start row old → ⊥) → reserve row P (align old.state) n ≡ some q
-          → Keeps (move_to row P old n (some q))
+      move-keeps : (old q : Place) (n : ℕ) → (start row p ≡ start row old → ⊥) → reserve row P (align old.state) n ≡ Some q
+          → Keeps (move_to row P old n (Some q))
       move-keeps old q n other f =
           let (p', a, s) = reserve-keeps row P (align old.state) n q w f p e l in
           let (p'', b, u) =
@@ -195,7 +195,7 @@ module _ (row : ℕ) where
           on_move row pos P Keeps (λ _. as_it_is P p e) w h n (λ _ _. as_it_is P p e) (λ old q b _ f. move-keeps old q n (λ z. other (z ∙ b.starts)) f)
 
     -- grants, one after the other
-    list-keeps : (P : Pool) (ns : List ℕ) (qs : List Place) → T (well_formed P) → T (small ns) → reserve_all row P ns ≡ some qs → (p : Place) → pool_of p ≡ P
+    list-keeps : (P : Pool) (ns : List ℕ) (qs : List Place) → T (well_formed P) → T (small ns) → reserve_all row P ns ≡ Some qs → (p : Place) → pool_of p ≡ P
         → T (is_live p.state) → KeptIn (pool_after P qs) p
     list-keeps =
         by_grants row (λ P ns qs. (p : Place) → pool_of p ≡ P → T (is_live p.state) → KeptIn (pool_after P qs) p) (λ P p e l. as_it_is P p e)

@@ -1,5 +1,5 @@
 -- Every call keeps tables and arena in agreement, finds no damage, and leaves zeros where a block gains bytes.
-use Rattle.mem.proofs.Prelude.{◌∙◌, ◌≡◌, sym, ap, refl, subst, some, List, [], ◌∷◌, ◌++◌, map, ◌+◌, ℕ, ◌<◌, ◌≤◌, ◌*◌, ◌-◌, ◌%◌, suc, zero, min, arith}
+use Rattle.mem.proofs.Prelude.{◌∙◌, ◌≡◌, sym, ap, refl, subst, Some, List, [], ◌∷◌, ◌++◌, map, ◌+◌, ℕ, ◌<◌, ◌≤◌, ◌*◌, ◌-◌, ◌%◌, suc, zero, min, arith, Ok}
 use Rattle.mem.proofs.Prelude.{T, leb, leb→le, lit≤, length, drop, get_or, replicate}
 use native.Mathlib.Nat.{zero-mul}
 use lib.ListN.{length-take}
@@ -14,7 +14,6 @@ use Rattle.model.specs.declared.Slot.{Slot}
 use Rattle.model.specs.declared.Slot.TheVariants.{Fresh, Idle, Live}
 use Rattle.model.specs.declared.Refusal.{Refusal}
 use Rattle.model.specs.declared.Refusal.TheVariants.{NotInPlace, NoRoom}
-use Rattle.model.specs.declared.Damage.TheVariants.{Intact}
 use Rattle.model.specs.State.{Pool, Place, group, is_live, disp, size, align, slot_sound, well_formed, start_of, pool_of, become, slot_number, rows, base, start}
 use Rattle.model.specs.State.{owned, handle}
 use Rattle.model.specs.Blocks.{reserved, header, spare}
@@ -64,7 +63,7 @@ module _ (row : ℕ) (pos : 0 < row) where
 
   -- ---- grant
 
-  module _ (P : Pool) (k n : ℕ) (q : Place) (w : T (well_formed P)) (h : Askable k n) (r : reserve row P k n ≡ some q) where
+  module _ (P : Pool) (k n : ℕ) (q : Place) (w : T (well_formed P)) (h : Askable k n) (r : reserve row P k n ≡ Some q) where
     -- framed in an arena that agrees, it leaves one that agrees
     reserve_agrees : (a : List ℕ) → Agrees (cells row P) a → Agrees (cells row (pool_of q)) (write a (enframe row q))
     unfolding grant_in enframe
@@ -83,7 +82,7 @@ module _ (row : ℕ) (pos : 0 < row) where
         (agrees_frame q.cls (slot_number q) q.state (reserve-live row P k n q v)) (subst (λ l. Agrees l a) (sym e) g)
 
   -- a list of grants
-  list_agrees : (P : Pool) (ns : List ℕ) (qs : List Place) → T (well_formed P) → T (small ns) → reserve_all row P ns ≡ some qs
+  list_agrees : (P : Pool) (ns : List ℕ) (qs : List Place) → T (well_formed P) → T (small ns) → reserve_all row P ns ≡ Some qs
       → (a : List ℕ) → Agrees (cells row P) a → Agrees (cells row (pool_after P qs)) (written a (map (enframe row) qs))
   list_agrees =
       by_grants row (λ P ns qs. (a : List ℕ) → Agrees (cells row P) a → Agrees (cells row (pool_after P qs)) (written a (map (enframe row) qs)))
@@ -138,7 +137,7 @@ module _ (row : ℕ) (pos : 0 < row) where
   -- What a plan does to an arena: tables and arena agree afterwards, the block that it names is undamaged, and what a block gains is zero.
   pub record Kept (P : Pool) (c : Call) (a : List ℕ) (l : Plan) : Type 0 where
     pub agrees : Agrees (cells row l.pool) (written a l.changes)
-    pub whole : damaged row a l.checks ≡ Intact
+    pub whole : damaged row a l.checks ≡ Ok tt
     pub cleared : Cleared row P c l.answer (written a l.changes)
 
   -- a pool with no groups, over zeros
@@ -157,7 +156,7 @@ module _ (row : ℕ) (pos : 0 < row) where
     block_agrees : (p : Place) (h : ℕ) → Named row P h p → Agrees (cells row (pool_of p)) a
     block_agrees p h b = subst (λ Q. Agrees (cells row Q) a) (sym b.pool) g
 
-    block_whole : (p : Place) (h : ℕ) → Named row P h p → damaged row a (some p) ≡ Intact
+    block_whole : (p : Place) (h : ℕ) → Named row P h p → damaged row a (Some p) ≡ Ok tt
     block_whole p h b = undamaged row pos p (block_fits p h b) a b.live (block_agrees p h b)
 
     release_kept : (h : ℕ) → Kept P (releases h) a (release row P h)
@@ -207,8 +206,8 @@ module _ (row : ℕ) (pos : 0 < row) where
   -- in an arena of whole units, where a handle tells the start
   module _ (u : row % 16 ≡ 0) (P : Pool) (w : T (well_formed P)) (a : List ℕ) (g : Agrees (cells row P) a) where
     -- "a grant of n is made while the old block is live, that many bytes are copied, then the old is released"
-    moved_kept : (p q : Place) (h n : ℕ) → Named row P h p → Askable (align p.state) n → reserve row P (align p.state) n ≡ some q
-        → Kept P (moves h n) a (move_to row P p n (some q))
+    moved_kept : (p q : Place) (h n : ℕ) → Named row P h p → Askable (align p.state) n → reserve row P (align p.state) n ≡ Some q
+        → Kept P (moves h n) a (move_to row P p n (Some q))
     unfolding Cleared
     moved_kept p q h n b s r =
         let m : ℕ = align p.state in
@@ -235,9 +234,9 @@ module _ (row : ℕ) (pos : 0 < row) where
         }
 
     -- a call that grants a block, whose bytes it gains
-    granted_kept : (c : Call) (k n : ℕ) (q : Place) → Askable k n → reserve row P k n ≡ some q
+    granted_kept : (c : Call) (k n : ℕ) (q : Place) → Askable k n → reserve row P k n ≡ Some q
         → ((i : ℕ) → Gains row P c (done (handle row q ∷ [])) i → (start_of (handle row q) ≤ i) × (i < start_of (handle row q) + n))
-        → Kept P c a (grant_at row P (some q))
+        → Kept P c a (grant_at row P (Some q))
     unfolding Cleared
     granted_kept c k n q h e gains = record {
       agrees = reserve_agrees P k n q w h e a g;

@@ -1,5 +1,5 @@
 -- The lines of a trace whose stores lie in requested bytes of live blocks are the model's, whatever bytes it stores.
-use Rattle.mem.proofs.Prelude.{◌∙◌, ◌≡◌, sym, ap, refl, ap₂, subst, true, Bool, false, not, ⊎_elim, inl, inr, ◌⊎◌, none, Option, List, [], ◌∷◌}
+use Rattle.mem.proofs.Prelude.{◌∙◌, ◌≡◌, sym, ap, refl, ap₂, subst, true, Bool, false, not, ⊎_elim, inl, inr, ◌⊎◌, None, Option, List, [], ◌∷◌}
 use Rattle.mem.proofs.Prelude.{map, ℕ, ◌<◌, ◌≤◌, ◌+◌, ◌*◌, suc, ◌/◌, arith, leb-false, leb-true, T, leb, ltb, T_not, length, get_or}
 use borrow.Author.Tests.{ltb-true, ltb-false}
 use Rattle.mem.specs.Lists.{choose}
@@ -11,7 +11,7 @@ use Rattle.model.specs.State.{Pool, well_formed, aligned}
 use Rattle.model.specs.Answers.{Answer}
 use Rattle.model.specs.Plans.{Plan, Call, grants, releases, resizes_in_place, moves, measures, reports, plan}
 use Rattle.model.specs.Tables.{arena_right, room_bytes}
-use Rattle.model.specs.Calls.{KeptBytes, kept_in, Result, engine, applied, call, call_by, written, set_up_right, set_up_right_by}
+use Rattle.model.specs.Calls.{KeptBytes, kept_in, EngineOutcome, engine, applied, call, call_by, written, set_up_right, set_up_right_by}
 use Rattle.model.proofs.Kept.{engine_lawful}
 use Rattle.model.proofs.Fresh.{fresh_formed, all_fresh, whole_rows, whole_units, set_up_lawful, set_up-done}
 use Rattle.model.proofs.Formed.{Formed, plan_formed}
@@ -56,7 +56,7 @@ stored_outside row P a o bs s = record { long = put-length o bs a; bytes = λ i 
     go i t true true e f = absurd (T_not (requested row P i) t (s i (leb-true o i e) (ltb-true i (o + length bs) f)))
 
 -- a bad record's line is the last
-ended : (i : ℕ) (x y : Option Answer) (ls ms : List Line) → x ≡ none → y ≡ none → line_then i x ls ≡ line_then i y ms
+ended : (i : ℕ) (x y : Option Answer) (ls ms : List Line) → x ≡ None → y ≡ None → line_then i x ls ≡ line_then i y ms
 ended i x y ls ms e f = ap (λ z. line_then i z ls) e ∙ sym (ap (λ z. line_then i z ms) f)
 
 module _ (row : ℕ) (pos : 0 < row) (n : ℕ) (h : T (arena_right row n)) where
@@ -104,7 +104,7 @@ module _ (row : ℕ) (pos : 0 < row) (n : ℕ) (h : T (arena_right row n)) where
 
   -- a record that ends the trace, whatever is behind it
   abbrev Ends : Operation → Type 0
-  Ends x = (P : Pool) (a : List ℕ) (t : KeptBytes) → length a ≡ n → ((performed row a t x).tells ≡ none) × ((model_step row n P x).tells ≡ none)
+  Ends x = (P : Pool) (a : List ℕ) (t : KeptBytes) → length a ≡ n → ((performed row a t x).tells ≡ None) × ((model_step row n P x).tells ≡ None)
 
   on_or_ends : (x : Operation) → GoesOn n x ⊎ Ends x
   unfolding performed model_step
@@ -200,7 +200,7 @@ module _ (row : ℕ) (pos : 0 < row) where
         kept = refl;
       } in
       ap (λ (ls : List Line). choose (trace_right s) ls (Line.bad 0 ∷ []))
-      (ap (λ (z : Result). lines_from row z.arena z.kept 1 (items s)) (set_up-done row (engine row) a t h)
+      (ap (λ (z : EngineOutcome). lines_from row z.arena z.kept 1 (items s)) (set_up-done row (engine row) a t h)
       ∙ lines row pos n w P (zeros n) ((engine row).encode P) 1 (items s) r k)
 
   pub stores_steer_nothing : StoresSteerNothing row

@@ -1,7 +1,6 @@
 -- Demand 1: "Any arena bytes, table bytes, offset and size may be given, and every call ends with an answer from document 01's table or one that a
 -- later request adds to it. A refusal names its reason, in the fixed order, and changes no byte of arena or tables."
-use Rattle.std.specs.Prelude.{ℕ, suc, ◌+◌, ◌*◌, ◌-◌, ◌^◌, ◌≤◌, ◌<◌, ◌≡◌, Bool, not, ◌⊎◌, List, [], ◌∷◌, ◌++◌, T, length}
-use Rattle.std.proofs.Math.Option.{some}
+use Rattle.std.specs.Prelude.{ℕ, suc, ◌+◌, ◌*◌, ◌-◌, ◌^◌, ◌≤◌, ◌<◌, ◌≡◌, Bool, not, ◌⊎◌, List, [], ◌∷◌, ◌++◌, T, length, Some}
 use Rattle.classes.specs.Classes.{slot_bytes, class_of, size_limit}
 use Rattle.classes.specs.Alignments.{align_of}
 use Rattle.model.specs.declared.Refusal.{Refusal}
@@ -83,7 +82,7 @@ module _ (row : ℕ) where
     pub later : List ℕ
     pub split : ns ≡ earlier ++ (size ∷ later)
     pub places : List Place
-    pub granted-before : reserve_all row P earlier ≡ some places
+    pub granted-before : reserve_all row P earlier ≡ Some places
     pub no_place : NoPlace row (pool_after P places) (class_of size)
 
   -- the block that a handle names: "no such block: the offset is neither a live start nor covered by 5", "already free: it is the last start of a

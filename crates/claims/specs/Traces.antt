@@ -1,7 +1,6 @@
 -- Replay (02 §2): "Stores may lie anywhere, so demand 3 covers only traces whose stores keep its premise." The lines of such a trace are the
 -- model's, and do not depend on the bytes that it stores.
-use Rattle.std.specs.Prelude.{ℕ, suc, ◌+◌, ◌≤◌, ◌<◌, ◌≡◌, List, [], ◌∷◌, map, T, leb, length}
-use Rattle.std.proofs.Math.Option.{Option, none, some}
+use Rattle.std.specs.Prelude.{ℕ, suc, ◌+◌, ◌≤◌, ◌<◌, ◌≡◌, List, [], ◌∷◌, map, T, leb, length, Option, None, Some}
 use Rattle.mem.specs.Lists.{choose}
 use Rattle.mem.specs.Bytes.{zeros}
 use Rattle.classes.specs.Classes.{row_bytes}
@@ -35,7 +34,7 @@ pub record Stepped : Type 0 where
   pub pool : Pool
 
 abbrev pub stepped : Plan → Stepped
-stepped p = record { tells = some p.answer; pool = p.pool }
+stepped p = record { tells = Some p.answer; pool = p.pool }
 
 -- a record that does not end the trace: a store that ends in an arena of n bytes, or any other
 abbrev pub GoesOn : ℕ → Operation → Type 0
@@ -55,7 +54,7 @@ module _ (row : ℕ) where
   model_step n P (resize_in_place h k) = stepped (plan row P (resizes_in_place h k))
   model_step n P (measure h) = stepped (plan row P (measures h))
   model_step n P (store o bs) =
-      choose (leb (o + length bs) n) (record { tells = some (done (0 ∷ [])); pool = P }) (record { tells = none; pool = P })
+      choose (leb (o + length bs) n) (record { tells = Some (done (0 ∷ [])); pool = P }) (record { tells = None; pool = P })
   model_step n P report = stepped (plan row P reports)
   model_step n P (move h k) = stepped (plan row P (moves h k))
 

@@ -5,8 +5,15 @@ ghost use Rattle.std.specs.Prelude.{◌≡◌, ◌-◌, ◌/◌, ◌≤◌, ◌<
 ghost use Rattle.classes.specs.Classes.{units_of, slots_of, rows_of, class_of, size_limit, Lawful};
 ghost use Rattle.classes.specs.Alignments.{ordinary, align_of, code_of, enlarged, round_up};
 
-// The bytes of a row.
-pub const ROW: usize = 512;
+// The bytes of a row: a size that the classes' groups can be laid out in.
+#[derive(Clone, Copy)]
+pub struct Row {
+    pub bytes: usize,
+    pub ghost lawful: { Lawful bytes },
+}
+
+// The card's row.
+pub const ROW: Row = Row { bytes: 512 };
 
 // How many classes there are.
 pub const CLASSES: usize = 48;
@@ -47,27 +54,25 @@ pub fn slots(c: usize) -> usize
 }
 
 // How many rows of a size have no more than n bytes. The two sizes in use divide by shifts.
-pub fn whole_rows(row: usize, n: usize) -> usize
-    requires { Lawful row }
-    ensures { result ≡ n / row }
+pub fn whole_rows(row: Row, n: usize) -> usize
+    ensures { result ≡ n / row.bytes }
 {
-    if row == 512 {
+    if row.bytes == 512 {
         return n / 512;
     }
-    if row == 1024 {
+    if row.bytes == 1024 {
         return n / 1024;
     }
-    n / row
+    n / row.bytes
 }
 
 // The rows of a group.
-pub fn rows(row: usize, c: usize) -> usize
+pub fn rows(row: Row, c: usize) -> usize
     requires c_bound { c < 48 }
-    requires lawful { Lawful row }
-    ensures value { result ≡ rows_of row c }
+    ensures value { result ≡ rows_of row.bytes c }
     ensures small { (1 ≤ result) × (result ≤ 256) }
 {
-    whole_rows(row, 16 + 16 * units(c) * slots(c) + (row - 1))
+    whole_rows(row, 16 + 16 * units(c) * slots(c) + (row.bytes - 1))
 }
 
 // The least class whose slot has n + 4 bytes, as mallocng's size_to_class finds it. Up to 10 units every need has a class of its own. Past
@@ -136,12 +141,10 @@ pub fn code_of(align: usize) -> u8
     ensures value { result ≡ code_of align }
     ensures small { result ≤ 9 }
 {
-    let mut i = 0;
-    while i < 13 {
-        if POWERS[i] as usize == align {
+    for (i, p) in POWERS.iter().enumerate() {
+        if usize::from(*p) == align {
             return code_at(i);
         }
-        i += 1;
     }
     0
 }

@@ -6,3 +6,4 @@ pub mod Calls
 pub mod Grants
 pub mod Lists
 pub mod Listed
+pub mod Reserved

@@ -1,12 +1,10 @@
 -- What a list call leaves, by the tests of the code in their order, in any lawful form of the tables. A test is what a call said, which the code negates.
-use Rattle.mem.proofs.Prelude.{◌∙◌, ◌≡◌, sym, ap, ap₂, Bool, true, false, ◌&&◌, not, not-true, not-false, and-false, List, map, ℕ, ◌<◌, ◌≤◌, leb, le-leb}
+use Rattle.mem.proofs.Prelude.{◌∙◌, ◌≡◌, sym, ap, ap₂, Bool, true, false, ◌&&◌, not, not-true, not-false, and-false, List, map, ℕ, ◌<◌, ◌≤◌, leb, le-leb, is_some, Ok, Err}
 use Rattle.mem.proofs.Prelude.{lt-leb, length, leb→le, arith}
-use Rattle.mem.specs.Lists.{is_some}
 use Rattle.mem.specs.Bytes.{put}
 use Rattle.mem.proofs.Tests.{and_right, true-T, T_true}
 use Rattle.model.specs.declared.Refusal.{Refusal}
 use Rattle.model.specs.declared.Refusal.TheVariants.{NoRoom, TooLong, BadProposal}
-use Rattle.model.specs.declared.Reply.{Reply}
 use Rattle.model.specs.State.{handle}
 use Rattle.model.specs.Answers.{reply_answer, refusal}
 use Rattle.model.specs.Proposals.{entries, accepts, plannable}
@@ -20,7 +18,7 @@ use Rattle.frames.proofs.Lists.{refused_parts, too_long, bad_proposal, no_room, 
 
 -- a list call that is refused
 pub refused-list : {R : Type 0} {c : Outcome R} {a : List ℕ} {t : R} (x : Refusal) (l : List ℕ) → c ≡ keeps (refusal x) a t
-    → Listed c (reply_answer (Reply.Refused x)) l l a t
+    → Listed c (reply_answer (Err x)) l l a t
 refused-list x l e =
     let p = refused_parts x l e in
     record { number-due = p.0; values-due = p.1.0; list-due = p.1.1.0; arena_due = p.1.1.1.0; kept_due = p.1.1.1.1 }
@@ -52,7 +50,7 @@ module _ (total cap : ℕ) (l : List ℕ) {w : Bool} (e : w ≡ plannable total 
   proposal f k = record { short = short_enough; right = passing f k }
 
   pub not_accepted : {row : ℕ} {F : Form} {a : List ℕ} {t : F.Kept} (r : Checked row F a t) (ns : List ℕ) {v : Bool} → v ≡ accepts total cap ns → not v ≡ true
-      → Listed (call_by row F a t (grants_list total cap (length l) ns)) (reply_answer (Reply.Refused BadProposal)) l l a t
+      → Listed (call_by row F a t (grants_list total cap (length l) ns)) (reply_answer (Err BadProposal)) l l a t
   not_accepted r ns {v} f k = refused-list BadProposal l (bad_proposal r total cap (length l) ns short_enough (sym f ∙ not-true v k))
 
 module _ {row : ℕ} {F : Form} {a : List ℕ} {t : F.Kept} (r : Checked row F a t) (total cap : ℕ) (l ns : List ℕ) where
@@ -61,7 +59,7 @@ module _ {row : ℕ} {F : Form} {a : List ℕ} {t : F.Kept} (r : Checked row F a
   asked = call_by row F a t (grants_list total cap (length l) ns)
 
   abbrev Refuses : Refusal → Type 0
-  Refuses x = Listed asked (reply_answer (Reply.Refused x)) l l a t
+  Refuses x = Listed asked (reply_answer (Err x)) l l a t
 
   pub not-plannable : {w : Bool} → w ≡ plannable total cap → not w ≡ true → Refuses TooLong
   not-plannable {w} e h =
@@ -73,14 +71,14 @@ module _ {row : ℕ} {F : Form} {a : List ℕ} {t : F.Kept} (r : Checked row F a
 
 module _ {row : ℕ} {F : Form} {a : List ℕ} {t : F.Kept} (r : Checked row F a t) {total cap : ℕ} {l ns : List ℕ} (p : Proposal total cap l ns)
     {w : Bool} (e : w ≡ is_some (reserve_all row (F.view t) ns)) where
-  pub not_fitting : not w ≡ true → Listed (call_by row F a t (grants_list total cap (length l) ns)) (reply_answer (Reply.Refused NoRoom)) l l a t
+  pub not_fitting : not w ≡ true → Listed (call_by row F a t (grants_list total cap (length l) ns)) (reply_answer (Err NoRoom)) l l a t
   not_fitting h = refused-list NoRoom l (no_room r total cap (length l) ns p.short p.right (sym e ∙ not-true w h))
 
   -- and one that is granted whole
   pub granted-list : not w ≡ false → {m x : List ℕ} {u : F.Kept} → m ≡ put 0 (map (handle row) (granted (reserve_all row (F.view t) ns))) l
       → x ≡ written a (map (enframe row) (granted (reserve_all row (F.view t) ns)))
       → u ≡ F.encode (pool_after (F.view t) (granted (reserve_all row (F.view t) ns)))
-      → Listed (call_by row F a t (grants_list total cap (length l) ns)) (reply_answer (Reply.Done (length ns))) l m x u
+      → Listed (call_by row F a t (grants_list total cap (length l) ns)) (reply_answer (Ok (length ns))) l m x u
   granted-list h em ex eu =
       let w = whole r total cap (length l) ns p.short p.right (passing e h) in
       record {

@@ -1,12 +1,11 @@
 -- The list call by the tests of the code, in their order, in any lawful form of the tables; and what a refused one leaves.
-use Rattle.mem.proofs.Prelude.{◌∙◌, ◌≡◌, sym, ap, refl, true, false, ◌&&◌, some, none, Option, List, [], ◌∷◌, map, ℕ, arith, T, leb, length}
-use Rattle.mem.specs.Lists.{choose, is_some}
+use Rattle.mem.proofs.Prelude.{◌∙◌, ◌≡◌, sym, ap, refl, true, false, ◌&&◌, Some, None, Option, List, [], ◌∷◌, map, ℕ, arith, T, leb, length, is_some, Err}
+use Rattle.mem.specs.Lists.{choose}
 use Rattle.mem.specs.Bytes.{put}
 use Rattle.mem.proofs.Tests.{choose-true, choose-false, true-T}
 use Rattle.mem.proofs.Laws.{put-nil}
 use Rattle.model.specs.declared.Refusal.{Refusal}
 use Rattle.model.specs.declared.Refusal.TheVariants.{NoRoom, TooLong, BadProposal}
-use Rattle.model.specs.declared.Reply.{Reply}
 use Rattle.model.specs.State.{Pool, Place, handle, well_formed}
 use Rattle.model.specs.Answers.{refusal, reply_answer}
 use Rattle.model.specs.Proposals.{entries, accepts, plannable}
@@ -19,7 +18,7 @@ use Rattle.frames.proofs.Calls.{Checked, call-sound, kept}
 
 -- what a refused call tells
 pub refused_parts : {R : Type 0} {c : Outcome R} {a : List ℕ} {t : R} (x : Refusal) (l : List ℕ) → c ≡ keeps (refusal x) a t
-    → ((reply_answer (Reply.Refused x)).number ≡ c.answer.number) × (((reply_answer (Reply.Refused x)).values ≡ c.answer.values)
+    → ((reply_answer (Err x)).number ≡ c.answer.number) × (((reply_answer (Err x)).values ≡ c.answer.values)
     × ((l ≡ put 0 c.answer.lent l) × ((a ≡ c.arena) × (t ≡ c.kept))))
 refused_parts {R} x l e = (
   sym (ap (λ (r : Outcome R). r.answer.number) e),
@@ -72,8 +71,8 @@ module _ {row : ℕ} {F : Form} {a : List ℕ} {t : F.Kept} (r : Checked row F a
       no_room e = go (reserve_all row P ns) refl e
         where
           go : (o : Option (List Place)) → reserve_all row P ns ≡ o → is_some o ≡ false → asked ≡ keeps (refusal NoRoom) a t
-          go none f e = tried ∙ ap (λ o. does (grant_all_at row P o)) f ∙ kept r NoRoom
-          go (some qs) f e = let z : ◌≡◌ {A = ℕ} 0 1 = cc in absurd (omega arith)
+          go None f e = tried ∙ ap (λ o. does (grant_all_at row P o)) f ∙ kept r NoRoom
+          go (Some qs) f e = let z : ◌≡◌ {A = ℕ} 0 1 = cc in absurd (omega arith)
 
       -- all of them granted
       pub record Whole : Type 0 where
@@ -87,11 +86,11 @@ module _ {row : ℕ} {F : Form} {a : List ℕ} {t : F.Kept} (r : Checked row F a
       whole e = go (reserve_all row P ns) refl e
         where
           go : (o : Option (List Place)) → reserve_all row P ns ≡ o → is_some o ≡ true → Whole
-          go none f e = let z : ◌≡◌ {A = ℕ} 0 1 = cc in absurd (omega arith)
-          go (some qs) f e =
-              let d : asked ≡ applied F a (grant_all_at row P (some qs)) =
+          go None f e = let z : ◌≡◌ {A = ℕ} 0 1 = cc in absurd (omega arith)
+          go (Some qs) f e =
+              let d : asked ≡ applied F a (grant_all_at row P (Some qs)) =
               tried ∙ ap (λ o. does (grant_all_at row P o)) f ∙ carried_whole row F a t
-              (grant_all_at row P (some qs)) refl in
+              (grant_all_at row P (Some qs)) refl in
               let n : length (map (handle row) qs) ≡ length ns =
               places-counted row P ns qs formed (accepts-small total cap ns (true-T (accepts total cap ns) k)) f in
               record {

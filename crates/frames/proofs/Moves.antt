@@ -1,11 +1,10 @@
 -- A block that moves, in any layout: in the tables that the grant leaves it still lives, and the new block is apart from it.
-use Rattle.mem.proofs.Prelude.{◌∙◌, ◌≡◌, sym, ap, ap₂, true, ⊎_elim, inl, inr, ◌⊎◌, some, none, List, [], ◌∷◌, ◌+◌, ℕ, ◌≤◌, ◌*◌, min, arith}
+use Rattle.mem.proofs.Prelude.{◌∙◌, ◌≡◌, sym, ap, ap₂, true, ⊎_elim, inl, inr, ◌⊎◌, Some, None, List, [], ◌∷◌, ◌+◌, ℕ, ◌≤◌, ◌*◌, min, arith, Ok}
 use Rattle.mem.specs.Bytes.{put, part}
 use Rattle.mem.proofs.Tests.{T_true}
 use Rattle.classes.specs.Classes.{slot_bytes}
 use Rattle.classes.specs.Alignments.{Askable}
 use Rattle.model.specs.declared.Refusal.TheVariants as refusals
-use Rattle.model.specs.declared.Reply.{Reply}
 use Rattle.model.specs.State.{Place, disp, size, align, pool_of, slot_number, rows, owned, start}
 use Rattle.model.specs.Blocks.{frame}
 use Rattle.model.specs.Answers.{done}
@@ -34,7 +33,7 @@ stays_block row p q s =
     cc
 
 module _ {L : Layout} {row len : ℕ} {t : List ℕ} (r : Lent L row len t) (v n : ℕ) (small : Askable v n) (q : Place)
-    (found : reserve row (view_by L row t) v n ≡ some q) where
+    (found : reserve row (view_by L row t) v n ≡ Some q) where
   grant_formed : Granted row (view_by L row t) v n q
   grant_formed = reserve_formed row (view_by L row t) v n q (facts r).formed small found
 
@@ -96,7 +95,7 @@ module _ {L : Layout} {row len : ℕ} {t : List ℕ} (r : Lent L row len t) (v n
     released_old = old_released row r.pos (view_by L row t) (facts r).formed v n small q found p there h.live
 
     -- the plan of the move
-    move-plan : v ≡ align p.state → move_at row (pool_of p) n p ≡ move_to row (pool_of p) p n (some q)
+    move-plan : v ≡ align p.state → move_at row (pool_of p) n p ≡ move_to row (pool_of p) p n (Some q)
     unfolding move_at
     move-plan e = ap (move_to row (pool_of p) p n) (ap₂ (λ P k. reserve row P k n) (sym (held_pool r h)) (sym e) ∙ found)
 
@@ -108,7 +107,7 @@ module _ {L : Layout} {row len : ℕ} {t : List ℕ} (r : Lent L row len t) (v n
         → a₁ ≡ put (owned_at row c) (frame c.class c.slot c.alloc.disp c.alloc.size) a
         → a₂ ≡ put (start_at row c) (part (start_at row b) (min b.alloc.size n) a₁) a₁
         → a₃ ≡ written a₂ (release_at row beside.place).changes → u ≡ encode_by L row (release_at row beside.place).pool
-        → s ≡ handle_at row c → v ≡ align p.state → CarriedOutBy (form_of row L) a (move_at row (pool_of p) n p) (Reply.Done s) a₃ u
+        → s ≡ handle_at row c → v ≡ align p.state → CarriedOutBy (form_of row L) a (move_at row (pool_of p) n p) (Ok s) a₃ u
     unfolding enframe
     moved c a a₁ a₂ a₃ u s ec e₁ e₂ e₃ eu es ev =
         let sb : start_at row b ≡ start row p = ap (start_at row) h.block in
@@ -126,6 +125,6 @@ module _ {L : Layout} {row len : ℕ} {t : List ℕ} (r : Lent L row len t) (v n
 
 -- no room: the plan refuses
 module _ {L : Layout} {row len : ℕ} {t : List ℕ} (r : Lent L row len t) (v n : ℕ) {b : Block} {p : Place} (h : Holds L row t b p) where
-  pub unmoved_plan : v ≡ align p.state → reserve row (view_by L row t) v n ≡ none → move_at row (pool_of p) n p ≡ refused_on refusals.NoRoom (pool_of p) p
+  pub unmoved_plan : v ≡ align p.state → reserve row (view_by L row t) v n ≡ None → move_at row (pool_of p) n p ≡ refused_on refusals.NoRoom (pool_of p) p
   unfolding move_at
   unmoved_plan ev e = ap (move_to row (pool_of p) p n) (ap₂ (λ P k. reserve row P k n) (sym (held_pool r h)) (sym ev) ∙ e)

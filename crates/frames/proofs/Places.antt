@@ -1,5 +1,5 @@
 -- Places of a pool as the calls handle them, in any layout: a live place's block lies in the arena, and what is looked up, as it is judged, is located.
-use Rattle.mem.proofs.Prelude.{◌∙◌, ◌≡◌, sym, ap, ap₂, refl, subst, true, Bool, false, some, none, Option, List, ◌∷◌, ◌++◌, ◌+◌, ℕ, ◌<◌, ◌≤◌, ◌*◌, mul-add}
+use Rattle.mem.proofs.Prelude.{◌∙◌, ◌≡◌, sym, ap, ap₂, refl, subst, true, Bool, false, Some, None, Option, List, ◌∷◌, ◌++◌, ◌+◌, ℕ, ◌<◌, ◌≤◌, ◌*◌, mul-add, Err}
 use Rattle.mem.proofs.Prelude.{arith, T, leb, lit≤}
 use native.Mathlib.Nat.{mul-le-mul_left, suc-mul}
 use Rattle.mem.specs.Lists.{choose}
@@ -24,7 +24,6 @@ use Rattle.rows.specs.Rows.{Lent, block_of, looked, Holds}
 use Rattle.rows.proofs.Rooms.{facts, few_rows}
 use Rattle.rows.specs.declared.Looked.{Looked}
 use Rattle.rows.specs.declared.Looked.TheVariants.{Present, Freed}
-use Rattle.frames.specs.declared.Located.TheVariants.{Refused}
 use Rattle.frames.specs.Blocks.{Standing, Lies, code_found, by_damage, by_bits, judged, located, judged_for, located_for}
 
 -- a slot of a pool lies in an arena that the pool fills
@@ -60,12 +59,12 @@ module _ {L : Layout} {row n : ℕ} {t : List ℕ} (r : Lent L row n t) where
   }
 
   -- a live place that is looked up, by its block
-  pub found_holds : (o : ℕ) (p : Place) → lookup row (view_by L row t) o ≡ some p → T (is_live p.state) → (b : Block) → b ≡ block_of row p → Holds L row t b p
+  pub found_holds : (o : ℕ) (p : Place) → lookup row (view_by L row t) o ≡ Some p → T (is_live p.state) → (b : Block) → b ≡ block_of row p → Holds L row t b p
   found_holds o p f l b e =
       subst (λ b. Holds L row t b p) (sym e) (place_holds p (lookup_found row r.pos (view_by L row t) o p f).0 l)
 
   -- the block that a grant reserves lies in the arena
-  pub reserved_stands : (v k : ℕ) → Askable v k → (q : Place) → reserve row (view_by L row t) v k ≡ some q → Standing row n (block_of row q)
+  pub reserved_stands : (v k : ℕ) → Askable v k → (q : Place) → reserve row (view_by L row t) v k ≡ Some q → Standing row n (block_of row q)
   reserved_stands v k small q f =
       let g : Granted row (view_by L row t) v k q = reserve_formed row (view_by L row t) v k q (facts r).formed small f in
       place_stands row r.pos n q g.formed (omega (arith, few_rows r, g.long)) ((facts r).long ∙ ap (λ k. row * k) (sym g.long))
@@ -90,8 +89,8 @@ module _ {L : Layout} {row n : ℕ} {t : List ℕ} (r : Lent L row n t) (o : ℕ
 
   known : (q : Option Place) → lookup row (view_by L row t) o ≡ q → Known (looked row q)
   unfolding choose
-  known none e = record { lies = tt; some_code = lit≤ tt; last_code = lit≤ tt }
-  known (some p) e = go (is_live p.state) refl
+  known None e = record { lies = tt; some_code = lit≤ tt; last_code = lit≤ tt }
+  known (Some p) e = go (is_live p.state) refl
     where
       go : (v : Bool) → is_live p.state ≡ v → Known (choose v (Present (block_of row p)) Freed)
       go false f = record { lies = tt; some_code = lit≤ tt; last_code = lit≤ tt }
@@ -110,19 +109,19 @@ module _ {L : Layout} {row n : ℕ} {t : List ℕ} (r : Lent L row n t) (o : ℕ
 module _ (row : ℕ) where
   pub judged-looked : (a : List ℕ) (h : ℕ) (q : Option Place) → judged row a h (looked row q) ≡ located row a h q
   unfolding choose
-  judged-looked a h none = refl
-  judged-looked a h (some p) = go (is_live p.state)
+  judged-looked a h None = refl
+  judged-looked a h (Some p) = go (is_live p.state)
     where
       go : (v : Bool) → judged row a h (choose v (Present (block_of row p)) Freed)
-          ≡ choose v (by_bits row h (count p.state) (by_damage row (block_of row p) (damage row a p))) (Refused AlreadyFree)
+          ≡ choose v (by_bits row h (count p.state) (by_damage row (block_of row p) (damage row a p))) (Err AlreadyFree)
       go true = refl
       go false = refl
 
   -- the size that answer 3 goes by, by what is looked up
   new_size_lem : (q : Option Place) (n : ℕ) → enlarged (code_found (looked row q)) n ≡ new_size q n
   unfolding choose
-  new_size_lem none n = refl
-  new_size_lem (some p) n = go p.state
+  new_size_lem None n = refl
+  new_size_lem (Some p) n = go p.state
     where
       go : (x : Slot) → enlarged (code_found (choose (is_live x) (Present (record {
         first = rows row p.before;
@@ -136,4 +135,4 @@ module _ (row : ℕ) where
 
   pub judged_for-looked : (a : List ℕ) (h n : ℕ) (q : Option Place) → judged_for row a h n (looked row q) ≡ located_for row a h n q
   judged_for-looked a h n q =
-      ap₂ (λ m r. choose (leb size_limit m) (Refused TooLarge) r) (new_size_lem q n) (judged-looked a h q)
+      ap₂ (λ m r. choose (leb size_limit m) (Err TooLarge) r) (new_size_lem q n) (judged-looked a h q)

@@ -1,5 +1,5 @@
 -- What the plans of a release and of a resize in place write, as the code writes it, in any layout; and what those leave that refuse by the block.
-use Rattle.mem.proofs.Prelude.{◌∙◌, ◌≡◌, sym, ap, refl, ap₂, true, false, List, ◌++◌, ◌+◌, ℕ, ◌≤◌, ◌*◌, ◌-◌, min, arith, T, leb, leb→le}
+use Rattle.mem.proofs.Prelude.{◌∙◌, ◌≡◌, sym, ap, refl, ap₂, true, false, List, ◌++◌, ◌+◌, ℕ, ◌≤◌, ◌*◌, ◌-◌, min, arith, T, leb, leb→le, Err}
 use Rattle.mem.specs.Lists.{choose, any}
 use Rattle.mem.specs.Bytes.{zeros, put}
 use Rattle.mem.proofs.Tests.{and_left, true-T, choose-true, choose-false}
@@ -7,7 +7,6 @@ use Rattle.classes.specs.Classes.{slot_bytes, rows_of, own_class}
 use Rattle.classes.specs.Alignments.{enlarged}
 use Rattle.model.specs.declared.Refusal.{Refusal}
 use Rattle.model.specs.declared.Refusal.TheVariants.{NotInPlace}
-use Rattle.model.specs.declared.Reply.{Reply}
 use Rattle.model.specs.State.{Pool, Place, is_live, disp, size, slot_number, pool_of, become, start}
 use Rattle.model.specs.Blocks.{reserved, header, spare}
 use Rattle.model.specs.Plans.{refused_on, release_at, resize_at, fits_in_place, in_place_at}
@@ -62,7 +61,7 @@ in_place_pool row p n = refl
 
 module _ {L : Layout} {row : ℕ} {t : List ℕ} {b : Block} {p : Place} (h : Holds L row t b p) where
   -- a refusal that names the block leaves what is lent
-  pub refused_on_lem : (a : List ℕ) (x : Refusal) → CarriedOutBy (form_of row L) a (refused_on x (pool_of p) p) (Reply.Refused x) a t
+  pub refused_on_lem : (a : List ℕ) (x : Refusal) → CarriedOutBy (form_of row L) a (refused_on x (pool_of p) p) (Err x) a t
   refused_on_lem a x = record { answer = refl; arena = refl; kept = h.bytes }
 
   -- a block can stay in its slot exactly if its place's plan is in place

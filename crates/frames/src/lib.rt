@@ -3,7 +3,7 @@
 
 ghost use Rattle.std.specs.Prelude.{◌≡◌, ◌+◌, ◌*◌, ◌≤◌, ◌<◌, min, length};
 ghost use Rattle.mem.specs.Bytes.{zeros, put, part};
-ghost use Rattle.classes.specs.Classes.{Lawful, slot_bytes, rows_of};
+ghost use Rattle.classes.specs.Classes.{slot_bytes, rows_of};
 ghost use Rattle.classes.specs.Alignments.{Askable};
 ghost use Rattle.model.specs.State.{use_bits, start_of};
 ghost use Rattle.model.specs.Blocks.{damage_in, frame};
@@ -11,30 +11,22 @@ ghost use Rattle.model.specs.Tables.{most_rows};
 ghost use Rattle.rows.specs.Rows.{owned_at, start_at, handle_at};
 ghost use Rattle.frames.specs.Blocks.{Standing, Lies, code_found, bits_found, judged, judged_for, stays_in};
 
-use model::{Damage, Refusal};
+use classes::Row;
+use model::Refusal;
 use rows::{Block, Looked};
 
-// What a handle names: a live block with header and guard as due, or why a call on it is refused.
-#[derive(Clone, Copy)]
-pub enum Located {
-    At(Block),
-    Refused(Refusal),
-}
-
 // The first byte that a block's slot owns, the slot having so many bytes.
-fn owned_in(row: usize, b: Block, bytes: usize) -> usize
+fn owned_in(row: Row, b: Block, bytes: usize) -> usize
     requires class_bound { (b.class < 48) × (b.slot < 31) × (b.first ≤ most_rows) × (bytes ≡ slot_bytes b.class) }
-    requires lawful { Lawful row }
-    ensures value { result ≡ owned_at row b }
+    ensures value { result ≡ owned_at row.bytes b }
     ensures small { result < 8388608 }
 {
-    row * b.first + 12 + b.slot * bytes
+    row.bytes * b.first + 12 + b.slot * bytes
 }
 
-pub fn owned_of(row: usize, b: Block) -> usize
+pub fn owned_of(row: Row, b: Block) -> usize
     requires class_bound { (b.class < 48) × (b.slot < 31) × (b.first ≤ most_rows) }
-    requires lawful { Lawful row }
-    ensures value { result ≡ owned_at row b }
+    ensures value { result ≡ owned_at row.bytes b }
     ensures small { result < 8388608 }
 {
     owned_in(row, b, 16 * classes::units(b.class))
@@ -56,32 +48,29 @@ pub fn start_in(handle: usize) -> usize
 }
 
 // Where a block starts.
-pub fn start_of(row: usize, b: Block) -> usize
+pub fn start_of(row: Row, b: Block) -> usize
     requires class_bound { (b.class < 48) × (b.slot < 31) × (b.first ≤ most_rows) }
     requires disp_bound { 16 * b.alloc.disp ≤ slot_bytes b.class }
-    requires lawful { Lawful row }
-    ensures value { result ≡ start_at row b }
+    ensures value { result ≡ start_at row.bytes b }
     ensures small { result < 8519680 }
 {
     owned_of(row, b) + 4 + 16 * b.alloc.disp
 }
 
 // The handle of a live block.
-pub fn handle_of(row: usize, b: Block) -> usize
+pub fn handle_of(row: Row, b: Block) -> usize
     requires class_bound { (b.class < 48) × (b.slot < 31) × (b.first ≤ most_rows) }
     requires disp_bound { 16 * b.alloc.disp ≤ slot_bytes b.class }
-    requires lawful { Lawful row }
-    ensures { result ≡ handle_at row b }
+    ensures { result ≡ handle_at row.bytes b }
 {
     start_of(row, b) + use_bits(b.alloc.count)
 }
 
 // Whether the header and the guard of a block are those due.
-fn inspect(row: usize, arena: &[u8], b: Block) -> Damage
-    requires standing { Standing row (length arena.now) b }
-    requires lawful { Lawful row }
+fn inspect(row: Row, arena: &[u8], b: Block) -> Result<(), Refusal>
+    requires standing { Standing row.bytes (length arena.now) b }
     ensures { result ≡ damage_in b.class b.slot b.alloc.disp b.alloc.size
-        (part (owned_at row b) (slot_bytes b.class) arena.now) }
+        (part (owned_at row.bytes b) (slot_bytes b.class) arena.now) }
 {
     blocks::inspect_at(
         arena,
@@ -94,11 +83,10 @@ fn inspect(row: usize, arena: &[u8], b: Block) -> Damage
 }
 
 // Writes zero over a block's slot, then its header and guard (mallocng's enframe). Gives the block's handle.
-pub fn lay_out(row: usize, arena: &mut [u8], b: Block) -> usize
-    requires standing { Standing row (length arena.old) b }
-    requires lawful { Lawful row }
-    ensures value { result ≡ handle_at row b }
-    ensures arena_after { arena.new ≡ put (owned_at row b) (frame b.class b.slot b.alloc.disp b.alloc.size) arena.old }
+pub fn lay_out(row: Row, arena: &mut [u8], b: Block) -> usize
+    requires standing { Standing row.bytes (length arena.old) b }
+    ensures value { result ≡ handle_at row.bytes b }
+    ensures arena_after { arena.new ≡ put (owned_at row.bytes b) (frame b.class b.slot b.alloc.disp b.alloc.size) arena.old }
 {
     let bytes = 16 * classes::units(b.class);
     let at = owned_in(row, b, bytes);
@@ -115,23 +103,21 @@ pub fn lay_out(row: usize, arena: &mut [u8], b: Block) -> usize
 }
 
 // Writes zero over a block's slot.
-pub fn clear_slot(row: usize, arena: &mut [u8], b: Block)
-    requires standing { Standing row (length arena.old) b }
-    requires lawful { Lawful row }
-    ensures { arena.new ≡ put (owned_at row b) (zeros (slot_bytes b.class)) arena.old }
+pub fn clear_slot(row: Row, arena: &mut [u8], b: Block)
+    requires standing { Standing row.bytes (length arena.old) b }
+    ensures { arena.new ≡ put (owned_at row.bytes b) (zeros (slot_bytes b.class)) arena.old }
 {
     let at = owned_of(row, b);
     mem::clear(arena, at, at + 16 * classes::units(b.class));
 }
 
 // Writes zero over all rows of a block's group.
-pub fn clear_group(row: usize, arena: &mut [u8], b: Block)
-    requires standing { Standing row (length arena.old) b }
-    requires lawful { Lawful row }
-    ensures { arena.new ≡ put (row * b.first) (zeros (row * rows_of row b.class)) arena.old }
+pub fn clear_group(row: Row, arena: &mut [u8], b: Block)
+    requires standing { Standing row.bytes (length arena.old) b }
+    ensures { arena.new ≡ put (row.bytes * b.first) (zeros (row.bytes * rows_of row.bytes b.class)) arena.old }
 {
-    let at = row * b.first;
-    mem::clear(arena, at, at + row * classes::rows(row, b.class));
+    let at = row.bytes * b.first;
+    mem::clear(arena, at, at + row.bytes * classes::rows(row, b.class));
 }
 
 // The low four bits of the handle of what was found: those of a live block; of anything else, 0.
@@ -146,24 +132,21 @@ fn bits_found(found: Looked) -> usize
 }
 
 // What was found at the start of a handle, as the calls see it: a live block with the handle's bits and undamaged, or why not.
-pub fn judge(row: usize, arena: &[u8], found: Looked, handle: usize) -> Located
-    requires lies { Lies row (length arena.now) found }
-    requires lawful { Lawful row }
-    ensures { result ≡ judged row arena.now handle found }
+pub fn judge(row: Row, arena: &[u8], found: Looked, handle: usize) -> Result<Block, Refusal>
+    requires lies { Lies row.bytes (length arena.now) found }
+    ensures { result ≡ judged row.bytes arena.now handle found }
 {
     // Read before the block is taken out: the copy of a block that a byte is read of is slower (DECISIONS 115).
     let bits = bits_found(found);
     match found {
-        Looked::Absent => Located::Refused(Refusal::NoSuchBlock),
-        Looked::Freed => Located::Refused(Refusal::AlreadyFree),
+        Looked::Absent => Err(Refusal::NoSuchBlock),
+        Looked::Freed => Err(Refusal::AlreadyFree),
         Looked::Present(b) => {
             if handle % 16 != bits {
-                return Located::Refused(Refusal::Stale);
+                return Err(Refusal::Stale);
             }
-            match inspect(row, arena, b) {
-                Damage::Intact => Located::At(b),
-                Damage::Damaged(r) => Located::Refused(r),
-            }
+            inspect(row, arena, b)?;
+            Ok(b)
         }
     }
 }
@@ -181,14 +164,19 @@ fn code_found(found: Looked) -> u8
 
 // What was found at the start of a handle, for a block that is to have n bytes: whether that is too large goes by the alignment of a live block,
 // before the handle's bits and the block's damage are looked at.
-pub fn judge_for(row: usize, arena: &[u8], found: Looked, handle: usize, n: usize) -> Located
-    requires lies { Lies row (length arena.now) found }
+pub fn judge_for(
+    row: Row,
+    arena: &[u8],
+    found: Looked,
+    handle: usize,
+    n: usize,
+) -> Result<Block, Refusal>
+    requires lies { Lies row.bytes (length arena.now) found }
     requires found_bound { code_found found ≤ 9 }
-    requires lawful { Lawful row }
-    ensures { result ≡ judged_for row arena.now handle n found }
+    ensures { result ≡ judged_for row.bytes arena.now handle n found }
 {
     if classes::too_large(code_found(found), n) {
-        return Located::Refused(Refusal::TooLarge);
+        return Err(Refusal::TooLarge);
     }
     judge(row, arena, found, handle)
 }

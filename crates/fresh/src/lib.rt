@@ -23,11 +23,6 @@ pub fn format(room: &mut [u8], len: usize)
     ensures { room.new ≡ put 0 (low 4 len) (zeros (length room.old)) }
 {
     mem::fill_zero(room);
-    let head = [
-        (len % 256) as u8,
-        (len / 256 % 256) as u8,
-        (len / 256 / 256 % 256) as u8,
-        (len / 256 / 256 / 256 % 256) as u8,
-    ];
+    let head = (len as u32).to_le_bytes();
     mem::copy_in(room, 0, &head);
 }

@@ -1,25 +1,16 @@
--- What a list call tells; and the planner, by whether a list can be planned: what it answers, and what it leaves in the array s.
-use Rattle.mem.proofs.Prelude.{◌∙◌, ◌≡◌, sym, ap, subst, true, false, List, [], ◌∷◌, ℕ, arith, length}
+-- The planner, by whether a list can be planned: what it answers, and what it leaves in the array s.
+use Rattle.mem.proofs.Prelude.{◌∙◌, ◌≡◌, sym, ap, subst, true, false, List, [], ◌∷◌, ℕ, arith, length, Ok, Err}
 use Rattle.mem.specs.Bytes.{put}
 use Rattle.mem.proofs.Tests.{choose-true, choose-false, T_true, true-T}
 use Rattle.mem.proofs.Laws.{put-nil}
 use Rattle.model.specs.declared.Refusal.TheVariants.{TooLong}
-use Rattle.model.specs.declared.Reply.{Reply}
-use Rattle.model.specs.declared.Answered.{Answered}
 use Rattle.model.specs.Answers.{Answer, list_done, refusal, reply_answer}
 use Rattle.model.specs.Proposals.{entries, accepts, plannable, full_caps, planned}
-use Rattle.model.specs.Calls.{Result, kept_in}
 use Rattle.model.proofs.Proposals.{planned_accepted}
-use Rattle.frames.specs.Listed.{Listed}
 use Rattle.gather.specs.Planned.{Planned}
 
--- what is left, by what was told
-pub told-list : {o : Result} {l m x u : List ℕ} {w v : Answered} → w ≡ v → Listed o (reply_answer v.reply) l m x (kept_in u v.totals)
-    → Listed o (reply_answer w.reply) l m x (kept_in u w.totals)
-told-list {o} {l} {m} {x} {u} e = subst (λ (w : Answered). Listed o (reply_answer w.reply) l m x (kept_in u w.totals)) (sym e)
-
 module _ (total cap : ℕ) (s : List ℕ) where
-  pub not-planned : plannable total cap ≡ false → Planned total cap (reply_answer (Reply.Refused TooLong)) s s
+  pub not-planned : plannable total cap ≡ false → Planned total cap (reply_answer (Err TooLong)) s s
   unfolding planned
   not-planned e =
       let p : planned total cap ≡ refusal TooLong = choose-false (plannable total cap) (list_done (full_caps entries total cap)) (refusal TooLong) e in
@@ -33,7 +24,7 @@ module _ (total cap : ℕ) (s : List ℕ) where
       }
 
   pub is_planned : plannable total cap ≡ true → {k : ℕ} {u : List ℕ} → k ≡ length (full_caps entries total cap)
-      → u ≡ put 0 (full_caps entries total cap) s → Planned total cap (reply_answer (Reply.Done k)) s u
+      → u ≡ put 0 (full_caps entries total cap) s → Planned total cap (reply_answer (Ok k)) s u
   unfolding planned
   is_planned e ek eu =
       let ns : List ℕ = full_caps entries total cap in

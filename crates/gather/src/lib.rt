@@ -1,4 +1,4 @@
-// The calls for gather lists (02 §3), over a lent arena, a lent table room and the totals in the record beside it, by value: the check of a proposal,
+// The calls for gather lists (02 §3), over a lent arena, a lent table room and the record of totals beside it: the check of a proposal,
 // the planner, and the grant of a whole list. Each promises one thing, for any bytes, totals, sizes and lists.
 #![tactic(auto)]
 
@@ -11,7 +11,7 @@ ghost use Rattle.model.specs.Calls.{kept_in, call};
 ghost use Rattle.frames.specs.Listed.{Listed};
 ghost use Rattle.gather.specs.Planned.{Planned};
 
-use model::{Answered, Refusal, Reply, Totals};
+use model::{Refusal, Totals};
 
 // Check list: whether a proposal for a list of total bytes is accepted.
 pub fn check_list(total: usize, cap: usize, sizes: &[usize]) -> bool
@@ -21,14 +21,13 @@ pub fn check_list(total: usize, cap: usize, sizes: &[usize]) -> bool
 }
 
 // Plan list: a proposal, which the check accepts, to the front of a lent array; the value is the number of its sizes.
-pub fn plan_list(total: usize, cap: usize, sizes: &mut [usize; 17]) -> Reply
+pub fn plan_list(total: usize, cap: usize, sizes: &mut [usize; 17]) -> Result<usize, Refusal>
     ensures { Planned «total» cap (reply_answer result) sizes.old sizes.new }
 {
     if !proposals::plannable(total, cap) {
-        return Reply::Refused(Refusal::TooLong);
+        return Err(Refusal::TooLong);
     }
-    let count = proposals::full_caps(total, cap, sizes);
-    Reply::Done(count)
+    Ok(proposals::full_caps(total, cap, sizes))
 }
 
 // Grant list: the sizes of an accepted proposal, all granted or none; the handles to the front of a lent list, and the value is their number.
@@ -36,35 +35,32 @@ pub fn plan_list(total: usize, cap: usize, sizes: &mut [usize; 17]) -> Reply
 pub fn grant_list(
     arena: &mut [u8],
     room: &mut [u8],
-    t: Totals,
+    t: &mut Totals,
     total: usize,
     cap: usize,
     sizes: &[usize],
     handles: &mut [usize],
-) -> Answered
-    ensures { Listed (call row_bytes arena.old (kept_in room.old t)
+) -> Result<usize, Refusal>
+    ensures { Listed (call row_bytes arena.old (kept_in room.old t.old)
         (grants_list «total» cap (length handles.old) sizes.now))
-        (reply_answer result.reply) handles.old handles.new arena.new (kept_in room.new result.totals) }
+        (reply_answer result) handles.old handles.new arena.new (kept_in room.new t.new) }
 {
     let len = arena.len();
     if !soundness::sound(classes::ROW, len, room, t) {
-        return totals::refused(Refusal::Unsound, t);
+        return Err(Refusal::Unsound);
     }
     if !proposals::plannable(total, cap) {
-        return totals::refused(Refusal::TooLong, t);
+        return Err(Refusal::TooLong);
     }
     if handles.len() < proposals::ENTRIES {
-        return totals::refused(Refusal::TooLong, t);
+        return Err(Refusal::TooLong);
     }
     if !proposals::accepts(total, cap, sizes) {
-        return totals::refused(Refusal::BadProposal, t);
+        return Err(Refusal::BadProposal);
     }
     if !survey::fits(classes::ROW, len, room, sizes) {
-        return totals::refused(Refusal::NoRoom, t);
+        return Err(Refusal::NoRoom);
     }
-    let granted = lists::grant_all(classes::ROW, arena, room, t, sizes, handles);
-    Answered {
-        reply: Reply::Done(sizes.len()),
-        totals: granted,
-    }
+    lists::grant_all(classes::ROW, arena, room, t, sizes, handles);
+    Ok(sizes.len())
 }

@@ -1,8 +1,8 @@
 -- Laws of text that is written piece by piece.
 use Rattle.mem.proofs.Prelude.{◌∙◌, ◌≡◌, sym, ap, ap₂, refl, List, [], ◌∷◌, ◌++◌, ℕ, suc, ◌+◌, arith, length}
-use Rattle.mem.proofs.Prelude.{length-append, set, length-set}
+use Rattle.mem.proofs.Prelude.{length-append, set}
 use Rattle.mem.specs.Bytes.{put}
-use Rattle.mem.proofs.Laws.{put-nil, put-cons, put-append, put-length}
+use Rattle.mem.proofs.Laws.{put-nil, put-cons, put-append}
 
 -- what is left, T, to be written at a place makes W written where the writing began
 abbrev pub Left : ℕ → List ℕ → List ℕ → ℕ → List ℕ → List ℕ → Type 0
@@ -32,6 +32,3 @@ ended at A B out e₁ e₂ o₁ o₂ n₁ p₁ n₂ p₂ =
     let l₁ = left_step at W out at e₁ W A (B ++ (10 ∷ [])) out o₁ refl n₁ p₁ (refl, refl) in
     let l₂ = left_step at W out e₁ e₂ (B ++ (10 ∷ [])) B (10 ∷ []) o₁ o₂ refl n₂ p₂ l₁ in
     (l₂.0, sym (put-nil (suc e₂) (set o₂ e₂ 10)) ∙ sym (put-cons e₂ 10 [] o₂) ∙ l₂.1)
-
-pub ended_long : (p q k v : ℕ) (A B out o₁ o₂ : List ℕ) → o₁ ≡ put p A out → o₂ ≡ put q B o₁ → length (set o₂ k v) ≡ length out
-ended_long p q k v A B out o₁ o₂ e f = length-set o₂ k v ∙ ap length f ∙ put-length q B o₁ ∙ ap length e ∙ put-length p A out

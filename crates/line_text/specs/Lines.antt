@@ -1,6 +1,5 @@
 -- The text of a line (02 §2).
-use Rattle.std.specs.Prelude.{ℕ, ◌≤◌, Bool, true, false, List, [], ◌∷◌, ◌++◌, length}
-use Rattle.std.proofs.Math.Option.{Option, none, some}
+use Rattle.std.specs.Prelude.{ℕ, ◌≤◌, Bool, true, false, List, [], ◌∷◌, ◌++◌, length, Option, None, Some}
 use Rattle.mem.specs.Lists.{join}
 use Rattle.model.specs.Answers.{Answer, reply_answer, report_answer}
 use Rattle.text.specs.Decimal.{decimal}
@@ -20,14 +19,14 @@ line_text (bad k) = (98 ∷ 97 ∷ 100 ∷ []) ++ (field k ++ (10 ∷ []))
 
 -- the answer that the code tells, none where the record is bad
 abbrev pub answer_of : Said → Option Answer
-answer_of (One r) = some (reply_answer r)
-answer_of (Six r) = some (report_answer r)
-answer_of Bad = none
+answer_of (One r) = Some (reply_answer r)
+answer_of (Six r) = Some (report_answer r)
+answer_of Bad = None
 
 -- a bad record is the last
 abbrev pub is_bad : Option Answer → Bool
-is_bad none = true
-is_bad (some r) = false
+is_bad None = true
+is_bad (Some r) = false
 
 -- the line of what is told is no longer than the loop has room for: only a report's depends on its numbers
 abbrev pub Short : Said → Type 0

@@ -7,13 +7,13 @@ ghost use Rattle.mem.specs.Bytes.{put};
 ghost use Rattle.trace.specs.Replay.{Line, line_of};
 ghost use Rattle.line_text.specs.Lines.{field, line_text, answer_of, is_bad, Short};
 
-use model::{Reply, Report};
+use model::{Refusal, Totals};
 
 // What a record tells: an answer with one value, a report, or that the record is bad.
 #[derive(Clone, Copy)]
 pub enum Said {
-    One(Reply),
-    Six(Report),
+    One(Result<usize, Refusal>),
+    Six(Result<Totals, Refusal>),
     Bad,
 }
 
@@ -35,10 +35,8 @@ fn put_fields(out: &mut [u8], at: usize, values: &[usize]) -> usize
     ensures small { result ≤ at + 21 * length values.now }
 {
     let mut end = at;
-    let mut i = 0;
-    while i < values.len() {
-        end = put_field(out, end, values[i]);
-        i += 1;
+    for &v in values {
+        end = put_field(out, end, v);
     }
     end
 }
@@ -94,9 +92,5 @@ pub fn put_line(out: &mut [u8], at: usize, count: usize, told: Said) -> usize
 pub fn is_bad(told: Said) -> bool
     ensures { result ≡ is_bad (answer_of told) }
 {
-    match told {
-        Said::One(_) => false,
-        Said::Six(_) => false,
-        Said::Bad => true,
-    }
+    matches!(told, Said::Bad)
 }

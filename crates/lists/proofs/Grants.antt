@@ -1,12 +1,12 @@
 -- One grant of a list, and what the search and the totals go on with.
-use Rattle.mem.proofs.Prelude.{◌∙◌, ◌≡◌, sym, ap, subst, List, [], ◌∷◌, ◌++◌, ℕ, ◌<◌, eqb, eqb-true, get_or}
+use Rattle.mem.proofs.Prelude.{◌∙◌, ◌≡◌, sym, ap, subst, Option, Some, None, List, [], ◌∷◌, ◌++◌, ℕ, ◌<◌, arith, eqb, eqb-true, get_or}
 use Rattle.mem.specs.Lists.{choose}
 use Rattle.mem.specs.Bytes.{put}
 use Rattle.mem.proofs.Tests.{choose_case}
 use Rattle.classes.specs.Classes.{class_of, size_limit}
 use Rattle.classes.specs.Alignments.{ordinary}
 use Rattle.model.specs.declared.Totals.{Totals}
-use Rattle.model.specs.State.{Pool, group}
+use Rattle.model.specs.State.{Pool, Place, group, handle, rows}
 use Rattle.model.specs.Blocks.{frame}
 use Rattle.model.specs.Plans.{open_from, reserve, enframe, totals}
 use Rattle.model.specs.Tables.{masks_layout, view}
@@ -16,33 +16,41 @@ use Rattle.rows.specs.declared.Block.{Block}
 use Rattle.rows.specs.Rows.{Lent, NoneOpen, owned_at, handle_at}
 use Rattle.rows.proofs.Rooms.{facts}
 use Rattle.rows.proofs.Walks.{open_start}
-use Rattle.reserving.specs.declared.Reserved.TheVariants.{Taken}
-use Rattle.frames.specs.Blocks.{Standing}
-use Rattle.reserving.specs.Reserves.{reserved_as}
+use Rattle.frames.specs.Blocks.{Standing, reserved_as}
+use Rattle.reserving.specs.Reserves.{next_totals}
 use Rattle.frames.proofs.Moves.{reserve-leaves}
-use Rattle.reserving.proofs.Places.{reserved_place}
-use Rattle.frames.specs.Grants.{handle_or, next_arena}
+use Rattle.frames.proofs.Reserved.{reserved_place}
+use Rattle.frames.specs.Grants.{handle_of, next_arena}
 use Rattle.frames.proofs.Grants.{Further}
-use Rattle.lists.specs.Grants.{first_or, totals_or}
+use Rattle.lists.specs.declared.Placed.{Placed}
+use Rattle.lists.specs.Grants.{placed_as}
+
+-- the first row of the group of what is granted
+abbrev pub first_or : ℕ → Option Place → ℕ
+first_or row None = 0
+first_or row (Some q) = rows row q.before
+
+-- what is granted tells its handle and that row
+pub placed_parts : (row : ℕ) (o : Option Place) (p : Placed) → Some p ≡ placed_as row o → (Some p.handle ≡ handle_of row o) × (p.first ≡ first_or row o)
+placed_parts row None p e = let z : ◌≡◌ {A = ℕ} 0 1 = cc in absurd (omega arith)
+placed_parts row (Some q) p e =
+    let h : p ≡ record { handle = handle row q; first = rows row q.before } = cc in
+    (ap (λ (p : Placed). Some p.handle) h, ap (λ (p : Placed). p.first) h)
 
 -- one grant
 module _ {row len : ℕ} {t : List ℕ} (r : Lent masks_layout row len t) (n : ℕ) (h : n < size_limit) where
-  pub record GrantedOne (a : List ℕ) (s : Totals) (b : Block) (z : Totals) : Type 0 where
+  pub record GrantedOne (a : List ℕ) (b : Block) : Type 0 where
     pub stands : Standing row len b
-    pub handed : handle_at row b ≡ handle_or row (reserve row (view row t) ordinary n)
-    pub first : b.first ≡ first_or row (reserve row (view row t) ordinary n)
-    pub counts : z ≡ totals_or row s (reserve row (view row t) ordinary n)
+    pub placed : Some (record { handle = handle_at row b; first = b.first }) ≡ placed_as row (reserve row (view row t) ordinary n)
     pub arena : put (owned_at row b) (frame b.class b.slot b.alloc.disp b.alloc.size) a ≡ next_arena row a (reserve row (view row t) ordinary n)
 
-  pub granted_one : (a : List ℕ) (s : Totals) (b : Block) (z : Totals) → reserved_as row (reserve row (view row t) ordinary n) ≡ Taken b z → GrantedOne a s b z
+  pub granted_one : (a : List ℕ) (b : Block) → reserved_as row (reserve row (view row t) ordinary n) ≡ Some b → GrantedOne a b
   unfolding enframe
-  granted_one a s b z e =
-      let (q, f, k, y) = reserved_place row (reserve row (view row t) ordinary n) b z e in
-      subst (λ b. GrantedOne a s b z) k (record {
+  granted_one a b e =
+      let (q, f, k) = reserved_place row (reserve row (view row t) ordinary n) b e in
+      subst (GrantedOne a) k (record {
         stands = (reserve-leaves r ordinary n (plain h) q f).stands;
-        handed = sym (ap (handle_or row) f);
-        first = sym (ap (first_or row) f);
-        counts = sym y ∙ sym (ap (totals_or row s) f);
+        placed = sym (ap (placed_as row) f);
         arena = sym (ap (next_arena row a) f);
       })
 
@@ -70,5 +78,5 @@ module _ {row : ℕ} {ns A : List ℕ} {Q : Pool} {M : List ℕ} {i : ℕ} {t b 
         (grant_shut row (view row t) ordinary (get_or ns i 0) x.place (facts r).formed x.found);
   }
 
-  pub counts_on : (y z : Totals) → z ≡ totals_or row y (reserve row (view row t) ordinary (get_or ns i 0)) → z ≡ totals row (view row u)
-  counts_on y z e = e ∙ ap (totals_or row y) x.found ∙ sym (ap (totals row) x.says)
+  pub counts_on : (y z : Totals) → z ≡ next_totals row y (reserve row (view row t) ordinary (get_or ns i 0)) → z ≡ totals row (view row u)
+  counts_on y z e = e ∙ ap (next_totals row y) x.found ∙ sym (ap (totals row) x.says)

@@ -1,15 +1,8 @@
--- What a grant of a list leaves besides: its group's first row, and the totals.
-use Rattle.std.specs.Prelude.{ℕ}
-use Rattle.std.proofs.Math.Option.{Option, none, some}
-use Rattle.model.specs.declared.Totals.{Totals}
-use Rattle.model.specs.State.{Place, pool_of, rows}
-use Rattle.model.specs.Plans.{totals}
+-- What a grant of a list gives, as the code has it.
+use Rattle.std.specs.Prelude.{ℕ, Option, None, Some}
+use Rattle.model.specs.State.{Place, handle, rows}
+use Rattle.lists.specs.declared.Placed.{Placed}
 
-module _ (row : ℕ) where
-  abbrev pub first_or : Option Place → ℕ
-  first_or none = 0
-  first_or (some q) = rows row q.before
-
-  abbrev pub totals_or : Totals → Option Place → Totals
-  totals_or s none = s
-  totals_or s (some q) = totals row (pool_of q)
+abbrev pub placed_as : ℕ → Option Place → Option Placed
+placed_as row None = None
+placed_as row (Some q) = Some (record { handle = handle row q; first = rows row q.before })

@@ -1,73 +1,54 @@
 // The grants of a list that fits, one after the other.
 #![tactic(auto)]
 
-ghost use Rattle.std.specs.Prelude.{◌≡◌, true, map, ◌≤◌, ◌<◌, eqb, ltb, length};
-ghost use Rattle.mem.specs.Lists.{choose, every, is_some};
+ghost use Rattle.std.specs.Prelude.{◌≡◌, true, map, ◌≤◌, ◌<◌, eqb, ltb, length, is_some};
+ghost use Rattle.mem.specs.Lists.{choose, every};
 ghost use Rattle.mem.specs.Bytes.{put};
-ghost use Rattle.classes.specs.Classes.{Lawful, class_of, size_limit};
+ghost use Rattle.classes.specs.Classes.{class_of, size_limit};
 ghost use Rattle.classes.specs.Alignments.{ordinary};
 ghost use Rattle.model.specs.State.{handle};
 ghost use Rattle.model.specs.Plans.{reserve, enframe, reserve_all, pool_after, totals};
 ghost use Rattle.model.specs.Tables.{masks_layout, sound, view, encode};
 ghost use Rattle.model.specs.Calls.{written};
 ghost use Rattle.rows.specs.Rows.{NoneOpen};
-ghost use Rattle.reserving.specs.Reserves.{next_room};
-ghost use Rattle.frames.specs.Grants.{granted, handle_or, next_arena};
-ghost use Rattle.lists.specs.Grants.{first_or, totals_or};
+ghost use Rattle.reserving.specs.Reserves.{next_room, next_totals};
+ghost use Rattle.frames.specs.Grants.{granted, next_arena};
+ghost use Rattle.lists.specs.Grants.{placed_as};
 
-use classes::Sized;
+use classes::{Row, Sized};
 use model::Totals;
-use reserving::Reserved;
 
-// Where a granted block is: its handle, and the first row of its group; and the totals with it.
+// Where a granted block is: its handle, and the first row of its group.
 #[derive(Clone, Copy)]
 pub struct Placed {
     pub handle: usize,
     pub first: usize,
-    pub totals: Totals,
 }
 
-// Grants a block; zeros, and the totals as they were, where there is no room. No group of its class before row `from` serves.
+// Grants a block, if there is room. No group of its class before row `from` serves.
 fn grant_one(
-    row: usize,
+    row: Row,
     arena: &mut [u8],
     room: &mut [u8],
-    t: Totals,
+    t: &mut Totals,
     s: Sized,
     from: usize,
-) -> Placed
-    requires room_value { sound row (length arena.old) room.old ≡ true }
-    requires size_known { (s.size < size_limit) × (s.class ≡ class_of s.size) × (s.class < 48) × NoneOpen masks_layout row room.old s.class from
-        × (t ≡ totals row (view row room.old)) }
-    requires lawful { Lawful row }
-    ensures handle_value { (result.handle ≡ handle_or row (reserve row (view row room.old) ordinary s.size))
-        × (result.first ≡ first_or row (reserve row (view row room.old) ordinary s.size))
-        × (result.totals ≡ totals_or row t (reserve row (view row room.old) ordinary s.size)) }
-    ensures arena_after { arena.new ≡ next_arena row arena.old (reserve row (view row room.old) ordinary s.size) }
-    ensures room_after { room.new ≡ next_room row room.old (reserve row (view row room.old) ordinary s.size) }
+) -> Option<Placed>
+    requires room_value { sound row.bytes (length arena.old) room.old ≡ true }
+    requires size_known { (s.size < size_limit) × (s.class ≡ class_of s.size) × (s.class < 48) × NoneOpen masks_layout row.bytes room.old s.class from
+        × (t.old ≡ totals row.bytes (view row.bytes room.old)) }
+    ensures value { result ≡ placed_as row.bytes (reserve row.bytes (view row.bytes room.old) ordinary s.size) }
+    ensures arena_after { arena.new ≡ next_arena row.bytes arena.old (reserve row.bytes (view row.bytes room.old) ordinary s.size) }
+    ensures room_after { room.new ≡ next_room row.bytes room.old (reserve row.bytes (view row.bytes room.old) ordinary s.size) }
+    ensures totals_after { t.new ≡ next_totals row.bytes t.old (reserve row.bytes (view row.bytes room.old) ordinary s.size) }
 {
-    let Reserved::Taken(b, taken) = reserving::reserve_in(
-        row,
-        arena.len(),
-        room,
-        t,
-        s.class,
-        classes::ORDINARY,
-        s.size,
-        from,
-    ) else {
-        return Placed {
-            handle: 0,
-            first: 0,
-            totals: t,
-        };
-    };
+    let len = arena.len();
+    let b = reserving::reserve_in(row, len, room, t, s.class, classes::ORDINARY, s.size, from)?;
     let handle = frames::lay_out(row, arena, b);
-    Placed {
-        handle: handle,
+    Some(Placed {
+        handle,
         first: b.first,
-        totals: taken,
-    }
+    })
 }
 
 // Where the search for a class begins: where the last one ended, if it was for the same class.
@@ -77,40 +58,34 @@ fn begin(c: usize, last: usize, from: usize) -> usize
     if c == last { from } else { 0 }
 }
 
-// Grants sizes that fit, and writes the handles to the front of a list. Gives the totals after them.
+// Grants sizes that fit, and writes the handles to the front of a list.
 pub fn grant_all(
-    row: usize,
+    row: Row,
     arena: &mut [u8],
     room: &mut [u8],
-    t: Totals,
+    t: &mut Totals,
     sizes: &[usize],
     handles: &mut [usize],
-) -> Totals
-    requires room_value { sound row (length arena.old) room.old ≡ true }
+)
+    requires room_value { sound row.bytes (length arena.old) room.old ≡ true }
     requires small_sizes { (every (λ n. ltb n size_limit) sizes.now ≡ true) × (length sizes.now ≤ length handles.old) }
-    requires room_enough { (is_some (reserve_all row (view row room.old) sizes.now) ≡ true) × (t ≡ totals row (view row room.old)) }
-    requires lawful { Lawful row }
+    requires room_enough { (is_some (reserve_all row.bytes (view row.bytes room.old) sizes.now) ≡ true) × (t.old ≡ totals row.bytes (view row.bytes room.old)) }
     ensures arena_after { arena.new
-        ≡ written arena.old (map (enframe row) (granted (reserve_all row (view row room.old) sizes.now))) }
+        ≡ written arena.old (map (enframe row.bytes) (granted (reserve_all row.bytes (view row.bytes room.old) sizes.now))) }
     ensures room_after { room.new
-        ≡ encode row (pool_after (view row room.old) (granted (reserve_all row (view row room.old) sizes.now))) }
+        ≡ encode row.bytes (pool_after (view row.bytes room.old) (granted (reserve_all row.bytes (view row.bytes room.old) sizes.now))) }
     ensures handles_after { handles.new
-        ≡ put 0 (map (handle row) (granted (reserve_all row (view row room.old) sizes.now))) handles.old }
-    ensures value { result
-        ≡ totals row (pool_after (view row room.old) (granted (reserve_all row (view row room.old) sizes.now))) }
+        ≡ put 0 (map (handle row.bytes) (granted (reserve_all row.bytes (view row.bytes room.old) sizes.now))) handles.old }
+    ensures totals_after { t.new
+        ≡ totals row.bytes (pool_after (view row.bytes room.old) (granted (reserve_all row.bytes (view row.bytes room.old) sizes.now))) }
 {
-    let mut kept = t;
     let mut last = Sized { size: 0, class: 0 };
     let mut from = 0;
-    let mut i = 0;
-    while i < sizes.len() {
-        let s = classes::with_class(sizes[i], last);
-        let p = grant_one(row, arena, room, kept, s, begin(s.class, last.class, from));
+    for (i, n) in sizes.iter().enumerate() {
+        let s = classes::with_class(*n, last);
+        let p = grant_one(row, arena, room, t, s, begin(s.class, last.class, from)).unwrap();
         handles[i] = p.handle;
         from = p.first;
-        kept = p.totals;
         last = s;
-        i += 1;
     }
-    kept
 }

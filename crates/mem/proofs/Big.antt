@@ -1,31 +1,9 @@
 -- Laws of numbers high byte first.
-use Rattle.mem.proofs.Prelude.{◌∙◌, ◌≡◌, ap, refl, List, [], ◌∷◌, ◌++◌, ℕ, zero, suc, ◌+◌, ◌*◌, ◌/◌, ◌%◌, ◌^◌, ◌≤◌, ◌<◌, pow-suc, arith}
-use Rattle.mem.proofs.Prelude.{append_assoc, append-nil, T, ltb, ltb→lt, length, get_or, length-append}
+use Rattle.mem.proofs.Prelude.{◌∙◌, ◌≡◌, refl, List, [], ◌∷◌, ◌++◌, ℕ, zero, suc, ◌+◌, ◌*◌, ◌/◌, ◌%◌, ◌^◌, ◌<◌, pow-suc, arith}
+use Rattle.mem.proofs.Prelude.{append_assoc, append-nil, T, ltb, ltb→lt, length, length-append}
 use Rattle.mem.specs.Lists.{every}
-use Rattle.mem.specs.Bytes.{high, big_from, big, part}
+use Rattle.mem.specs.Bytes.{high, big_from, big}
 use Rattle.mem.proofs.Tests.{and_left, and_right}
-use Rattle.mem.proofs.Laws.{part-cons}
-
--- ---- read
-
--- the bytes of a part, one by one
-big-part : (p k a : ℕ) (s : List ℕ) → p + suc k ≤ length s → big_from a (part p (suc k) s) ≡ big_from (256 * a + get_or s p 0) (part (suc p) k s)
-big-part p k a s h = ap (big_from a) (part-cons p k s 0 (omega arith))
-
-pub big_two : (p a : ℕ) (s : List ℕ) → p + 2 ≤ length s → big_from a (part p 2 s) ≡ 65536 * a + (256 * get_or s p 0 + get_or s (suc p) 0)
-big_two p a s h =
-    let e = big-part p 1 a s h in
-    let f = big-part (suc p) 0 (256 * a + get_or s p 0) s (omega arith) in
-    e ∙ f ∙ omega arith
-
-pub big-four : (p : ℕ) (s : List ℕ) → p + 4 ≤ length s → big (part p 4 s) ≡ 65536 * big (part p 2 s) + big (part (suc (suc p)) 2 s)
-big-four p s h =
-    let e = big-part p 3 0 s h in
-    let f = big-part (suc p) 2 (256 * 0 + get_or s p 0) s (omega arith) in
-    let g = big_two (suc (suc p)) (256 * (256 * 0 + get_or s p 0) + get_or s (suc p) 0) s (omega arith) in
-    let i = big_two p 0 s (omega arith) in
-    let j = big_two (suc (suc p)) 0 s (omega arith) in
-    e ∙ f ∙ g ∙ omega arith
 
 -- ---- written and read
 

@@ -2,7 +2,7 @@
 pub use mathlib.Core.Path.{◌∙◌, ◌≡◌, sym, ap, refl, ap₂, subst}
 pub use mathlib.Core.Bool.{true, Bool, false, ◌&&◌, not, ◌||◌, and_assoc, true≢false, and-false, and-true}
 pub use mathlib.Core.Logic.{⊎_elim, inl, inr, ◌⊎◌}
-pub use mathlib.Core.Option.{some, none, Option}
+pub use Rattle.std.specs.Prelude.{Some, None, Option, is_some, Ok, Err, Result}
 pub use mathlib.Core.List.{List, [], ◌∷◌, ◌++◌, append_assoc, map, append-nil}
 pub use Prim.Native.Nat.{◌+◌, ℕ, ◌<◌, ◌≤◌, ◌*◌, ◌-◌, suc, ◌/◌, zero, ◌^◌, ◌%◌, min}
 pub use native.Mathlib.Nat.{add-zero, zero-add, mul_comm, pow-suc, sub-zero, le-div_iff_mul-le, mul-add, add_assoc, mul-div_cancel_left}

@@ -1,16 +1,10 @@
 -- Tests and walks over lists.
-use Rattle.std.specs.Prelude.{ℕ, zero, suc, ◌+◌, Bool, true, false, ◌&&◌, ◌||◌, List, [], ◌∷◌, ◌++◌, eqb}
-use Rattle.std.proofs.Math.Option.{Option, none, some}
+use Rattle.std.specs.Prelude.{ℕ, zero, suc, ◌+◌, Bool, true, false, ◌&&◌, ◌||◌, List, [], ◌∷◌, ◌++◌, eqb, Option, None, Some}
 
 -- the first if the test holds, else the second
 unfoldable pub choose {ℓ} : {A : Type ℓ} → Bool → A → A → A
 choose true x y = x
 choose false x y = y
-
--- whether there is one
-abbrev pub is_some {ℓ} : {A : Type ℓ} → Option A → Bool
-is_some none = false
-is_some (some x) = true
 
 module _ {ℓ} {A : Type ℓ} where
   abbrev pub every : (A → Bool) → List A → Bool
@@ -26,11 +20,6 @@ module _ {ℓ} {A : Type ℓ} where
   first f [] = zero
   first f (x ∷ xs) = let r = suc (first f xs) in choose (f x) zero r
 
-  -- the first element that passes the test
-  abbrev pub find : (A → Bool) → List A → Option A
-  find f [] = none
-  find f (x ∷ xs) = let r = find f xs in choose (f x) (some x) r
-
   abbrev pub sum : (A → ℕ) → List A → ℕ
   sum f [] = 0
   sum f (x ∷ xs) = f x + sum f xs
@@ -39,6 +28,11 @@ module _ {ℓ} {A : Type ℓ} where
   abbrev pub join : (A → List ℕ) → List A → List ℕ
   join f [] = []
   join f (x ∷ xs) = f x ++ join f xs
+
+-- the first element that passes the test
+abbrev pub find : {A : Type 0} → (A → Bool) → List A → Option A
+find f [] = None
+find f (x ∷ xs) = let r = find f xs in choose (f x) (Some x) r
 
 -- whether a list begins with another
 abbrev pub starts : List ℕ → List ℕ → Bool

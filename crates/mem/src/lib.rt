@@ -8,18 +8,14 @@ ghost use Rattle.mem.specs.Bytes.{zeros, number, big, same, part, put};
 pub fn wide(x: u8) -> usize
     ensures { (result ≡ x) × (result < 256) }
 {
-    x as usize
+    usize::from(x)
 }
 
 // Writes zero over a slice.
 pub fn fill_zero(s: &mut [u8])
     ensures { s.new ≡ zeros (length s.old) }
 {
-    let mut i = 0;
-    while i < s.len() {
-        s[i] = 0;
-        i += 1;
-    }
+    s.fill(0);
 }
 
 // Writes zero from one place up to another.
@@ -27,7 +23,7 @@ pub fn clear(s: &mut [u8], from: usize, to: usize)
     requires { (from ≤ to) × (to ≤ length s.old) }
     ensures { s.new ≡ put from (zeros (to - from)) s.old }
 {
-    fill_zero(&mut s[from..to]);
+    s[from..to].fill(0);
 }
 
 // Whether n bytes from a place on are zero. It runs to the end of its stretch, so that it is vectorised.
@@ -36,10 +32,8 @@ pub fn zeros_at(s: &[u8], at: usize, n: usize) -> bool
     ensures { result ≡ same (part at n s.now) (zeros n) }
 {
     let mut seen: u8 = 0;
-    let mut i = 0;
-    while i < n {
-        seen = seen | s[at + i];
-        i += 1;
+    for x in &s[at..at + n] {
+        seen |= *x;
     }
     seen == 0
 }
@@ -48,28 +42,16 @@ pub fn zeros_at(s: &[u8], at: usize, n: usize) -> bool
 pub fn same_bytes(a: &[u8], b: &[u8]) -> bool
     ensures { result ≡ same a.now b.now }
 {
-    if a.len() != b.len() {
-        return false;
-    }
-    let mut i = 0;
-    while i < a.len() {
-        if a[i] != b[i] {
-            return false;
-        }
-        i += 1;
-    }
-    true
+    a == b
 }
 
-// Writes the bytes of v from a place on.
+// Writes the bytes of v from a place on. A loop: `copy_from_slice` would need the symbol memmove.
 pub fn copy_in(s: &mut [u8], at: usize, v: &[u8])
     requires { at + length v.now ≤ length s.old }
     ensures { s.new ≡ put at v.now s.old }
 {
-    let mut i = 0;
-    while i < v.len() {
-        s[at + i] = v[i];
-        i += 1;
+    for (i, x) in v.iter().enumerate() {
+        s[at + i] = *x;
     }
 }
 
@@ -79,11 +61,7 @@ pub fn copy_within(s: &mut [u8], from: usize, to: usize, n: usize)
     requires apart { (from + n ≤ to) ⊎ (to + n ≤ from) }
     ensures { s.new ≡ put to (part from n s.old) s.old }
 {
-    let mut i = 0;
-    while i < n {
-        s[to + i] = s[from + i];
-        i += 1;
-    }
+    s.copy_within(from..from + n, to);
 }
 
 // The number in two or three bytes.
@@ -92,7 +70,7 @@ pub fn get2(s: &[u8], at: usize) -> usize
     ensures value { result ≡ number (part at 2 s.now) }
     ensures small { result < 65536 }
 {
-    wide(s[at]) + 256 * wide(s[at + 1])
+    usize::from(u16::from_le_bytes([s[at], s[at + 1]]))
 }
 
 pub fn get3(s: &[u8], at: usize) -> usize
@@ -107,17 +85,14 @@ pub fn get3(s: &[u8], at: usize) -> usize
 pub fn wide32(x: u8) -> u32
     ensures { (result ≡ x) × (result < 256) }
 {
-    x as u32
+    u32::from(x)
 }
 
 pub fn quad(s: &[u8], at: usize) -> u32
     requires { at + 4 ≤ length s.now }
     ensures { result ≡ number (part at 4 s.now) }
 {
-    wide32(s[at])
-        + 256 * wide32(s[at + 1])
-        + 65536 * wide32(s[at + 2])
-        + 16777216 * wide32(s[at + 3])
+    u32::from_le_bytes([s[at], s[at + 1], s[at + 2], s[at + 3]])
 }
 
 // The number in two or four bytes, high byte first.
@@ -126,7 +101,7 @@ pub fn big2(s: &[u8], at: usize) -> usize
     ensures value { result ≡ big (part at 2 s.now) }
     ensures small { result < 65536 }
 {
-    256 * wide(s[at]) + wide(s[at + 1])
+    usize::from(u16::from_be_bytes([s[at], s[at + 1]]))
 }
 
 pub fn big4(s: &[u8], at: usize) -> usize
@@ -134,5 +109,5 @@ pub fn big4(s: &[u8], at: usize) -> usize
     ensures value { result ≡ big (part at 4 s.now) }
     ensures small { result < 4294967296 }
 {
-    65536 * big2(s, at) + big2(s, at + 2)
+    u32::from_be_bytes([s[at], s[at + 1], s[at + 2], s[at + 3]]) as usize
 }

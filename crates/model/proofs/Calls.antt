@@ -1,9 +1,8 @@
 -- What a call is, case by case, whatever the form of the tables: unsound tables, a refusal, a grant, a block that is named.
-use Rattle.mem.proofs.Prelude.{◌∙◌, ◌≡◌, sym, ap, refl, Bool, true, false, Option, some, none, List, [], ℕ, ◌%◌, T, not, eqb, length}
+use Rattle.model.specs.Blocks.{Damage}
+use Rattle.mem.proofs.Prelude.{◌∙◌, ◌≡◌, sym, ap, refl, Bool, true, false, Option, Some, None, List, [], ℕ, ◌%◌, T, not, eqb, length, Ok, Err}
 use Rattle.mem.proofs.Tests.{choose-true, choose-false, choose_case, not_so, T_true, true-T}
 use Rattle.model.specs.declared.Refusal.{Refusal}
-use Rattle.model.specs.declared.Damage.{Damage}
-use Rattle.model.specs.declared.Damage.TheVariants.{Intact, Damaged}
 use Rattle.model.specs.State.{Pool, Place, is_live, count, use_bits, start_of}
 use Rattle.model.specs.Answers.{refusal}
 use Rattle.model.specs.Plans.{Plan, Call, measures, reports, is_set_up}
@@ -35,16 +34,16 @@ module _ (row : ℕ) (F : Form) (a : List ℕ) (t : F.Kept) where
 
 -- a plan that names no block, and one that names a block that is not damaged, or is
 module _ (row : ℕ) (F : Form) (a : List ℕ) (t : F.Kept) (p : Plan) where
-  pub carried_whole : damaged row a p.checks ≡ Intact → carried_by row F a t p ≡ applied F a p
+  pub carried_whole : damaged row a p.checks ≡ Ok tt → carried_by row F a t p ≡ applied F a p
   unfolding carried_by unless
   carried_whole e = ap (λ d. unless d (applied F a p) (λ r. keeps (refusal r) a t)) e
 
-  pub carried-damaged : (r : Refusal) → damaged row a p.checks ≡ Damaged r → carried_by row F a t p ≡ keeps (refusal r) a t
+  pub carried-damaged : (r : Refusal) → damaged row a p.checks ≡ Err r → carried_by row F a t p ≡ keeps (refusal r) a t
   unfolding carried_by unless
   carried-damaged r e = ap (λ d. unless d (applied F a p) (λ r. keeps (refusal r) a t)) e
 
 -- a call on the block at a start, by what is looked up
-pub on_live : (P : Pool) (f : Place → Plan) (p : Place) → T (is_live p.state) → on_block P f (some p) ≡ f p
+pub on_live : (P : Pool) (f : Place → Plan) (p : Place) → T (is_live p.state) → on_block P f (Some p) ≡ f p
 on_live P f p l = choose-true (is_live p.state) _ _ (T_true (is_live p.state) l)
 
 -- ---- calls that change nothing
@@ -67,10 +66,10 @@ module _ (row : ℕ) (F : Form) (L : FormLaws row F) (a : List ℕ) (t : F.Kept)
       p = plan row (F.view t) c
 
       carries : F.sound (length a) t ≡ true → (d : Damage) → damaged row a p.checks ≡ d → LeftAsIs a t (call_by row F a t c)
-      carries s Intact h =
+      carries s (Ok tt) h =
           kept (applied F a p) (ap (written a) e, ap F.encode f ∙ same_room row F a t s L)
           (call-sound row F a t s c k ∙ carried_whole row F a t p h)
-      carries s (Damaged r) h = kept (keeps (refusal r) a t) (refl, refl) (call-sound row F a t s c k ∙ carried-damaged row F a t p r h)
+      carries s (Err r) h = kept (keeps (refusal r) a t) (refl, refl) (call-sound row F a t s c k ∙ carried-damaged row F a t p r h)
 
       sounds : (b : Bool) → F.sound (length a) t ≡ b → LeftAsIs a t (call_by row F a t c)
       sounds true s = carries s (damaged row a p.checks) refl
@@ -84,8 +83,8 @@ module _ (row : ℕ) (F : Form) (L : FormLaws row F) (a : List ℕ) (t : F.Kept)
       M P l = (l.changes ≡ []) × (l.pool ≡ P)
 
       nothing : (P : Pool) (x : Option Place) → M P (on_block P (by_handle P h (measure_at row P)) x)
-      nothing P none = (refl, refl)
-      nothing P (some p) =
+      nothing P None = (refl, refl)
+      nothing P (Some p) =
           choose_case (M P) (is_live p.state) _ _
           (λ _. choose_case (M P) (eqb (h % 16) (use_bits (count p.state))) _ _ (λ _. (refl, refl)) (λ _. (refl, refl))) (λ _. (refl, refl))
 

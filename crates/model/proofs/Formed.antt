@@ -1,5 +1,5 @@
 -- What a call leaves: a well-formed pool of as many rows; and where it refuses, the pool as it was, and nothing written.
-use Rattle.mem.proofs.Prelude.{◌∙◌, ◌≡◌, sym, ap, refl, subst, true, Bool, false, ◌||◌, some, none, Option, List, [], ◌∷◌, ◌++◌, ◌+◌, ℕ, ◌<◌, ◌≤◌}
+use Rattle.mem.proofs.Prelude.{◌∙◌, ◌≡◌, sym, ap, refl, subst, true, Bool, false, ◌||◌, Some, None, Option, List, [], ◌∷◌, ◌++◌, ◌+◌, ℕ, ◌<◌, ◌≤◌}
 use Rattle.mem.proofs.Prelude.{◌*◌, ◌-◌, arith, leb-false, T, eqb, eqb-true, leb, ltb, leb→le, ltb→lt, lt→ltb, le→leb, length, length-append, lit≤, ◌%◌}
 use Rattle.mem.specs.Lists.{every, any}
 use Rattle.mem.proofs.Tests.{and_left, and_right, and_both, every_append, choose_case, true-T, eq→eqb}
@@ -152,7 +152,7 @@ code_kept c (Idle r k d) l t = absurd l
 code_kept c (Live a) l t = (leb→le 1 a.align (search (and_left, and_right)), leb→le a.align 9 (search (and_left, and_right)))
 
 -- a live block that is found gets a size for which answer 3 is not due
-pub resizable : (row : ℕ) (pos : 0 < row) (P : Pool) (o n : ℕ) → T (well_formed P) → (p : Place) → lookup row P o ≡ some p → pool_of p ≡ P
+pub resizable : (row : ℕ) (pos : 0 < row) (P : Pool) (o n : ℕ) → T (well_formed P) → (p : Place) → lookup row P o ≡ Some p → pool_of p ≡ P
     → T (is_live p.state) → new_size (lookup row P o) n < size_limit → Askable (align p.state) n
 resizable row pos P o n w p f q l h =
     let k = code_kept p.cls p.state l (fits p (subst (λ Q. T (well_formed Q)) (sym q) w)).state in
@@ -161,18 +161,18 @@ resizable row pos P o n w p f q l h =
 module _ (row : ℕ) (pos : 0 < row) where
   -- what a call on a block does, by what is found at its start
   pub on_block_lem : (M : Plan → Type 0) (P : Pool) (o : ℕ) (f : Place → Plan) → M (refused NoSuchBlock P) → M (refused AlreadyFree P)
-      → ((p : Place) → lookup row P o ≡ some p → pool_of p ≡ P → T (is_live p.state) → M (f p)) → M (on_block P f (lookup row P o))
+      → ((p : Place) → lookup row P o ≡ Some p → pool_of p ≡ P → T (is_live p.state) → M (f p)) → M (on_block P f (lookup row P o))
   on_block_lem M P o f none_there idle-there live-there = go (lookup row P o) refl
     where
       go : (r : Option Place) → lookup row P o ≡ r → M (on_block P f r)
-      go none e = none_there
-      go (some p) e =
+      go None e = none_there
+      go (Some p) e =
           choose_case M (is_live p.state) (f p) (refused AlreadyFree P)
           (λ l. live-there p e (lookup_found row pos P o p e).0 (true-T (is_live p.state) l)) (λ l. idle-there)
 
   -- what a call on the block of a handle does, by what is found at the handle's start
   pub on_handle_lem : (M : Plan → Type 0) (P : Pool) (h : ℕ) (f : Place → Plan) → ((r : Refusal) → M (refused r P))
-      → ((p : Place) → lookup row P (start_of h) ≡ some p → pool_of p ≡ P → T (is_live p.state) → handle row p ≡ h → M (f p)) → M (on_handle row P h f)
+      → ((p : Place) → lookup row P (start_of h) ≡ Some p → pool_of p ≡ P → T (is_live p.state) → handle row p ≡ h → M (f p)) → M (on_handle row P h f)
   unfolding on_handle
   on_handle_lem M P h f not_so live-there =
       on_block_lem M P (start_of h) (by_handle P h f) (not_so NoSuchBlock) (not_so AlreadyFree)
@@ -193,8 +193,8 @@ module _ (row : ℕ) (pos : 0 < row) where
       (λ e. go (record { some_code = s; last_code = l; small = leb-false size_limit (enlarged k n) e }) (reserve row P k n) refl)
     where
       go : Askable k n → (r : Option Place) → reserve row P k n ≡ r → Formed row P (grant_at row P r).pool
-      go h none e = unchanged row P w
-      go h (some q) e = granted_formed k n q (reserve_formed row P k n q w h e) (unchanged row (pool_of q) (reserve_formed row P k n q w h e).formed)
+      go h None e = unchanged row P w
+      go h (Some q) e = granted_formed k n q (reserve_formed row P k n q w h e) (unchanged row (pool_of q) (reserve_formed row P k n q w h e).formed)
 
   grant_aligned_formed : (P : Pool) (n a : ℕ) → T (well_formed P) → Formed row P (grant_aligned row P n a).pool
   unfolding grant_aligned
@@ -218,7 +218,7 @@ module _ (row : ℕ) (pos : 0 < row) where
 
   -- what a call does that is to give the block of a handle n bytes: answer 3 goes first, so the block can be asked to have them
   pub on_handle_for_lem : (M : Plan → Type 0) (P : Pool) (h n : ℕ) (f : Place → Plan) → T (well_formed P) → ((r : Refusal) → M (refused r P))
-      → ((p : Place) → lookup row P (start_of h) ≡ some p → pool_of p ≡ P → T (is_live p.state) → handle row p ≡ h → Askable (align p.state) n → M (f p))
+      → ((p : Place) → lookup row P (start_of h) ≡ Some p → pool_of p ≡ P → T (is_live p.state) → handle row p ≡ h → Askable (align p.state) n → M (f p))
       → M (on_handle_for row P h n f)
   unfolding on_handle_for
   on_handle_for_lem M P h n f w not_so live-there =
@@ -232,8 +232,8 @@ module _ (row : ℕ) (pos : 0 < row) where
   move_at_formed P p n w h = go (reserve row P (align p.state) n) refl
     where
       go : (r : Option Place) → reserve row P (align p.state) n ≡ r → Formed row P (move_to row P p n r).pool
-      go none e = unchanged row P w
-      go (some q) e =
+      go None e = unchanged row P w
+      go (Some q) e =
           let g : Granted row P (align p.state) n q = reserve_formed row P (align p.state) n q w h e in
           granted_formed (align p.state) n q g (discard_formed (pool_of q) p g.formed)
 
@@ -253,7 +253,7 @@ module _ (row : ℕ) (pos : 0 < row) where
       (λ _. unchanged row P w))
 
   -- a list of grants
-  list_formed : (P : Pool) (ns : List ℕ) (qs : List Place) → T (well_formed P) → T (small ns) → reserve_all row P ns ≡ some qs → Formed row P (pool_after P qs)
+  list_formed : (P : Pool) (ns : List ℕ) (qs : List Place) → T (well_formed P) → T (small ns) → reserve_all row P ns ≡ Some qs → Formed row P (pool_after P qs)
   list_formed P ns qs w h e =
       by_grants row (λ P ns qs. T (well_formed P) → Formed row P (pool_after P qs)) (λ P w. unchanged row P w)
       (λ P n ns q qs w s r k v.

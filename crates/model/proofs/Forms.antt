@@ -1,12 +1,11 @@
 -- Laws of engines: a call on the form of a state is the same step on that state, whatever the form.
-use Rattle.mem.proofs.Prelude.{◌∙◌, ◌≡◌, sym, ap, refl, ◌&&◌, List, [], ◌∷◌, ℕ, ◌<◌, ◌*◌, ◌/◌, T, length}
+use Rattle.model.specs.Blocks.{Damage}
+use Rattle.mem.proofs.Prelude.{◌∙◌, ◌≡◌, sym, ap, refl, ◌&&◌, List, [], ◌∷◌, ℕ, ◌<◌, ◌*◌, ◌/◌, T, length, Ok, Err}
 use Rattle.mem.specs.Bytes.{zeros, part}
 use Rattle.mem.specs.Lists.{choose}
 use Rattle.mem.proofs.Tests.{and_both, T_true, choose-true, choose_case, choose_along}
 use Rattle.mem.proofs.Laws.{put-length, zeros-length}
 use Rattle.model.specs.declared.Refusal.{Refusal}
-use Rattle.model.specs.declared.Damage.{Damage}
-use Rattle.model.specs.declared.Damage.TheVariants.{Intact, Damaged}
 use Rattle.model.specs.State.{Pool}
 use Rattle.model.specs.Answers.{done, refusal}
 use Rattle.model.specs.Plans.{Plan, Write, writes, copies, Call, is_set_up, plan, fresh_pool}
@@ -23,13 +22,13 @@ written-length a (copies from to n ∷ ws) = written-length _ ws ∙ put-length 
 
 ap_unless : {A B : Type 0} (f : A → B) (d : Damage) (x : A) (g : Refusal → A) → f (unless d x g) ≡ unless d (f x) (λ r. f (g r))
 unfolding unless
-ap_unless f Intact x g = refl
-ap_unless f (Damaged r) x g = refl
+ap_unless f (Ok tt) x g = refl
+ap_unless f (Err r) x g = refl
 
 unless_case : {A : Type 0} (M : A → Type 0) (d : Damage) (x : A) (g : Refusal → A) → M x → ((r : Refusal) → M (g r)) → M (unless d x g)
 unfolding unless
-unless_case M Intact x g m n = m
-unless_case M (Damaged r) x g m n = n r
+unless_case M (Ok tt) x g m n = m
+unless_case M (Err r) x g m n = n r
 
 -- ---- one step, whatever the form
 

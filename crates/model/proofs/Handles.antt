@@ -1,5 +1,5 @@
 -- Handles: a block's start with its slot's use bits. A start is whole units, so a handle tells both.
-use Rattle.mem.proofs.Prelude.{◌∙◌, ◌≡◌, sym, ap, ap₂, ℕ, ◌+◌, ◌%◌, ◌<◌, arith, some, T, eqb, eq-eqb}
+use Rattle.mem.proofs.Prelude.{◌∙◌, ◌≡◌, sym, ap, ap₂, ℕ, ◌+◌, ◌%◌, ◌<◌, arith, Some, T, eqb, eq-eqb}
 use mathlib.Core.Logic.{◌↔◌}
 use Rattle.mem.proofs.Tests.{choose-true}
 use Rattle.model.specs.State.{Pool, Place, is_live, count, use_bits, start_of, start, handle}
@@ -43,7 +43,7 @@ module _ (row : ℕ) where
       whole s b e f = omega arith
 
   -- the plan of a call on the live block of a handle
-  pub on_present : 0 < row → (P : Pool) (h : ℕ) (f : Place → Plan) (p : Place) → lookup row P (start_of h) ≡ some p → T (is_live p.state) → handle row p ≡ h
+  pub on_present : 0 < row → (P : Pool) (h : ℕ) (f : Place → Plan) (p : Place) → lookup row P (start_of h) ≡ Some p → T (is_live p.state) → handle row p ≡ h
       → on_handle row P h f ≡ f p
   unfolding on_handle
   on_present pos P h f p e l i =

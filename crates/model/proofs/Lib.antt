@@ -19,3 +19,5 @@ pub mod Calls
 pub mod Forms
 pub mod Moves
 pub mod Counts
+pub mod SixTotals
+pub mod Handed

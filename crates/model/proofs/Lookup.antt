@@ -1,5 +1,5 @@
 -- A granted slot is found by its start, and by nothing else.
-use Rattle.mem.proofs.Prelude.{◌≡◌, sym, ap, refl, ap₂, subst, true, Bool, false, not, inl, inr, ◌⊎◌, some, none, Option, List, [], ◌∷◌, ◌++◌, append_assoc}
+use Rattle.mem.proofs.Prelude.{◌≡◌, sym, ap, refl, ap₂, subst, true, Bool, false, not, inl, inr, ◌⊎◌, Some, None, Option, List, [], ◌∷◌, ◌++◌, append_assoc}
 use Rattle.mem.proofs.Prelude.{append-nil, ◌+◌, ℕ, ◌<◌, ◌≤◌, ◌*◌, ◌-◌, suc, ◌/◌, mul_comm, le-div_iff_mul-le, mul-add, arith, eq-eqb, leb-false, leb-true, T}
 use Rattle.mem.proofs.Prelude.{eqb, eqb-true, eqb-false, leb, eqb→eq, leb→le, ltb→lt, T_not, length, length-append}
 use Prim.Native.Nat.{max}
@@ -37,22 +37,22 @@ module _ {A : Type 0} (Q : A → Type 0) where
   all_right (x ∷ xs) ys t = all_right xs ys t.1
 
   -- what is found passes the test, and what holds of every element holds of it
-  pub find-some : (f : A → Bool) (xs : List A) (y : A) → find f xs ≡ some y → All Q xs → Q y × T (f y)
+  pub find-some : (f : A → Bool) (xs : List A) (y : A) → find f xs ≡ Some y → All Q xs → Q y × T (f y)
   unfolding choose
   find-some f [] y e t = let z : ◌≡◌ {A = ℕ} 0 1 = cc in absurd (omega arith)
   find-some f (x ∷ xs) y e t = go (f x) refl e (λ e. find-some f xs y e t.1)
     where
-      go : (b : Bool) → f x ≡ b → choose b (some x) (find f xs) ≡ some y → (find f xs ≡ some y → Q y × T (f y)) → Q y × T (f y)
+      go : (b : Bool) → f x ≡ b → choose b (Some x) (find f xs) ≡ Some y → (find f xs ≡ Some y → Q y × T (f y)) → Q y × T (f y)
       go true h e r = let q : x ≡ y = cc in (subst Q q t.0, subst (λ z. T (f z)) q (true-T (f x) h))
       go false h e r = r e
 
 -- where nothing is found, no element passes the test
-pub find_none : {A : Type 0} (f : A → Bool) (xs : List A) → find f xs ≡ none → All (λ x. T (f x) → ⊥) xs
+pub find_none : {A : Type 0} (f : A → Bool) (xs : List A) → find f xs ≡ None → All (λ x. T (f x) → ⊥) xs
 unfolding choose
 find_none f [] e = tt
 find_none f (x ∷ xs) e = go (f x) refl e (λ e. find_none f xs e)
   where
-    go : (b : Bool) → f x ≡ b → choose b (some x) (find f xs) ≡ none → (find f xs ≡ none → All (λ x. T (f x) → ⊥) xs)
+    go : (b : Bool) → f x ≡ b → choose b (Some x) (find f xs) ≡ None → (find f xs ≡ None → All (λ x. T (f x) → ⊥) xs)
         → (T (f x) → ⊥) × All (λ x. T (f x) → ⊥) xs
     go true h e r = let z : ◌≡◌ {A = ℕ} 0 1 = cc in absurd (omega arith)
     go false h e r = (λ t. subst T h t, r e)
@@ -257,22 +257,22 @@ module _ (row : ℕ) (pos : 0 < row) where
       (omega (arith, s, ap (λ X. row * rows row X) b, ap (λ z. slot_number q * z) m)))
 
   -- a granted slot is found by its start
-  pub lookup-start : (p : Place) → T (well_formed (pool_of p)) → T (granted p.state) → lookup row (pool_of p) (start row p) ≡ some p
+  pub lookup-start : (p : Place) → T (well_formed (pool_of p)) → T (granted p.state) → lookup row (pool_of p) (start row p) ≡ Some p
   unfolding lookup
   lookup-start p w g = go (lookup row (pool_of p) (start row p)) refl
     where
       hit : Place → Bool
       hit q = eqb (start row q) (start row p)
 
-      go : (r : Option Place) → lookup row (pool_of p) (start row p) ≡ r → r ≡ some p
-      go none e =
+      go : (r : Option Place) → lookup row (pool_of p) (start row p) ≡ r → r ≡ Some p
+      go None e =
           absurd (places_in (λ q. T (hit q) → ⊥) p g (find_none hit (places (pool_of p)) e) (true-T (hit p) (eq-eqb (start row p) (start row p) refl)))
-      go (some q) e =
+      go (Some q) e =
           let f : Of (pool_of p) q × T (hit q) = find-some (Of (pool_of p)) hit (places (pool_of p)) q e (places_of (pool_of p)) in
-          ap some (place_unique p q w f.0.0 (eqb→eq (start row q) (start row p) f.1))
+          ap Some (place_unique p q w f.0.0 (eqb→eq (start row q) (start row p) f.1))
 
   -- what is found is a granted slot of the pool with that start
-  pub lookup_found : (P : Pool) (o : ℕ) (p : Place) → lookup row P o ≡ some p → (pool_of p ≡ P) × T (granted p.state) × (start row p ≡ o)
+  pub lookup_found : (P : Pool) (o : ℕ) (p : Place) → lookup row P o ≡ Some p → (pool_of p ≡ P) × T (granted p.state) × (start row p ≡ o)
   unfolding lookup
   lookup_found P o p e =
       let f : Of P p × T (eqb (start row p) o) = find-some (Of P) (λ q. eqb (start row q) o) (places P) p e (places_of P) in

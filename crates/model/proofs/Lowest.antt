@@ -1,5 +1,5 @@
 -- What a grant takes is the lowest that serves, and where it takes nothing there is nothing.
-use Rattle.mem.proofs.Prelude.{◌∙◌, ◌≡◌, sym, ap, refl, subst, true, Bool, false, ◌&&◌, not, true≢false, ⊎_elim, inl, inr, ◌⊎◌, some, none, Option}
+use Rattle.mem.proofs.Prelude.{◌∙◌, ◌≡◌, sym, ap, refl, subst, true, Bool, false, ◌&&◌, not, true≢false, ⊎_elim, inl, inr, ◌⊎◌, Some, None, Option}
 use Rattle.mem.proofs.Prelude.{List, [], ◌∷◌, ◌++◌, append_assoc, append-nil, ◌+◌, ℕ, ◌<◌, ◌≤◌, suc, zero, arith, T, eqb, eqb_refl, length, drop}
 use Rattle.mem.proofs.Prelude.{replicate}
 use Rattle.mem.specs.Lists.{choose, every, any, first}
@@ -50,17 +50,17 @@ module _ (c : ℕ) where
       ∙ pass_shut (X ++ (s ∷ [])) R Y (and_right (not (opens c s)) (every (λ s. not (opens c s)) R) h)
       ∙ ap (λ Z. open_from Z c Y) (append_assoc X (s ∷ []) R)
 
-  none_shut : (X Y : Pool) → open_from X c Y ≡ none → Shut c Y
+  none_shut : (X Y : Pool) → open_from X c Y ≡ None → Shut c Y
   unfolding choose
   none_shut X [] e = tt
   none_shut X (y ∷ Y) e = go (opens c y) refl e (λ e. none_shut (X ++ (y ∷ [])) Y e)
     where
-      go : (b : Bool) → opens c y ≡ b → choose b (some (record { before = X; slots = slots_in y; after = Y })) (open_from (X ++ (y ∷ [])) c Y) ≡ none
-          → (open_from (X ++ (y ∷ [])) c Y ≡ none → Shut c Y) → Shut c (y ∷ Y)
+      go : (b : Bool) → opens c y ≡ b → choose b (Some (record { before = X; slots = slots_in y; after = Y })) (open_from (X ++ (y ∷ [])) c Y) ≡ None
+          → (open_from (X ++ (y ∷ [])) c Y ≡ None → Shut c Y) → Shut c (y ∷ Y)
       go true h e k = let z : ◌≡◌ {A = ℕ} 0 1 = cc in absurd (omega arith)
       go false h e k = and_both (not (opens c y)) (every (λ s. not (opens c s)) Y) (rw h tt) (k e)
 
-  some_shut : (X Y : Pool) (g : Site) → open_from X c Y ≡ some g → (R : Pool) × (g.before ≡ X ++ R) × Shut c R
+  some_shut : (X Y : Pool) (g : Site) → open_from X c Y ≡ Some g → (R : Pool) × (g.before ≡ X ++ R) × Shut c R
   unfolding choose
   some_shut X [] g e = let z : ◌≡◌ {A = ℕ} 0 1 = cc in absurd (omega arith)
   some_shut X (y ∷ Y) g e = go (opens c y) refl e (λ e. some_shut (X ++ (y ∷ [])) Y g e)
@@ -68,8 +68,8 @@ module _ (c : ℕ) where
       here : Site
       here = record { before = X; slots = slots_in y; after = Y }
 
-      go : (b : Bool) → opens c y ≡ b → choose b (some here) (open_from (X ++ (y ∷ [])) c Y) ≡ some g
-          → (open_from (X ++ (y ∷ [])) c Y ≡ some g → (R : Pool) × (g.before ≡ (X ++ (y ∷ [])) ++ R) × Shut c R)
+      go : (b : Bool) → opens c y ≡ b → choose b (Some here) (open_from (X ++ (y ∷ [])) c Y) ≡ Some g
+          → (open_from (X ++ (y ∷ [])) c Y ≡ Some g → (R : Pool) × (g.before ≡ (X ++ (y ∷ [])) ++ R) × Shut c R)
           → (R : Pool) × (g.before ≡ X ++ R) × Shut c R
       go true h e k = let z : here ≡ g = cc in ([], sym (ap (λ s. s.before) z) ∙ sym (append-nil X), tt)
       go false h e k =
@@ -83,11 +83,11 @@ module _ (c : ℕ) where
       full_cons c s R (not_so (opens c s) (and_left (not (opens c s)) (every (λ s. not (opens c s)) R) h))
       (shut_full R (and_right (not (opens c s)) (every (λ s. not (opens c s)) R) h))
 
-pub open_none : (X Y : Pool) (c : ℕ) → open_from X c Y ≡ none → AllLive Y c
+pub open_none : (X Y : Pool) (c : ℕ) → open_from X c Y ≡ None → AllLive Y c
 open_none X Y c e = shut_full c Y (none_shut c X Y e)
 
 -- the groups that the search passed by are full
-pub open_lowest : (X Y : Pool) (c : ℕ) (s : Site) → open_from X c Y ≡ some s → (R : Pool) × (s.before ≡ X ++ R) × AllLive R c
+pub open_lowest : (X Y : Pool) (c : ℕ) (s : Site) → open_from X c Y ≡ Some s → (R : Pool) × (s.before ≡ X ++ R) × AllLive R c
 open_lowest X Y c s e = let (R, f, h) = some_shut c X Y s e in (R, f, shut_full c R h)
 
 run_there : (k : ℕ) (P Y : Pool) → P ≡ fresh_pool k ++ Y → T (run k P)
@@ -106,7 +106,7 @@ module _ (row : ℕ) where
   abbrev pub NoRun : Pool → ℕ → Type 0
   NoRun P c = (X Y : Pool) → P ≡ X ++ (fresh_pool (rows_of row c) ++ Y) → ⊥
 
-  pub run_none : 0 < row → (X Y : Pool) (c : ℕ) → run_from row X c Y ≡ none → NoRun Y c
+  pub run_none : 0 < row → (X Y : Pool) (c : ℕ) → run_from row X c Y ≡ None → NoRun Y c
   unfolding choose
   run_none pos X [] c e = no_run-nil (rows_of row c) (rows_pos row c pos)
   run_none pos X (y ∷ Y) c e = go (run (rows_of row c) (y ∷ Y)) refl e (λ e. run_none pos (X ++ (y ∷ [])) Y c e)
@@ -114,14 +114,14 @@ module _ (row : ℕ) where
       here : Site
       here = record { before = X; slots = replicate (slots_of c) Fresh; after = drop (rows_of row c) (y ∷ Y) }
 
-      go : (b : Bool) → run (rows_of row c) (y ∷ Y) ≡ b → choose b (some here) (run_from row (X ++ (y ∷ [])) c Y) ≡ none
-          → (run_from row (X ++ (y ∷ [])) c Y ≡ none → NoRun Y c) → NoRun (y ∷ Y) c
+      go : (b : Bool) → run (rows_of row c) (y ∷ Y) ≡ b → choose b (Some here) (run_from row (X ++ (y ∷ [])) c Y) ≡ None
+          → (run_from row (X ++ (y ∷ [])) c Y ≡ None → NoRun Y c) → NoRun (y ∷ Y) c
       go true h e r W Z q = let z : ◌≡◌ {A = ℕ} 0 1 = cc in omega arith
       go false h e r [] Z q = subst T h (run_there (rows_of row c) (y ∷ Y) Z q)
       go false h e r (w ∷ W) Z q = let p : Y ≡ W ++ (fresh_pool (rows_of row c) ++ Z) = cc in r e W Z p
 
   -- no run begins in a lower row
-  pub run-lowest : (X Y : Pool) (c : ℕ) (s : Site) → run_from row X c Y ≡ some s
+  pub run-lowest : (X Y : Pool) (c : ℕ) (s : Site) → run_from row X c Y ≡ Some s
       → (W Z : Pool) → Y ≡ W ++ (fresh_pool (rows_of row c) ++ Z) → rows row s.before ≤ rows row X + rows row W
   unfolding choose
   run-lowest X [] c s e = let z : ◌≡◌ {A = ℕ} 0 1 = cc in absurd (omega arith)
@@ -130,8 +130,8 @@ module _ (row : ℕ) where
       here : Site
       here = record { before = X; slots = replicate (slots_of c) Fresh; after = drop (rows_of row c) (y ∷ Y) }
 
-      go : (b : Bool) → run (rows_of row c) (y ∷ Y) ≡ b → choose b (some here) (run_from row (X ++ (y ∷ [])) c Y) ≡ some s
-          → (run_from row (X ++ (y ∷ [])) c Y ≡ some s → (W Z : Pool) → Y ≡ W ++ (fresh_pool (rows_of row c) ++ Z)
+      go : (b : Bool) → run (rows_of row c) (y ∷ Y) ≡ b → choose b (Some here) (run_from row (X ++ (y ∷ [])) c Y) ≡ Some s
+          → (run_from row (X ++ (y ∷ [])) c Y ≡ Some s → (W Z : Pool) → Y ≡ W ++ (fresh_pool (rows_of row c) ++ Z)
           → rows row s.before ≤ rows row (X ++ (y ∷ [])) + rows row W)
           → (W Z : Pool) → y ∷ Y ≡ W ++ (fresh_pool (rows_of row c) ++ Z) → rows row s.before ≤ rows row X + rows row W
       go true h e r W Z q = let p : here ≡ s = cc in omega (arith, ap (λ k. rows row k.before) p)
@@ -164,68 +164,68 @@ module _ (row : ℕ) where
     pub full : AllLive P c
     pub lowest : (W Z : Pool) → P ≡ W ++ (fresh_pool (rows_of row c) ++ Z) → rows row s.before ≤ rows row W
 
-  pub site-lowest : (P : Pool) (c : ℕ) (s : Site) → site row P c ≡ some s → OpenLowest P c s ⊎ NewLowest P c s
+  pub site-lowest : (P : Pool) (c : ℕ) (s : Site) → site row P c ≡ Some s → OpenLowest P c s ⊎ NewLowest P c s
   unfolding site
   site-lowest P c s e = go (open_from [] c P) refl e
     where
-      go : (o : Option Site) → open_from [] c P ≡ o → site_or o (run_from row [] c P) ≡ some s → OpenLowest P c s ⊎ NewLowest P c s
-      go none h e =
+      go : (o : Option Site) → open_from [] c P ≡ o → site_or o (run_from row [] c P) ≡ Some s → OpenLowest P c s ⊎ NewLowest P c s
+      go None h e =
           inr (record { there = run_found_lem row [] P c s e; full = open_none [] P c h; lowest = λ W Z q. omega (arith, run-lowest row [] P c s e W Z q) })
-      go (some r) h e =
+      go (Some r) h e =
           let (R, a, f) = open_lowest [] P c s (h ∙ e) in
           inl (record { there = open_found [] P c s (h ∙ e); lowest = subst (λ X. AllLive X c) (sym a) f })
 
-  pub site-none : 0 < row → (P : Pool) (c : ℕ) → site row P c ≡ none → NoPlace row P c
+  pub site-none : 0 < row → (P : Pool) (c : ℕ) → site row P c ≡ None → NoPlace row P c
   unfolding site
   site-none pos P c e = go (open_from [] c P) refl e
     where
-      go : (o : Option Site) → open_from [] c P ≡ o → site_or o (run_from row [] c P) ≡ none → NoPlace row P c
-      go none h e = record { all_live = open_none [] P c h; no_run = run_none row pos [] P c e }
-      go (some r) h e = let z : ◌≡◌ {A = ℕ} 0 1 = cc in absurd (omega arith)
+      go : (o : Option Site) → open_from [] c P ≡ o → site_or o (run_from row [] c P) ≡ None → NoPlace row P c
+      go None h e = record { all_live = open_none [] P c h; no_run = run_none row pos [] P c e }
+      go (Some r) h e = let z : ◌≡◌ {A = ℕ} 0 1 = cc in absurd (omega arith)
 
-  pub site-some : (P : Pool) (c : ℕ) (s : Site) → site row P c ≡ some s → NoPlace row P c → ⊥
+  pub site-some : (P : Pool) (c : ℕ) (s : Site) → site row P c ≡ Some s → NoPlace row P c → ⊥
   site-some P c s e n =
       ⊎_elim (λ o. not_all_live s.slots o.room (n.all_live s.before s.after s.slots o.split))
       (λ m. n.no_run s.before s.after m.split)
       (site_found_lem row P c s e)
 
   -- a grant takes a place exactly if there is one
-  pub reserve-none : 0 < row → (P : Pool) (k n : ℕ) → reserve row P k n ≡ none → NoPlace row P (class_of (enlarged k n))
+  pub reserve-none : 0 < row → (P : Pool) (k n : ℕ) → reserve row P k n ≡ None → NoPlace row P (class_of (enlarged k n))
   unfolding reserve
   reserve-none pos P k n e = go (site row P (class_of (enlarged k n))) refl e
     where
-      go : (o : Option Site) → site row P (class_of (enlarged k n)) ≡ o → reserve_in row (class_of (enlarged k n)) k n o ≡ none
+      go : (o : Option Site) → site row P (class_of (enlarged k n)) ≡ o → reserve_in row (class_of (enlarged k n)) k n o ≡ None
           → NoPlace row P (class_of (enlarged k n))
-      go none h e = site-none pos P (class_of (enlarged k n)) h
-      go (some s) h e = let z : ◌≡◌ {A = ℕ} 0 1 = cc in absurd (omega arith)
+      go None h e = site-none pos P (class_of (enlarged k n)) h
+      go (Some s) h e = let z : ◌≡◌ {A = ℕ} 0 1 = cc in absurd (omega arith)
 
-  pub reserve-some : (P : Pool) (k n : ℕ) (q : Place) → reserve row P k n ≡ some q → NoPlace row P (class_of (enlarged k n)) → ⊥
+  pub reserve-some : (P : Pool) (k n : ℕ) (q : Place) → reserve row P k n ≡ Some q → NoPlace row P (class_of (enlarged k n)) → ⊥
   unfolding reserve
   reserve-some P k n q e = go (site row P (class_of (enlarged k n))) refl e
     where
-      go : (o : Option Site) → site row P (class_of (enlarged k n)) ≡ o → reserve_in row (class_of (enlarged k n)) k n o ≡ some q
+      go : (o : Option Site) → site row P (class_of (enlarged k n)) ≡ o → reserve_in row (class_of (enlarged k n)) k n o ≡ Some q
           → NoPlace row P (class_of (enlarged k n)) → ⊥
-      go none h e = let z : ◌≡◌ {A = ℕ} 0 1 = cc in absurd (omega arith)
-      go (some s) h e = site-some P (class_of (enlarged k n)) s h
+      go None h e = let z : ◌≡◌ {A = ℕ} 0 1 = cc in absurd (omega arith)
+      go (Some s) h e = site-some P (class_of (enlarged k n)) s h
 
 -- ---- the search goes on where the last one ended
 
 module _ (row : ℕ) where
   -- no group before that of a grant serves its class
-  site_shut : (P : Pool) (c : ℕ) (g : Site) → site row P c ≡ some g → Shut c g.before
+  site_shut : (P : Pool) (c : ℕ) (g : Site) → site row P c ≡ Some g → Shut c g.before
   unfolding site
   site_shut P c g e = go (open_from [] c P) refl e
     where
-      go : (o : Option Site) → open_from [] c P ≡ o → site_or o (run_from row [] c P) ≡ some g → Shut c g.before
-      go none f e =
+      go : (o : Option Site) → open_from [] c P ≡ o → site_or o (run_from row [] c P) ≡ Some g → Shut c g.before
+      go None f e =
           let m : New row P c g = run_found_lem row [] P c g e in
           every-left (λ s. not (opens c s)) g.before (fresh_pool (rows_of row c) ++ g.after) (subst (Shut c) m.split (none_shut c [] P f))
-      go (some h) f e =
+      go (Some h) f e =
           let z : h ≡ g = cc in
-          let (R, k, t) = some_shut c [] P g (f ∙ ap some z) in
+          let (R, k, t) = some_shut c [] P g (f ∙ ap Some z) in
           subst (Shut c) (sym k) t
 
-  pub grant_shut : (P : Pool) (k n : ℕ) (q : Place) → T (well_formed P) → reserve row P k n ≡ some q → Shut (class_of (enlarged k n)) q.before
+  pub grant_shut : (P : Pool) (k n : ℕ) (q : Place) → T (well_formed P) → reserve row P k n ≡ Some q → Shut (class_of (enlarged k n)) q.before
   unfolding grant_in
   grant_shut P k n q w e =
       let v : Served row P k n q = served row P k n q w e in

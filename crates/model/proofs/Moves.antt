@@ -1,5 +1,5 @@
 -- A block that moves: in the pool that the grant makes it lives on where it was, beside the new block, and is given back by its place.
-use Rattle.mem.proofs.Prelude.{◌∙◌, ◌≡◌, sym, ap, ap₂, subst, ⊎_elim, inl, inr, ◌⊎◌, some, ◌+◌, ℕ, ◌<◌, ◌≤◌, ◌*◌, arith, T}
+use Rattle.mem.proofs.Prelude.{◌∙◌, ◌≡◌, sym, ap, ap₂, subst, ⊎_elim, inl, inr, ◌⊎◌, Some, ◌+◌, ℕ, ◌<◌, ◌≤◌, ◌*◌, arith, T}
 use Rattle.classes.specs.Classes.{slot_bytes}
 use Rattle.classes.specs.Alignments.{Askable}
 use Rattle.classes.proofs.Laws.{bytes_least}
@@ -40,7 +40,7 @@ module _ (row : ℕ) where
     discard_found p w l =
         ap (on_block (pool_of p) (release_at row)) (lookup-start row pos p w (live-granted p.state l)) ∙ on_live (pool_of p) (release_at row) p l
 
-    module _ (P : Pool) (w : T (well_formed P)) (k n : ℕ) (small : Askable k n) (q : Place) (found : reserve row P k n ≡ some q)
+    module _ (P : Pool) (w : T (well_formed P)) (k n : ℕ) (small : Askable k n) (q : Place) (found : reserve row P k n ≡ Some q)
         (p : Place) (here : pool_of p ≡ P) (lives : T (is_live p.state)) where
       -- the old block in the pool that a grant makes
       pub record Old : Type 0 where

@@ -1,5 +1,5 @@
 -- What a grant takes: a slot of its class, in a pool that is well formed.
-use Rattle.mem.proofs.Prelude.{◌∙◌, ◌≡◌, sym, ap, refl, subst, true, Bool, false, ◌&&◌, not, ◌||◌, ⊎_elim, inl, inr, ◌⊎◌, some, none, Option, List, [], ◌∷◌}
+use Rattle.mem.proofs.Prelude.{◌∙◌, ◌≡◌, sym, ap, refl, subst, true, Bool, false, ◌&&◌, not, ◌||◌, ⊎_elim, inl, inr, ◌⊎◌, Some, None, Option, List, [], ◌∷◌}
 use Rattle.mem.proofs.Prelude.{◌++◌, append_assoc, map, ◌+◌, ℕ, ◌<◌, ◌≤◌, ◌*◌, ◌-◌, suc, ◌/◌, zero, ◌%◌, arith, eq-eqb, T, eqb, leb, ltb}
 use Rattle.mem.proofs.Prelude.{eqb→eq, eqb_refl, lt→ltb, le→leb, length, drop, get_or, length-append, replicate, length-map, length-replicate, length-take-le}
 use Rattle.mem.proofs.Prelude.{leb-false, lit≤}
@@ -84,14 +84,14 @@ pub record Open (P : Pool) (c : ℕ) (s : Site) : Type 0 where
   pub split : P ≡ s.before ++ (group c s.slots ∷ s.after)
   pub room : T (any (λ x. not (is_live x)) s.slots)
 
-pub open_found : (X Y : Pool) (c : ℕ) (s : Site) → open_from X c Y ≡ some s → Open (X ++ Y) c s
+pub open_found : (X Y : Pool) (c : ℕ) (s : Site) → open_from X c Y ≡ Some s → Open (X ++ Y) c s
 unfolding choose opens
 open_found X [] c s e = let z : ◌≡◌ {A = ℕ} 0 1 = cc in absurd (omega arith)
 open_found X (free ∷ Y) c s e = subst (λ P. Open P c s) (append_assoc X (free ∷ []) Y) (open_found (X ++ (free ∷ [])) Y c s e)
 open_found X (group k ss ∷ Y) c s e = go (opens c (group k ss)) refl e (λ e. open_found (X ++ (group k ss ∷ [])) Y c s e)
   where
-    go : (b : Bool) → opens c (group k ss) ≡ b → choose b (some (record { before = X; slots = ss; after = Y })) (open_from (X ++ (group k ss ∷ [])) c Y) ≡ some s
-        → (open_from (X ++ (group k ss ∷ [])) c Y ≡ some s → Open ((X ++ (group k ss ∷ [])) ++ Y) c s) → Open (X ++ (group k ss ∷ Y)) c s
+    go : (b : Bool) → opens c (group k ss) ≡ b → choose b (Some (record { before = X; slots = ss; after = Y })) (open_from (X ++ (group k ss ∷ [])) c Y) ≡ Some s
+        → (open_from (X ++ (group k ss ∷ [])) c Y ≡ Some s → Open ((X ++ (group k ss ∷ [])) ++ Y) c s) → Open (X ++ (group k ss ∷ Y)) c s
     go true h e r =
         let t : T (eqb k c && any (λ x. not (is_live x)) ss) = true-T (opens c (group k ss)) h in
         let q : k ≡ c = eqb→eq k c (and_left (eqb k c) (any (λ x. not (is_live x)) ss) t) in
@@ -111,7 +111,7 @@ module _ (row : ℕ) where
     pub split : P ≡ s.before ++ (fresh_pool (rows_of row c) ++ s.after)
     pub slots : s.slots ≡ replicate (slots_of c) Fresh
 
-  pub run_found_lem : (X Y : Pool) (c : ℕ) (s : Site) → run_from row X c Y ≡ some s → New (X ++ Y) c s
+  pub run_found_lem : (X Y : Pool) (c : ℕ) (s : Site) → run_from row X c Y ≡ Some s → New (X ++ Y) c s
   unfolding choose
   run_found_lem X [] c s e = let z : ◌≡◌ {A = ℕ} 0 1 = cc in absurd (omega arith)
   run_found_lem X (y ∷ Y) c s e = go (run (rows_of row c) (y ∷ Y)) refl e (λ e. run_found_lem (X ++ (y ∷ [])) Y c s e)
@@ -119,8 +119,8 @@ module _ (row : ℕ) where
       here : Site
       here = record { before = X; slots = replicate (slots_of c) Fresh; after = drop (rows_of row c) (y ∷ Y) }
 
-      go : (b : Bool) → run (rows_of row c) (y ∷ Y) ≡ b → choose b (some here) (run_from row (X ++ (y ∷ [])) c Y) ≡ some s
-          → (run_from row (X ++ (y ∷ [])) c Y ≡ some s → New ((X ++ (y ∷ [])) ++ Y) c s) → New (X ++ (y ∷ Y)) c s
+      go : (b : Bool) → run (rows_of row c) (y ∷ Y) ≡ b → choose b (Some here) (run_from row (X ++ (y ∷ [])) c Y) ≡ Some s
+          → (run_from row (X ++ (y ∷ [])) c Y ≡ Some s → New ((X ++ (y ∷ [])) ++ Y) c s) → New (X ++ (y ∷ Y)) c s
       go true h e r =
           let p : here ≡ s = cc in
           subst (New (X ++ (y ∷ Y)) c) p (record {
@@ -129,13 +129,13 @@ module _ (row : ℕ) where
           })
       go false h e r = subst (λ P. New P c s) (append_assoc X (y ∷ []) Y) (r e)
 
-  pub site_found_lem : (P : Pool) (c : ℕ) (s : Site) → site row P c ≡ some s → Open P c s ⊎ New P c s
+  pub site_found_lem : (P : Pool) (c : ℕ) (s : Site) → site row P c ≡ Some s → Open P c s ⊎ New P c s
   unfolding site
   site_found_lem P c s e = go (open_from [] c P) refl e
     where
-      go : (o : Option Site) → open_from [] c P ≡ o → site_or o (run_from row [] c P) ≡ some s → Open P c s ⊎ New P c s
-      go none h e = inr (run_found_lem [] P c s e)
-      go (some r) h e = inl (open_found [] P c s (h ∙ e))
+      go : (o : Option Site) → open_from [] c P ≡ o → site_or o (run_from row [] c P) ≡ Some s → Open P c s ⊎ New P c s
+      go None h e = inr (run_found_lem [] P c s e)
+      go (Some r) h e = inl (open_found [] P c s (h ∙ e))
 
 -- ---- the place that a grant takes
 
@@ -153,7 +153,7 @@ fresh_room zero h = absurd (omega arith)
 fresh_room (suc n) h = tt
 
 module _ (row : ℕ) where
-  pub ground : (P : Pool) (c : ℕ) (s : Site) → T (well_formed P) → site row P c ≡ some s → Ground row P c s
+  pub ground : (P : Pool) (c : ℕ) (s : Site) → T (well_formed P) → site row P c ≡ Some s → Ground row P c s
   unfolding span_sound
   ground P c s w e = ⊎_elim opened made (site_found_lem row P c s e)
     where
@@ -261,18 +261,18 @@ module _ (row : ℕ) (P : Pool) (k n : ℕ) where
   -- what a grant takes, and where
   pub record Served (q : Place) : Type 0 where
     pub at : Site
-    pub found : site row P served_by ≡ some at
+    pub found : site row P served_by ≡ Some at
     pub place : q ≡ grant_in row served_by k n at
     pub taken : Taken row served_by k n at q
     pub ground : Ground row P served_by at
 
-  pub served : (q : Place) → T (well_formed P) → reserve row P k n ≡ some q → Served q
+  pub served : (q : Place) → T (well_formed P) → reserve row P k n ≡ Some q → Served q
   unfolding reserve
   served q w e = go (site row P served_by) refl e
     where
-      go : (o : Option Site) → site row P served_by ≡ o → reserve_in row served_by k n o ≡ some q → Served q
-      go none h e = let z : ◌≡◌ {A = ℕ} 0 1 = cc in absurd (omega arith)
-      go (some s) h e =
+      go : (o : Option Site) → site row P served_by ≡ o → reserve_in row served_by k n o ≡ Some q → Served q
+      go None h e = let z : ◌≡◌ {A = ℕ} 0 1 = cc in absurd (omega arith)
+      go (Some s) h e =
           let p : grant_in row served_by k n s ≡ q = cc in
           let g : Ground row P served_by s = ground row P served_by s w h in
           record {
@@ -284,11 +284,11 @@ module _ (row : ℕ) (P : Pool) (k n : ℕ) where
           }
 
   -- a reserved slot has the size and the alignment asked for
-  pub reserve-size : (q : Place) → T (well_formed P) → reserve row P k n ≡ some q → size q.state ≡ n
+  pub reserve-size : (q : Place) → T (well_formed P) → reserve row P k n ≡ Some q → size q.state ≡ n
   unfolding grant_slot
   reserve-size q w r = ap size (served q w r).taken.state
 
-  pub reserve-align : (q : Place) → T (well_formed P) → reserve row P k n ≡ some q → align q.state ≡ k
+  pub reserve-align : (q : Place) → T (well_formed P) → reserve row P k n ≡ Some q → align q.state ≡ k
   unfolding grant_slot
   reserve-align q w r = ap align (served q w r).taken.state
 
@@ -299,7 +299,7 @@ module _ (row : ℕ) (P : Pool) (k n : ℕ) where
     -- its blocks are on their boundaries, if they were
     pub bounds : row % 16 ≡ 0 → T (aligned row P) → T (aligned row (pool_of q))
 
-  pub reserve_formed : (q : Place) → T (well_formed P) → Askable k n → reserve row P k n ≡ some q → Granted q
+  pub reserve_formed : (q : Place) → T (well_formed P) → Askable k n → reserve row P k n ≡ Some q → Granted q
   unfolding span_sound grant_in
   reserve_formed q w h e =
       let v : Served q = served q w e in

@@ -1,6 +1,6 @@
 -- What a grant makes of the slots of a pool: the one that it takes is not live before it and steps its count, any other keeps its count and
 -- displacement, and a live one its state. So it leaves every live block where it is.
-use Rattle.mem.proofs.Prelude.{◌∙◌, ◌≡◌, sym, ap, refl, subst, true, false, true≢false, ⊎_elim, inl, inr, ◌⊎◌, some, List, [], ◌∷◌}
+use Rattle.mem.proofs.Prelude.{◌∙◌, ◌≡◌, sym, ap, refl, subst, true, false, true≢false, ⊎_elim, inl, inr, ◌⊎◌, Some, List, [], ◌∷◌}
 use Rattle.mem.proofs.Prelude.{◌++◌, append_assoc, map, append-nil, ◌+◌, ℕ, ◌<◌, ◌%◌, suc, zero, add-zero, arith, T}
 use Rattle.mem.proofs.Prelude.{length, length-append, length-map}
 use mathlib.Core.List.{map-append}
@@ -180,7 +180,7 @@ GoesIn row Q p = (p' : Place) × (pool_of p' ≡ Q) × SameSlot row p p' × Goes
 stays_goes : (row : ℕ) (Q : Pool) (p : Place) → (p' : Place) × (pool_of p' ≡ Q) × Stays row p p' → GoesIn row Q p
 stays_goes row Q p (p', a, s) = (p', a, s.slot, inl (subst (Kept p.state) (sym s.state) (as_was p.state)))
 
-module _ (row : ℕ) (P : Pool) (j n : ℕ) (q : Place) (w : T (well_formed P)) (r : reserve row P j n ≡ some q) where
+module _ (row : ℕ) (P : Pool) (j n : ℕ) (q : Place) (w : T (well_formed P)) (r : reserve row P j n ≡ Some q) where
   -- a slot of the pool in the pool that a grant makes
   pub reserve_goes : (p : Place) → pool_of p ≡ P → GoesIn row (pool_of q) p
   unfolding grant_in
@@ -251,7 +251,7 @@ module _ (row : ℕ) (P : Pool) (j n : ℕ) (q : Place) (w : T (well_formed P)) 
       let (p', a, s, h) = reserve_goes p e in
       (p', a, record { slot = s; state = ⊎_elim (λ k. k.same t) (λ k. absurd (subst T k.idle t)) h })
 
-module _ (row : ℕ) (pos : 0 < row) (P : Pool) (j n : ℕ) (q : Place) (w : T (well_formed P)) (r : reserve row P j n ≡ some q) where
+module _ (row : ℕ) (pos : 0 < row) (P : Pool) (j n : ℕ) (q : Place) (w : T (well_formed P)) (r : reserve row P j n ≡ Some q) where
   -- the slot that a grant takes is no live block's
   pub reserve_other : (p : Place) → pool_of p ≡ P → T (is_live p.state) → SameSlot row p q → ⊥
   unfolding grant_in

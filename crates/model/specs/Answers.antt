@@ -1,10 +1,8 @@
 -- What the calls give back: the numbers of documents 01 and 02, and the number and values of each answer.
-use Rattle.std.specs.Prelude.{ℕ, List, [], ◌∷◌, length}
+use Rattle.std.specs.Prelude.{ℕ, List, [], ◌∷◌, length, Result, Ok, Err}
 use Rattle.model.specs.declared.Refusal.{Refusal}
 use Rattle.model.specs.declared.Refusal.TheVariants.{BadArena, Unsound, TooLarge, NoSuchBlock, AlreadyFree, Stale, HeaderDamaged, Overrun, NoRoom}
 use Rattle.model.specs.declared.Refusal.TheVariants.{NotInPlace, TooLong, BadProposal, BadAlignment}
-use Rattle.model.specs.declared.Reply.{Reply}
-use Rattle.model.specs.declared.Report.{Report}
 use Rattle.model.specs.declared.Totals.{Totals}
 
 -- a number of the table, the values that go with it, and what the call writes to the front of a list that it is lent
@@ -52,10 +50,10 @@ abbrev pub listed : Totals → List ℕ
 listed t = t.blocks ∷ t.bytes ∷ t.held ∷ t.free ∷ t.ready ∷ t.waiting ∷ []
 
 -- the answers of the code as numbers and values
-abbrev pub reply_answer : Reply → Answer
-reply_answer (Reply.Done v) = done (v ∷ [])
-reply_answer (Reply.Refused r) = refusal r
+abbrev pub reply_answer : Result ℕ Refusal → Answer
+reply_answer (Ok v) = done (v ∷ [])
+reply_answer (Err r) = refusal r
 
-abbrev pub report_answer : Report → Answer
-report_answer (Report.Counted t) = done (listed t)
-report_answer (Report.Refused r) = report_refusal r
+abbrev pub report_answer : Result Totals Refusal → Answer
+report_answer (Ok t) = done (listed t)
+report_answer (Err r) = report_refusal r

@@ -1,11 +1,10 @@
 -- A block in its slot: header, requested bytes, first spare byte, guard.
-use Rattle.std.specs.Prelude.{ℕ, ◌+◌, ◌*◌, ◌-◌, min, Bool, ◌&&◌, List, [], ◌∷◌, ◌++◌, leb, length}
+use Rattle.std.specs.Prelude.{ℕ, ◌+◌, ◌*◌, ◌-◌, min, Bool, ◌&&◌, List, [], ◌∷◌, ◌++◌, leb, length, Result, Ok, Err}
 use Rattle.mem.specs.Lists.{choose}
 use Rattle.mem.specs.Bytes.{zeros, low, same, part}
 use Rattle.classes.specs.Classes.{units_of, slot_bytes}
+use Rattle.model.specs.declared.Refusal.{Refusal}
 use Rattle.model.specs.declared.Refusal.TheVariants.{HeaderDamaged, Overrun}
-use Rattle.model.specs.declared.Damage.{Damage}
-use Rattle.model.specs.declared.Damage.TheVariants.{Intact, Damaged}
 use Rattle.model.specs.State.{Place, disp, size, slot_number, owned}
 
 -- "Reserved is s − 4 − 16d − n."
@@ -46,9 +45,13 @@ guard_right c d n bytes =
     let g = guard (reserved c d n) in
     same (part (16 * d + 4 + n) (length z) bytes) z && same (part (slot_bytes c - length g) (length g) bytes) g
 
+-- header and guard of a block are those due, or why a call on it is refused
+abbrev pub Damage : Type 0
+Damage = Result (Unit {0}) Refusal
+
 -- what is wrong with a block
 unfoldable pub damage_in : ℕ → ℕ → ℕ → ℕ → List ℕ → Damage
-damage_in c i d n bytes = choose (header_right c i d n bytes) (choose (guard_right c d n bytes) Intact (Damaged Overrun)) (Damaged HeaderDamaged)
+damage_in c i d n bytes = choose (header_right c i d n bytes) (choose (guard_right c d n bytes) (Ok tt) (Err Overrun)) (Err HeaderDamaged)
 
 module _ (row : ℕ) where
   -- the owned bytes of a slot

@@ -1,15 +1,12 @@
 -- The calls over an arena and what is lent for the tables, whatever form they have; and those of the first engine.
-use Rattle.std.specs.Prelude.{ℕ, ◌*◌, ◌/◌, ◌≡◌, Bool, ◌&&◌, List, [], ◌∷◌, T, eqb, length, replicate}
-use Rattle.std.proofs.Math.Option.{Option, none, some}
+use Rattle.std.specs.Prelude.{ℕ, ◌*◌, ◌/◌, ◌≡◌, Bool, ◌&&◌, List, [], ◌∷◌, T, eqb, length, replicate, Option, None, Some, Ok, Err}
 use Rattle.mem.specs.Lists.{choose}
 use Rattle.mem.specs.Bytes.{zeros, same, part, put}
 use Rattle.model.specs.declared.Refusal.{Refusal}
 use Rattle.model.specs.declared.Refusal.TheVariants.{BadArena, Unsound}
-use Rattle.model.specs.declared.Damage.{Damage}
-use Rattle.model.specs.declared.Damage.TheVariants.{Intact, Damaged}
 use Rattle.model.specs.declared.Totals.{Totals}
 use Rattle.model.specs.State.{Pool, Place, well_formed, aligned, rows}
-use Rattle.model.specs.Blocks.{damage}
+use Rattle.model.specs.Blocks.{damage, Damage}
 use Rattle.model.specs.Answers.{Answer, number_of, done, refusal, listed}
 use Rattle.model.specs.Plans.{Plan, Write, writes, copies, Call, is_set_up, values_of, plan, fresh_pool, totals}
 use Rattle.model.specs.Tables.{Layout, masks_layout, encode_by, view_by, sound_by, arena_right, room_bytes}
@@ -41,8 +38,8 @@ KeptBytes = WithTotals (List ℕ)
 abbrev pub kept_in : List ℕ → Totals → KeptBytes
 kept_in t s = record { tables = t; totals = s }
 
-abbrev pub Result : Type 0
-Result = Outcome KeptBytes
+abbrev pub EngineOutcome : Type 0
+EngineOutcome = Outcome KeptBytes
 
 unfoldable pub same_totals : Totals → Totals → Bool
 same_totals a b = same (listed a) (listed b)
@@ -74,14 +71,14 @@ unsound c = record { number = number_of Unsound; values = replicate (values_of c
 
 -- what is done with a block that is intact, or else with the reason
 unfoldable pub unless : {A : Type 0} → Damage → A → (Refusal → A) → A
-unless Intact x f = x
-unless (Damaged r) x f = f r
+unless (Ok _) x f = x
+unless (Err r) x f = f r
 
 module _ (row : ℕ) where
   -- the damage of the block that a plan names
   abbrev pub damaged : List ℕ → Option Place → Damage
-  damaged a none = Intact
-  damaged a (some p) = damage row a p
+  damaged a None = Ok tt
+  damaged a (Some p) = damage row a p
 
   module _ (F : Form) where
     -- a plan carried out where the block that it names is intact; else the reason, and nothing changes
@@ -155,17 +152,17 @@ module _ (row : ℕ) where
   abbrev pub sound_kept : ℕ → KeptBytes → Bool
   sound_kept n t = engine.sound n t
 
-  abbrev pub carried : List ℕ → KeptBytes → Plan → Result
+  abbrev pub carried : List ℕ → KeptBytes → Plan → EngineOutcome
   carried a t p = carried_by engine a t p
 
   abbrev pub set_up_right : List ℕ → KeptBytes → Bool
   set_up_right a t = set_up_right_by engine a t
 
-  abbrev pub set_up : List ℕ → KeptBytes → Result
+  abbrev pub set_up : List ℕ → KeptBytes → EngineOutcome
   set_up a t = set_up_by engine a t
 
-  abbrev pub checked : List ℕ → KeptBytes → Call → Result
+  abbrev pub checked : List ℕ → KeptBytes → Call → EngineOutcome
   checked a t c = checked_by engine a t c
 
-  abbrev pub call : List ℕ → KeptBytes → Call → Result
+  abbrev pub call : List ℕ → KeptBytes → Call → EngineOutcome
   call a t c = call_by engine a t c

@@ -1,6 +1,5 @@
 -- The calls on the pool's state alone: what each answers, the state after it, and what it writes to the arena. No byte is read.
-use Rattle.std.specs.Prelude.{ℕ, zero, suc, ◌+◌, ◌*◌, ◌-◌, ◌/◌, ◌%◌, min, ◌≡◌, Bool, true, false, ◌&&◌, not, T, ltb, get_or, replicate}
-use Rattle.std.proofs.Math.Option.{Option, none, some}
+use Rattle.std.specs.Prelude.{ℕ, zero, suc, ◌+◌, ◌*◌, ◌-◌, ◌/◌, ◌%◌, min, ◌≡◌, Bool, true, false, ◌&&◌, not, T, ltb, get_or, replicate, Option, None, Some}
 use mathlib.Core.List.{List, [], ◌∷◌, ◌++◌, map}
 use Rattle.std.proofs.Math.Dec.{leb, eqb}
 use Rattle.std.proofs.Math.ListN.{take, drop}
@@ -33,11 +32,11 @@ pub record Plan : Type 0 where
 
 -- "A refused call leaves the state as it was."
 abbrev pub refused : Refusal → Pool → Plan
-refused r P = record { checks = none; answer = refusal r; pool = P; changes = [] }
+refused r P = record { checks = None; answer = refusal r; pool = P; changes = [] }
 
 -- one that is tested after 6 and 7: its plan names the block
 abbrev pub refused_on : Refusal → Pool → Place → Plan
-refused_on r P p = record { checks = some p; answer = refusal r; pool = P; changes = [] }
+refused_on r P p = record { checks = Some p; answer = refusal r; pool = P; changes = [] }
 
 -- GRANT
 
@@ -58,11 +57,11 @@ opens c (group k ss) = eqb k c && any (λ x. not (is_live x)) ss
 
 -- "take the one with the lowest first row", X being what was passed by
 abbrev pub open_from : Pool → ℕ → Pool → Option Site
-open_from X c [] = none
+open_from X c [] = None
 open_from X c (s ∷ Y) =
     let here : Site = record { before = X; slots = slots_in s; after = Y } in
     let next : Option Site = open_from (X ++ (s ∷ [])) c Y in
-    choose (opens c s) (some here) next
+    choose (opens c s) (Some here) next
 
 -- whether a pool begins with k free rows
 abbrev pub run : ℕ → Pool → Bool
@@ -92,17 +91,17 @@ grant_slot c k n b x = Live (record { count = (count x + 1) % 256; disp = displa
 
 -- the first site, or else the second
 abbrev pub site_or : Option Site → Option Site → Option Site
-site_or none t = t
-site_or (some s) t = some s
+site_or None t = t
+site_or (Some s) t = Some s
 
 -- the place of a grant, and those of the grants after it: none where one of them has none
 abbrev pub placed : Place → Option (List Place) → Option (List Place)
-placed q none = none
-placed q (some qs) = some (q ∷ qs)
+placed q None = None
+placed q (Some qs) = Some (q ∷ qs)
 
 abbrev pub placed_by : Option Place → (Place → Option (List Place)) → Option (List Place)
-placed_by none f = none
-placed_by (some q) f = placed q (f q)
+placed_by None f = None
+placed_by (Some q) f = placed q (f q)
 
 -- the pool after grants, each place being in the pool that its grant makes
 abbrev pub pool_after : Pool → List Place → Pool
@@ -116,8 +115,8 @@ vacant p = Idle false (count p.state) (disp p.state)
 -- a call on the block at a start: "no such block: the offset is neither a live start nor covered by 5", "already free: it is the
 -- last start of a granted, not live slot of a present group"
 abbrev pub on_block : Pool → (Place → Plan) → Option Place → Plan
-on_block P f none = refused NoSuchBlock P
-on_block P f (some p) = let l = f p in choose (is_live p.state) l (refused AlreadyFree P)
+on_block P f None = refused NoSuchBlock P
+on_block P f (Some p) = let l = f p in choose (is_live p.state) l (refused AlreadyFree P)
 
 -- 02 §7: "Answer 10, stale, is given exactly if the start is live and the bits differ."
 abbrev pub by_handle : Pool → (handle : ℕ) → (Place → Plan) → Place → Plan
@@ -130,8 +129,8 @@ fits_in_place p n = leb n (slot_bytes p.cls - 4 - 16 * disp p.state) && own_clas
 
 -- the size that answer 3 goes by where a block gets another size. 02 §6: "answer 3 reads the enlarged new size where the offset starts such a live block"
 abbrev pub new_size : Option Place → ℕ → ℕ
-new_size none n = n
-new_size (some p) n = enlarged (align p.state) n
+new_size None n = n
+new_size (Some p) n = enlarged (align p.state) n
 
 -- sums over the slots and the free rows of a pool
 abbrev pub slot_sum : (Slot → ℕ) → Span → ℕ
@@ -158,11 +157,11 @@ pub record NoPlace (row : ℕ) (P : Pool) (c : ℕ) : Type 0 where
 module _ (row : ℕ) where
   -- "If there is no such group, make one at the lowest run of R free rows, all slots ready"
   abbrev pub run_from : Pool → ℕ → Pool → Option Site
-  run_from X c [] = none
+  run_from X c [] = None
   run_from X c (s ∷ Y) =
       let here : Site = record { before = X; slots = replicate (slots_of c) Fresh; after = drop (rows_of row c) (s ∷ Y) } in
       let next : Option Site = run_from (X ++ (s ∷ [])) c Y in
-      choose (run (rows_of row c) (s ∷ Y)) (some here) next
+      choose (run (rows_of row c) (s ∷ Y)) (Some here) next
 
   unfoldable pub site : Pool → ℕ → Option Site
   site P c = let new = run_from [] c P in site_or (open_from [] c P) new
@@ -177,8 +176,8 @@ module _ (row : ℕ) where
       record { before = s.before; cls = c; lower = take i ss; state = grant_slot c k n b (get_or ss i Fresh); upper = drop (suc i) ss; after = s.after }
 
   abbrev pub reserve_in : (c code n : ℕ) → Option Site → Option Place
-  reserve_in c k n none = none
-  reserve_in c k n (some s) = some (grant_in c k n s)
+  reserve_in c k n None = None
+  reserve_in c k n (Some s) = Some (grant_in c k n s)
 
   -- the place that a grant of n bytes takes. 02 §6: "the class and slot are those of n + align − 16"
   unfoldable pub reserve : Pool → (code n : ℕ) → Option Place
@@ -191,8 +190,8 @@ module _ (row : ℕ) where
 
   -- "if there is no such run, answer 8"; "The value is the start.", with the bits of 02 §7
   abbrev pub grant_at : Pool → Option Place → Plan
-  grant_at P none = refused NoRoom P
-  grant_at P (some p) = record { checks = none; answer = done (handle row p ∷ []); pool = pool_of p; changes = enframe p ∷ [] }
+  grant_at P None = refused NoRoom P
+  grant_at P (Some p) = record { checks = None; answer = done (handle row p ∷ []); pool = pool_of p; changes = enframe p ∷ [] }
 
   -- "too large: n is 131,052 or more". 02 §6: "an enlarged size of 131,052 or more is 3"
   unfoldable pub grant_as : Pool → (code n : ℕ) → Plan
@@ -209,14 +208,14 @@ module _ (row : ℕ) where
   -- "grants its sizes in order": the places that the grants take, none where one of them would meet answer 8
   unfoldable pub reserve_all : Pool → List ℕ → Option (List Place)
   unfolding reserve
-  reserve_all P [] = some []
+  reserve_all P [] = Some []
   reserve_all P (n ∷ ns) = placed_by (reserve P ordinary n) (λ q. reserve_all (pool_of q) ns)
 
   -- "answer 8 exactly if granting the accepted sizes in order would meet it"; "writes the starts to the front of a lent list, keeps its
   -- later places and gives the number of entries"; 02 §7: "List entries .. read handles"
   abbrev pub grant_all_at : Pool → Option (List Place) → Plan
-  grant_all_at P none = refused NoRoom P
-  grant_all_at P (some qs) = record { checks = none; answer = list_done (map (handle row) qs); pool = pool_after P qs; changes = map enframe qs }
+  grant_all_at P None = refused NoRoom P
+  grant_all_at P (Some qs) = record { checks = None; answer = list_done (map (handle row) qs); pool = pool_after P qs; changes = map enframe qs }
 
   -- "Order: 2, 9, 17, 8." The lent list has so many places; "Answer 9 .. or the lent list has fewer than 17 places"
   unfoldable pub grant_list : Pool → (total cap places : ℕ) → List ℕ → Plan
@@ -246,13 +245,13 @@ module _ (row : ℕ) where
   release_at p =
       let c = p.cls in
       let stays : Plan = record {
-        checks = some p;
+        checks = Some p;
         answer = done (0 ∷ []);
         pool = pool_of (become p (vacant p));
         changes = writes (owned row p) (zeros (slot_bytes c)) ∷ [];
       } in
       let goes : Plan = record {
-        checks = some p;
+        checks = Some p;
         answer = done (0 ∷ []);
         pool = p.before ++ (fresh_pool (rows_of row c) ++ p.after);
         changes = writes (base row p) (zeros (row * rows_of row c)) ∷ [];
@@ -285,7 +284,7 @@ module _ (row : ℕ) where
       let d = disp p.state in
       let kept = min (size p.state) n in
       record {
-        checks = some p;
+        checks = Some p;
         answer = done (handle row p ∷ []);
         pool = pool_of (become p (Live (record { count = count p.state; disp = d; size = n; align = align p.state })));
         changes =
@@ -296,11 +295,11 @@ module _ (row : ℕ) where
   -- "a grant of n is made while the old block is live, that many bytes are copied, then the old is released." 02 §6: "Resize of an
   -- aligned block keeps the boundary": the grant has the block's alignment
   abbrev pub move_to : Pool → Place → ℕ → Option Place → Plan
-  move_to P p n none = refused_on NoRoom P p
-  move_to P p n (some q) =
+  move_to P p n None = refused_on NoRoom P p
+  move_to P p n (Some q) =
       let old = discard (pool_of q) p in
       record {
-        checks = some p;
+        checks = Some p;
         answer = done (handle row q ∷ []);
         pool = old.pool;
         changes = enframe q ∷ copies (start row p) (start row q) (min (size p.state) n) ∷ old.changes;
@@ -326,7 +325,7 @@ module _ (row : ℕ) where
   -- MEASURE AND REPORT
 
   abbrev pub measure_at : Pool → Place → Plan
-  measure_at P p = record { checks = some p; answer = done (size p.state ∷ []); pool = P; changes = [] }
+  measure_at P p = record { checks = Some p; answer = done (size p.state ∷ []); pool = P; changes = [] }
 
   unfoldable pub measure : Pool → (handle : ℕ) → Plan
   unfolding on_handle
@@ -349,11 +348,11 @@ module _ (row : ℕ) where
 
   unfoldable pub report : Pool → Plan
   unfolding totals
-  report P = record { checks = none; answer = done (listed (totals P)); pool = P; changes = [] }
+  report P = record { checks = None; answer = done (listed (totals P)); pool = P; changes = [] }
 
   -- "Set up writes zero over the whole arena and makes tables with no groups."
   abbrev pub set_up_again : Pool → Plan
-  set_up_again P = record { checks = none; answer = done (0 ∷ []); pool = fresh_pool (rows row P); changes = writes 0 (zeros (row * rows row P)) ∷ [] }
+  set_up_again P = record { checks = None; answer = done (0 ∷ []); pool = fresh_pool (rows row P); changes = writes 0 (zeros (row * rows row P)) ∷ [] }
 
 -- THE MODEL OF DEMAND 3
 

@@ -1,9 +1,9 @@
 // The types that the definitions in specs/ and the calls share, and where things stand in the table room.
 
-// What the tables know of a live block: its slot's use count modulo 256, the displacement of its start in units, the requested size, and
-// the code of its alignment (1 for 16 bytes, 2 to 9 for 32 to 4,096).
 #![tactic(auto)]
 
+// What the tables know of a live block: its slot's use count modulo 256, the displacement of its start in units, the requested size, and
+// the code of its alignment (1 for 16 bytes, 2 to 9 for 32 to 4,096).
 #[derive(Clone, Copy)]
 pub struct Alloc {
     pub count: u8,
@@ -29,43 +29,29 @@ pub enum Holder {
     Later(u8),
 }
 
-// Why a call is refused.
+// Why a call is refused, with the numbers that are given back. What a call answers is a Result: its value, or a refusal. Grants, resize in place and move give the block's handle, measure its
+// requested size, grant list and its planner the number of entries, report the totals, set up and release 0.
 #[derive(Clone, Copy)]
 pub enum Refusal {
-    BadArena,
-    Unsound,
-    TooLarge,
-    NoSuchBlock,
-    AlreadyFree,
-    Stale,
-    HeaderDamaged,
-    Overrun,
-    NotInPlace,
-    NoRoom,
-    TooLong,
-    BadProposal,
-    BadAlignment,
-}
-
-// Whether the header and the guard of a block are those due, or why a call on it is refused.
-#[derive(Clone, Copy)]
-pub enum Damage {
-    Intact,
-    Damaged(Refusal),
-}
-
-// What a call answers: its value, or why it is refused. Grants, resize in place and move give the block's handle, measure its requested size, grant list and
-// its planner the number of entries, set up and release 0.
-#[derive(Clone, Copy)]
-pub enum Reply {
-    Done(usize),
-    Refused(Refusal),
+    BadArena = 1,
+    Unsound = 2,
+    TooLarge = 3,
+    NoSuchBlock = 4,
+    AlreadyFree = 5,
+    Stale = 10,
+    HeaderDamaged = 6,
+    Overrun = 7,
+    NotInPlace = 11,
+    NoRoom = 8,
+    TooLong = 9,
+    BadProposal = 17,
+    BadAlignment = 13,
 }
 
 // The totals of report, which are kept in a record beside the tables: live blocks and their requested bytes; rows held and rows free; ready
 // slots and waiting slots.
 #[repr(C)]
-#[derive(Clone, Copy)]
+#[derive(Clone, Copy, Default, PartialEq, Eq)]
 pub struct Totals {
     pub blocks: usize,
     pub bytes: usize,
@@ -73,20 +59,6 @@ pub struct Totals {
     pub free: usize,
     pub ready: usize,
     pub waiting: usize,
-}
-
-// What a call answers, and the totals after it.
-#[derive(Clone, Copy)]
-pub struct Answered {
-    pub reply: Reply,
-    pub totals: Totals,
-}
-
-// What report answers.
-#[derive(Clone, Copy)]
-pub enum Report {
-    Counted(Totals),
-    Refused(Refusal),
 }
 
 // The layout of the table room (docs/TABLES.md): the head, then a record for each row. A group's first row keeps its masks and its

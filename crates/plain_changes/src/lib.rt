@@ -5,7 +5,7 @@
 ghost use Rattle.std.specs.Prelude.{◌≡◌, ◌∷◌, ◌++◌, ℕ, ◌+◌, ◌≤◌, ◌<◌, length, drop, replicate};
 ghost use Rattle.mem.specs.Lists.{any, first};
 ghost use Rattle.mem.specs.Bytes.{put};
-ghost use Rattle.classes.specs.Classes.{Lawful, slot_bytes, slots_of, rows_of};
+ghost use Rattle.classes.specs.Classes.{slot_bytes, slots_of, rows_of};
 ghost use Rattle.model.specs.declared.Slot.{Slot};
 ghost use Rattle.model.specs.State.{Place, group, is_ready, is_live, pool_of, become};
 ghost use Rattle.model.specs.Plans.{Site, turn_ready, refill, grant_in, release_at};
@@ -14,20 +14,20 @@ ghost use Rattle.model.specs.Plain.{plain_group, slots_layout};
 ghost use Rattle.rows.specs.Rows.{block_of, resized, Holds, Offers};
 ghost use Rattle.plain_changes.specs.Changes.{turned};
 
+use classes::Row;
 use model::{Holder, Slot};
 use rows::Block;
 
 // A slot for n bytes with an alignment, in the group of class c at row i.
 // "d is the slot's count modulo (t + 1); then the count goes up by one, 255 becoming 0."
-pub fn take_slot(row: usize, room: &mut [u8], i: usize, c: usize, code: u8, n: usize) -> Block
-    requires offers { (g : Site) × Offers slots_layout row room.old i c g }
+pub fn take_slot(row: Row, room: &mut [u8], i: usize, c: usize, code: u8, n: usize) -> Block
+    requires offers { (g : Site) × Offers slots_layout row.bytes room.old i c g }
     requires code_bound { (code ≤ 9) × (n + 4 ≤ slot_bytes c) }
-    requires lawful { Lawful row }
-    ensures { (g : Site) → Offers slots_layout row room.old i c g
-        → (result ≡ block_of row (grant_in row c code n g)) × (room.new ≡ encode_by slots_layout row (pool_of (grant_in row c code n g))) }
+    ensures { (g : Site) → Offers slots_layout row.bytes room.old i c g
+        → (result ≡ block_of row.bytes (grant_in row.bytes c code n g)) × (room.new ≡ encode_by slots_layout row.bytes (pool_of (grant_in row.bytes c code n g))) }
 {
     let j = ready_slot(room, i, c);
-    let begin = row * i + 16 + j * (16 * classes::units(c));
+    let begin = row.bytes * i + 16 + j * (16 * classes::units(c));
     let a = placing::grant_slot(c, code, n, begin, plain_slots::slot_at(room, i, j));
     plain_slots::store(room, i, j, Slot::Live(a));
     Block {
@@ -60,12 +60,10 @@ fn first_ready(room: &[u8], i: usize, c: usize) -> usize
     ensures { result ≡ first is_ready (plain_group c (drop (row_at i) room.now)) }
 {
     let n = classes::slots(c);
-    let mut j = 0;
-    while j < n {
+    for j in 0..n {
         if is_ready(plain_slots::slot_at(room, i, j)) {
             return j;
         }
-        j += 1;
     }
     n
 }
@@ -88,11 +86,9 @@ fn turn_all(room: &mut [u8], i: usize, c: usize)
     ensures { room.new ≡ turned i (slots_of c) 0 room.old }
 {
     let n = classes::slots(c);
-    let mut j = 0;
-    while j < n {
+    for j in 0..n {
         let x = plain_slots::slot_at(room, i, j);
         plain_slots::store(room, i, j, turn_ready(x));
-        j += 1;
     }
 }
 
@@ -111,22 +107,20 @@ fn turn_ready(x: Slot) -> Slot
 }
 
 // "If there is no such group, make one at the lowest run of R free rows, all slots ready": never granted, so that their records are zero.
-pub fn make_group(row: usize, room: &mut [u8], i: usize, c: usize)
-    requires c_bound { (c < 48) × (i + rows_of row c ≤ most_rows) }
-    requires c_in_bounds { row_at (i + rows_of row c) ≤ length room.old }
-    requires lawful { Lawful row }
-    ensures { room.new ≡ put (row_at i) (span_records_by slots_layout row (group c (replicate (slots_of c) Slot.Fresh))) room.old }
+pub fn make_group(row: Row, room: &mut [u8], i: usize, c: usize)
+    requires c_bound { (c < 48) × (i + rows_of row.bytes c ≤ most_rows) }
+    requires c_in_bounds { row_at (i + rows_of row.bytes c) ≤ length room.old }
+    ensures { room.new ≡ put (row_at i) (span_records_by slots_layout row.bytes (group c (replicate (slots_of c) Slot.Fresh))) room.old }
 {
     rows::write_row(room, i, Holder::First(c as u8));
     rows::write_later(room, i, classes::rows(row, c));
 }
 
 // "The slot becomes waiting"; "If no slot of the group is live, the group goes, all its rows become zero and free." Gives whether the group stays.
-pub fn give_slot(row: usize, room: &mut [u8], b: Block) -> bool
-    requires holds { (p : Place) × Holds slots_layout row room.old b p }
-    requires lawful { Lawful row }
-    ensures { (p : Place) → Holds slots_layout row room.old b p
-        → (result ≡ any is_live (p.lower ++ p.upper)) × (room.new ≡ encode_by slots_layout row (release_at row p).pool) }
+pub fn give_slot(row: Row, room: &mut [u8], b: Block) -> bool
+    requires holds { (p : Place) × Holds slots_layout row.bytes room.old b p }
+    ensures { (p : Place) → Holds slots_layout row.bytes room.old b p
+        → (result ≡ any is_live (p.lower ++ p.upper)) × (room.new ≡ encode_by slots_layout row.bytes (release_at row.bytes p).pool) }
 {
     let i = b.first;
     let c = b.class;

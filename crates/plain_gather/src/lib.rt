@@ -9,7 +9,7 @@ ghost use Rattle.model.specs.Plans.{grants_list};
 ghost use Rattle.model.specs.Plain.{plain_call};
 ghost use Rattle.frames.specs.Listed.{Listed};
 
-use model::{Refusal, Reply};
+use model::Refusal;
 
 // 02 §3: "The list call takes a proposal, grants its sizes in order, writes the starts to the front of a lent list, keeps its later places and gives
 // the number of entries"; "Order: 2, 9, 17, 8. A refused list leaves arena, tables and lent list unchanged, use counts included."
@@ -20,27 +20,27 @@ pub fn grant_list(
     cap: usize,
     sizes: &[usize],
     handles: &mut [usize],
-) -> Reply
+) -> Result<usize, Refusal>
     ensures { Listed (plain_call row_bytes arena.old room.old
         (grants_list «total» cap (length handles.old) sizes.now))
         (reply_answer result) handles.old handles.new arena.new room.new }
 {
     let len = arena.len();
     if !plain_sound::sound(classes::ROW, len, room) {
-        return Reply::Refused(Refusal::Unsound);
+        return Err(Refusal::Unsound);
     }
     if !proposals::plannable(total, cap) {
-        return Reply::Refused(Refusal::TooLong);
+        return Err(Refusal::TooLong);
     }
     if handles.len() < proposals::ENTRIES {
-        return Reply::Refused(Refusal::TooLong);
+        return Err(Refusal::TooLong);
     }
     if !proposals::accepts(total, cap, sizes) {
-        return Reply::Refused(Refusal::BadProposal);
+        return Err(Refusal::BadProposal);
     }
     if !plain_survey::fits(classes::ROW, len, room, sizes) {
-        return Reply::Refused(Refusal::NoRoom);
+        return Err(Refusal::NoRoom);
     }
     plain_ops::grant_all(classes::ROW, arena, room, sizes, handles);
-    Reply::Done(sizes.len())
+    Ok(sizes.len())
 }

@@ -1,8 +1,8 @@
 // The grants of a list that fits.
-ghost use Rattle.std.specs.Prelude.{◌≡◌, true, map, ◌≤◌, ◌<◌, ltb, length};
-ghost use Rattle.mem.specs.Lists.{every, is_some};
+ghost use Rattle.std.specs.Prelude.{◌≡◌, true, map, ◌≤◌, ◌<◌, ltb, length, is_some};
+ghost use Rattle.mem.specs.Lists.{every};
 ghost use Rattle.mem.specs.Bytes.{put};
-ghost use Rattle.classes.specs.Classes.{Lawful, size_limit};
+ghost use Rattle.classes.specs.Classes.{size_limit};
 ghost use Rattle.model.specs.State.{handle};
 ghost use Rattle.model.specs.Plans.{reserve_all, reserve, enframe, pool_after};
 ghost use Rattle.model.specs.Tables.{sound_by, view_by, encode_by};
@@ -10,49 +10,42 @@ ghost use Rattle.model.specs.Plain.{slots_layout};
 ghost use Rattle.classes.specs.Alignments.{ordinary};
 ghost use Rattle.model.specs.Calls.{written};
 ghost use Rattle.frames.specs.Blocks.{next_room_by};
-ghost use Rattle.frames.specs.Grants.{granted, handle_or, next_arena};
+ghost use Rattle.frames.specs.Grants.{granted, handle_of, next_arena};
 
-use crate::Reserved;
+use classes::Row;
 
 // 02 §3: "grants its sizes in order, writes the starts to the front of a lent list, keeps its later places"
 pub fn grant_all(
-    row: usize,
+    row: Row,
     arena: &mut [u8],
     room: &mut [u8],
     sizes: &[usize],
     handles: &mut [usize],
 )
-    requires room_value { sound_by slots_layout row (length arena.old) room.old ≡ true }
+    requires room_value { sound_by slots_layout row.bytes (length arena.old) room.old ≡ true }
     requires small_sizes { (every (λ n. ltb n size_limit) sizes.now ≡ true) × (length sizes.now ≤ length handles.old) }
-    requires room_enough { is_some (reserve_all row (view_by slots_layout row room.old) sizes.now) ≡ true }
-    requires lawful { Lawful row }
+    requires room_enough { is_some (reserve_all row.bytes (view_by slots_layout row.bytes room.old) sizes.now) ≡ true }
     ensures arena_after { arena.new
-        ≡ written arena.old (map (enframe row) (granted (reserve_all row (view_by slots_layout row room.old) sizes.now))) }
-    ensures room_after { room.new ≡ encode_by slots_layout row
-        (pool_after (view_by slots_layout row room.old) (granted (reserve_all row (view_by slots_layout row room.old) sizes.now))) }
+        ≡ written arena.old (map (enframe row.bytes) (granted (reserve_all row.bytes (view_by slots_layout row.bytes room.old) sizes.now))) }
+    ensures room_after { room.new ≡ encode_by slots_layout row.bytes
+        (pool_after (view_by slots_layout row.bytes room.old) (granted (reserve_all row.bytes (view_by slots_layout row.bytes room.old) sizes.now))) }
     ensures handles_after { handles.new
-        ≡ put 0 (map (handle row) (granted (reserve_all row (view_by slots_layout row room.old) sizes.now))) handles.old }
+        ≡ put 0 (map (handle row.bytes) (granted (reserve_all row.bytes (view_by slots_layout row.bytes room.old) sizes.now))) handles.old }
 {
-    let mut i = 0;
-    while i < sizes.len() {
-        let n = sizes[i];
-        handles[i] = grant_one(row, arena, room, n);
-        i += 1;
+    for (i, n) in sizes.iter().enumerate() {
+        handles[i] = grant_one(row, arena, room, *n).unwrap();
     }
 }
 
-// The handle of one block more; 0 where there is no room.
-fn grant_one(row: usize, arena: &mut [u8], room: &mut [u8], n: usize) -> usize
-    requires room_value { sound_by slots_layout row (length arena.old) room.old ≡ true }
+// The handle of one block more, if there is room.
+fn grant_one(row: Row, arena: &mut [u8], room: &mut [u8], n: usize) -> Option<usize>
+    requires room_value { sound_by slots_layout row.bytes (length arena.old) room.old ≡ true }
     requires n_lt_limit { n < size_limit }
-    requires lawful { Lawful row }
-    ensures value { result ≡ handle_or row (reserve row (view_by slots_layout row room.old) ordinary n) }
-    ensures arena_after { arena.new ≡ next_arena row arena.old (reserve row (view_by slots_layout row room.old) ordinary n) }
-    ensures room_after { room.new ≡ next_room_by slots_layout row room.old (reserve row (view_by slots_layout row room.old) ordinary n) }
+    ensures value { result ≡ handle_of row.bytes (reserve row.bytes (view_by slots_layout row.bytes room.old) ordinary n) }
+    ensures arena_after { arena.new ≡ next_arena row.bytes arena.old (reserve row.bytes (view_by slots_layout row.bytes room.old) ordinary n) }
+    ensures room_after { room.new ≡ next_room_by slots_layout row.bytes room.old (reserve row.bytes (view_by slots_layout row.bytes room.old) ordinary n) }
 {
     let len = arena.len();
-    let Reserved::Taken(b) = crate::reserve_slot(row, len, room, classes::ORDINARY, n) else {
-        return 0;
-    };
-    frames::lay_out(row, arena, b)
+    let b = crate::reserve_slot(row, len, room, classes::ORDINARY, n)?;
+    Some(frames::lay_out(row, arena, b))
 }

@@ -77,26 +77,15 @@ pub fn slot_record(x: Slot) -> [u8; 8]
 {
     match x {
         Slot::Fresh => [0, 0, 0, 0, 0, 0, 0, 0],
-        Slot::Idle { ready, count, disp } => [
-            idle_condition(ready),
-            count,
-            (disp % 256) as u8,
-            (disp / 256 % 256) as u8,
-            0,
-            0,
-            0,
-            0,
-        ],
-        Slot::Live(a) => [
-            a.align + 2,
-            a.count,
-            (a.disp % 256) as u8,
-            (a.disp / 256 % 256) as u8,
-            (a.size % 256) as u8,
-            (a.size / 256 % 256) as u8,
-            (a.size / 256 / 256 % 256) as u8,
-            0,
-        ],
+        Slot::Idle { ready, count, disp } => {
+            let d = disp.to_le_bytes();
+            [idle_condition(ready), count, d[0], d[1], 0, 0, 0, 0]
+        }
+        Slot::Live(a) => {
+            let d = a.disp.to_le_bytes();
+            let n = a.size.to_le_bytes();
+            [a.align + 2, a.count, d[0], d[1], n[0], n[1], n[2], 0]
+        }
     }
 }
 
@@ -104,8 +93,5 @@ pub fn slot_record(x: Slot) -> [u8; 8]
 fn idle_condition(ready: bool) -> u8
     ensures { result ≡ choose ready 1 2 }
 {
-    if ready {
-        return 1;
-    }
-    2
+    if ready { 1 } else { 2 }
 }

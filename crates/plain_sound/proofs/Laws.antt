@@ -1,5 +1,5 @@
 -- Laws of the walk over a group's plain records: each is the tests that the code makes, and what it counts.
-use Rattle.mem.proofs.Prelude.{◌∙◌, ◌≡◌, sym, ap, refl, ap₂, true, Bool, false, ◌&&◌, not, and-false, and-true, List, [], ◌++◌, ◌+◌, ℕ, ◌<◌, ◌≤◌}
+use Rattle.mem.proofs.Prelude.{◌∙◌, ◌≡◌, sym, ap, refl, ap₂, true, Bool, false, ◌&&◌, not, and-false, and-true, List, [], ◌++◌, ◌+◌, ℕ, ◌<◌, ◌≤◌, Option, Some, None}
 use Rattle.mem.proofs.Prelude.{◌*◌, ◌-◌, suc, zero, add-zero, zero-add, add_assoc, sub-zero, arith, eq-eqb, lt-ltb, eqb, length, drop, get_or, take}
 use Rattle.mem.proofs.Prelude.{drop-drop, get_or-drop}
 use Rattle.mem.specs.Lists.{choose, every, any, join, starts}
@@ -16,7 +16,6 @@ use Rattle.model.specs.Tables.{row_at, row_record_bytes, view_holder}
 use Rattle.model.specs.Plain.{plain_record, plain_row, plain_in, plain_slots, plain_group, slots_layout}
 use Rattle.model.proofs.Plain.{plain_length, plains_length}
 use Rattle.model.proofs.Counts.{none-live}
-use Rattle.rows.specs.declared.Counted.{Counted}
 use Rattle.rows.specs.Checks.{group_checked}
 use Rattle.rows.specs.Counts.{plus, count_if, group_totals}
 use Rattle.rows.proofs.Checks.{holder_first-bytes}
@@ -68,7 +67,7 @@ few_more j s x f h =
 -- the slots of a group from place p on, n of them, of which the first begins at a byte
 module _ (room : List ℕ) (p c k begin n : ℕ) where
   -- what is to be counted of them
-  abbrev pub Whole : Counted
+  abbrev pub Whole : Option Totals
   Whole = count_if (slots_right c begin n (drop p room)) (group_totals k (plain_slots n (drop p room)))
 
   -- s is counted of the first j, the next begins at b, and the others are to be counted
@@ -88,9 +87,9 @@ module _ (room : List ℕ) (p c k begin n : ℕ) where
   }
 
   module _ (s : Totals) (b j : ℕ) (r : Counting s b j) where
-    pub all_counted : n ≤ j → Whole ≡ Counted.Sound s
+    pub all_counted : n ≤ j → Whole ≡ Some s
     unfolding slots_right plain_slots choose
-    all_counted h = let z : n - j ≡ 0 = omega (arith, r.order) in r.left ∙ rw z (ap Counted.Sound (simp add-zero))
+    all_counted h = let z : n - j ≡ 0 = omega (arith, r.order) in r.left ∙ rw z (ap Some (simp add-zero))
 
     module _ (x : Slot) (h : j < n) (e : x ≡ plain_in (take 8 (drop (p + 8 * j) room))) where
       abbrev here : List ℕ
@@ -103,7 +102,7 @@ module _ (room : List ℕ) (p c k begin n : ℕ) where
           (plus (with_slot s x) (group_totals 0 (plain_slots (n - (j + 1)) (drop (p + 8 * (j + 1)) room))))
       turned = rw (← next) (r.left ∙ ap₂ count_if (slots_turn c b n j here x h e) (totals_turn n j here x s h e))
 
-      pub not-counted : one_right c b x here ≡ false → Whole ≡ Counted.Unsound
+      pub not-counted : one_right c b x here ≡ false → Whole ≡ None
       unfolding choose
       not-counted q = turned ∙ rw q
 
@@ -123,11 +122,11 @@ unfolding choose
 some_live_if false k ss = refl
 some_live_if true k ss = rw (none-live ss) (go (any is_live ss))
   where
-    go : (a : Bool) → choose (not a) Counted.Unsound (Counted.Sound (group_totals k ss)) ≡ choose a (Counted.Sound (group_totals k ss)) Counted.Unsound
+    go : (a : Bool) → choose (not a) None (Some (group_totals k ss)) ≡ choose a (Some (group_totals k ss)) None
     go true = refl
     go false = refl
 
-if_if : (a b : Bool) (g : Totals) → choose a (count_if b g) Counted.Unsound ≡ count_if (a && b) g
+if_if : (a b : Bool) (g : Totals) → choose a (count_if b g) None ≡ count_if (a && b) g
 unfolding choose
 if_if true b g = refl
 if_if false b g = refl
@@ -195,10 +194,10 @@ module _ (s : List ℕ) (i c : ℕ) (fit : row_at i + row_record_bytes ≤ lengt
     pub group_counted : (k : ℕ) → (let z = same (part (row_at i + 2) 14 s) (zeros 14) in
         let o = same (part (row_at i + (16 + 8 * n)) (8 * (31 - n)) s) (zeros (8 * (31 - n))) in
         count_if (group_checked slots_layout at c (drop (row_at i) s)) (group_totals k (plain_group c (drop (row_at i) s)))
-        ≡ choose (z && o) (some_live (Whole s (row_at i + 16) c k (at + 16) n)) Counted.Unsound)
+        ≡ choose (z && o) (some_live (Whole s (row_at i + 16) c k (at + 16) n)) None)
     group_counted k =
         let z = same (part (row_at i + 2) 14 s) (zeros 14) in
         let o = same (part (row_at i + (16 + 8 * n)) (8 * (31 - n)) s) (zeros (8 * (31 - n))) in
         ap₂ count_if group_law (ap (group_totals k) group-slots)
-        ∙ sym (ap (λ q. choose (z && o) q Counted.Unsound) (some_live_if (slots_right c (at + 16) n (drop (row_at i + 16) s)) k slots)
+        ∙ sym (ap (λ q. choose (z && o) q None) (some_live_if (slots_right c (at + 16) n (drop (row_at i + 16) s)) k slots)
         ∙ if_if (z && o) (slots_right c (at + 16) n (drop (row_at i + 16) s) && any is_live slots) (group_totals k slots))

@@ -1,12 +1,11 @@
 -- What is tested and counted of a group's plain slot records.
-use Rattle.std.specs.Prelude.{ℕ, ◌+◌, ◌*◌, ◌≤◌, Bool, ◌&&◌, List, eqb}
+use Rattle.std.specs.Prelude.{ℕ, ◌+◌, ◌*◌, ◌≤◌, Bool, ◌&&◌, List, eqb, Option, Some, None}
 use Rattle.mem.specs.Lists.{choose, every, join, starts}
 use Rattle.mem.specs.Bytes.{bit}
 use Rattle.model.specs.declared.Slot.{Slot}
 use Rattle.model.specs.declared.Totals.{Totals}
 use Rattle.model.specs.State.{is_live, is_ready, is_waiting, size, slot_sound, slots_aligned}
 use Rattle.model.specs.Plain.{plain_record, plain_slots}
-use Rattle.rows.specs.declared.Counted.{Counted}
 
 -- the records of n slots of class c, of which the first begins at b: they are the one form of what they say, and that is sound
 unfoldable pub slots_right : (c b n : ℕ) → List ℕ → Bool
@@ -28,6 +27,6 @@ abbrev pub FewSlots : ℕ → Totals → Type 0
 FewSlots n s = (s.blocks ≤ n) × (s.bytes ≤ 16777216 * n) × (s.ready ≤ n) × (s.waiting ≤ n)
 
 -- what is counted of a group that must have a live slot
-abbrev pub some_live : Counted → Counted
-some_live (Counted.Sound s) = choose (eqb s.blocks 0) Counted.Unsound (Counted.Sound s)
-some_live Counted.Unsound = Counted.Unsound
+abbrev pub some_live : Option Totals → Option Totals
+some_live (Some s) = choose (eqb s.blocks 0) None (Some s)
+some_live None = None

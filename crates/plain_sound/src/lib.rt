@@ -3,7 +3,7 @@
 #![tactic(auto)]
 
 ghost use Rattle.std.specs.Prelude.{◌≡◌, ◌+◌, ◌*◌, ◌≤◌, ◌<◌, length, drop};
-ghost use Rattle.classes.specs.Classes.{Lawful, slots_of};
+ghost use Rattle.classes.specs.Classes.{slots_of};
 ghost use Rattle.model.specs.declared.Slot.TheVariants.{Idle};
 ghost use Rattle.model.specs.declared.Holder.TheVariants.{First};
 ghost use Rattle.model.specs.Plans.{totals};
@@ -14,109 +14,86 @@ ghost use Rattle.rows.specs.Counts.{count_if, group_totals, span_counted, rows_c
 ghost use Rattle.plain_slots.specs.Slots.{Small};
 ghost use Rattle.plain_sound.specs.Checks.{slots_right, with_slot, some_live, FewSlots};
 
+use classes::Row;
 use model::{Slot, Totals};
-use rows::{Counted, Frame};
-
-const NOTHING: Totals = Totals {
-    blocks: 0,
-    bytes: 0,
-    held: 0,
-    free: 0,
-    ready: 0,
-    waiting: 0,
-};
+use rows::Frame;
 
 // "unsound ones get answer 2 from all calls but set up": whether a room is sound under an arena of len bytes.
-pub fn sound(row: usize, len: usize, room: &[u8]) -> bool
-    requires { Lawful row }
-    ensures { result ≡ sound_by slots_layout row len room.now }
+pub fn sound(row: Row, len: usize, room: &[u8]) -> bool
+    ensures { result ≡ sound_by slots_layout row.bytes len room.now }
 {
-    match counted(row, len, room) {
-        Counted::Sound(_) => true,
-        Counted::Unsound => false,
-    }
+    counted(row, len, room).is_some()
 }
 
 // "The tables are sound if: the arena length is the recorded one"; and what they count.
-pub fn counted(row: usize, len: usize, room: &[u8]) -> Counted
-    requires { Lawful row }
-    ensures { result ≡ count_if (sound_by slots_layout row len room.now) (totals row (view_by slots_layout row room.now)) }
+pub fn counted(row: Row, len: usize, room: &[u8]) -> Option<Totals>
+    ensures { result ≡ count_if (sound_by slots_layout row.bytes len room.now) (totals row.bytes (view_by slots_layout row.bytes room.now)) }
 {
     let n = rows::rows_under(row, len, room);
     if n == 0 {
-        return Counted::Unsound;
+        return None;
     }
     rows_counted(row, room, n)
 }
 
 // The n rows of a room: "rows held plus rows free is the arena's rows", so these are the rows passed.
-fn rows_counted(row: usize, room: &[u8], n: usize) -> Counted
+fn rows_counted(row: Row, room: &[u8], n: usize) -> Option<Totals>
     requires n_le_most_rows { (n ≤ most_rows) × (length room.now ≡ row_at n) }
-    requires lawful { Lawful row }
-    ensures { result ≡ rows_counted slots_layout row 0 n (drop head_bytes room.now) }
+    ensures { result ≡ rows_counted slots_layout row.bytes 0 n (drop head_bytes room.now) }
 {
-    let mut s = NOTHING;
+    let mut s = Totals::default();
     while s.held + s.free < n {
         let i = s.held + s.free;
-        match span_counted(row, room, i, n - i) {
-            Counted::Sound(u) => {
-                s = rows::plus(s, u);
-            }
-            Counted::Unsound => {
-                return Counted::Unsound;
-            }
-        }
+        s = rows::plus(s, span_counted(row, room, i, n - i)?);
     }
-    Counted::Sound(s)
+    Some(s)
 }
 
 // "groups lie inside the arena and no two share a row": what begins at row i, where n rows are left, is a free row or a whole group.
-fn span_counted(row: usize, room: &[u8], i: usize, n: usize) -> Counted
+fn span_counted(row: Row, room: &[u8], i: usize, n: usize) -> Option<Totals>
     requires n_nonzero { (0 < n) × (i + n ≤ most_rows) × (row_at (i + n) ≤ length room.now) }
-    requires lawful { Lawful row }
-    ensures { result ≡ span_counted slots_layout row (row * i) n (drop (row_at i) room.now) }
+    ensures { result ≡ span_counted slots_layout row.bytes (row.bytes * i) n (drop (row_at i) room.now) }
 {
-    match rows::frame_at(row, room, i, n) {
-        Frame::Free => Counted::Sound(Totals { free: 1, ..NOTHING }),
+    match rows::frame_at(row, room, i, n)? {
+        Frame::Free => Some(Totals {
+            free: 1,
+            ..Totals::default()
+        }),
         Frame::Group { class, rows } => group_counted(row, room, i, class, rows),
-        Frame::Unsound => Counted::Unsound,
     }
 }
 
 // "with zero wherever nothing is to be said": between the class of a group and its slots, and after its slots.
-fn group_counted(row: usize, room: &[u8], i: usize, c: usize, k: usize) -> Counted
+fn group_counted(row: Row, room: &[u8], i: usize, c: usize, k: usize) -> Option<Totals>
     requires i_lt_most_rows { (i < most_rows) × (row_at i + row_record_bytes ≤ length room.now) }
     requires c_bound { (c < 48) × (view_holder (drop (row_at i) room.now) ≡ First c) }
-    requires lawful { Lawful row }
-    ensures { result ≡ count_if (group_checked slots_layout (row * i) c (drop (row_at i) room.now))
+    ensures { result ≡ count_if (group_checked slots_layout (row.bytes * i) c (drop (row_at i) room.now))
         (group_totals k (plain_group c (drop (row_at i) room.now))) }
 {
     if !mem::zeros_at(room, rows::row_at(i) + 2, model::SLOTS - 2) {
-        return Counted::Unsound;
+        return None;
     }
     let n = classes::slots(c);
     let after = plain_slots::slot_place(i, n);
     if !mem::zeros_at(room, after, model::SLOT_RECORD * (model::MOST_SLOTS - n)) {
-        return Counted::Unsound;
+        return None;
     }
-    some_live(slots_counted(room, i, c, k, row * i + 16))
+    some_live(slots_counted(room, i, c, k, row.bytes * i + 16))
 }
 
 // "each group has a live slot"
-fn some_live(found: Counted) -> Counted
+fn some_live(found: Option<Totals>) -> Option<Totals>
     ensures { result ≡ some_live found }
 {
-    let Counted::Sound(t) = found else {
-        return Counted::Unsound;
-    };
+    let t = found?;
     if t.blocks == 0 {
-        return Counted::Unsound;
+        return None;
     }
-    Counted::Sound(t)
+    Some(t)
 }
 
 // "Slot i of a group begins 16 + i·s bytes after the group's first byte." The first begins at the byte given, each other where the one before ends.
-fn slots_counted(room: &[u8], i: usize, c: usize, k: usize, begin: usize) -> Counted
+fn slots_counted(room: &[u8], i: usize, c: usize, k: usize, begin: usize) -> Option<Totals>
     requires i_lt_most_rows { (i < most_rows) × (row_at i + row_record_bytes ≤ length room.now) }
     requires c_bound { (c < 48) × (begin < 8388608) }
     ensures { result ≡ count_if (slots_right c begin (slots_of c) (drop (row_at i + slots_at) room.now))
@@ -124,19 +101,20 @@ fn slots_counted(room: &[u8], i: usize, c: usize, k: usize, begin: usize) -> Cou
 {
     let n = classes::slots(c);
     let bytes = 16 * classes::units(c);
-    let mut t = Totals { held: k, ..NOTHING };
+    let mut t = Totals {
+        held: k,
+        ..Totals::default()
+    };
     let mut place = begin;
-    let mut j = 0;
-    while j < n {
+    for j in 0..n {
         let x = plain_slots::slot_at(room, i, j);
         if !plain_rules::record_sound(room, i, j, c, place, x) {
-            return Counted::Unsound;
+            return None;
         }
         t = with_slot(t, x);
         place += bytes;
-        j += 1;
     }
-    Counted::Sound(t)
+    Some(t)
 }
 
 // "live blocks, their requested bytes": totals with one slot more.

@@ -1,5 +1,5 @@
 -- The block at an offset, as it is looked up in the pool: span by span and slot by slot, each start computed on its way.
-use Rattle.mem.proofs.Prelude.{◌∙◌, ◌≡◌, sym, ap, refl, ap₂, true, Bool, false, true≢false, some, List, [], ◌∷◌, ◌++◌, ◌+◌, ℕ, ◌*◌, suc, arith, eqb}
+use Rattle.mem.proofs.Prelude.{◌∙◌, ◌≡◌, sym, ap, refl, ap₂, true, Bool, false, true≢false, Some, List, [], ◌∷◌, ◌++◌, ◌+◌, ℕ, ◌*◌, suc, arith, eqb}
 use Rattle.mem.proofs.Prelude.{subst, length, length-append, ◌<◌, ◌≤◌, drop}
 use Rattle.mem.specs.Lists.{choose, find}
 use Rattle.classes.specs.Classes.{slot_bytes}
@@ -53,7 +53,7 @@ module _ (row o : ℕ) where
         p : Place
         p = record { before = X; cls = c; lower = us; state = Idle r k d; upper = xs; after = Y }
 
-        go : (b : Bool) → looked row (choose b (some p) (find (λ p. eqb (start row p) o) R)) ≡ or_else (choose b Freed Absent) (found_in R)
+        go : (b : Bool) → looked row (choose b (Some p) (find (λ p. eqb (start row p) o) R)) ≡ or_else (choose b Freed Absent) (found_in R)
         go true = refl
         go false = refl
     slot_found us (Live a) xs R = go (eqb (begins us + 16 * a.disp) o)
@@ -61,7 +61,7 @@ module _ (row o : ℕ) where
         p : Place
         p = record { before = X; cls = c; lower = us; state = Live a; upper = xs; after = Y }
 
-        go : (b : Bool) → looked row (choose b (some p) (find (λ p. eqb (start row p) o) R)) ≡ or_else (choose b (Present (block_of row p)) Absent) (found_in R)
+        go : (b : Bool) → looked row (choose b (Some p) (find (λ p. eqb (start row p) o) R)) ≡ or_else (choose b (Present (block_of row p)) Absent) (found_in R)
         go true = refl
         go false = refl
 

@@ -4,7 +4,6 @@
 
 ghost use Rattle.std.specs.Prelude.{◌≡◌, true, [], ◌+◌, ◌*◌, ◌≤◌, ◌<◌, length, drop};
 ghost use Rattle.mem.specs.Bytes.{bit};
-ghost use Rattle.classes.specs.Classes.{Lawful};
 ghost use Rattle.model.specs.State.{is_live, disp};
 ghost use Rattle.model.specs.Plans.{open_from, lookup};
 ghost use Rattle.model.specs.Tables.{row_at, row_record_bytes, view_holder, sound_by, view_by, most_rows};
@@ -12,25 +11,25 @@ ghost use Rattle.model.specs.Plain.{plain_group, slots_layout};
 ghost use Rattle.rows.specs.Rows.{class_held, site_found, looked};
 ghost use Rattle.plain_tables.specs.Found.{live_in, opens_in, is_absent, slot_looked, slots_looked, row_looked};
 
+use classes::Row;
 use model::{Holder, Slot};
-use rows::{Block, Found, Looked};
+use rows::{Block, Looked};
 
 // "Of the groups of n's class with a slot not live, take the one with the lowest first row."
-pub fn find_open(row: usize, len: usize, room: &[u8], c: usize) -> Found
-    requires room_value { sound_by slots_layout row len room.now ≡ true }
+pub fn find_open(row: Row, len: usize, room: &[u8], c: usize) -> Option<usize>
+    requires room_value { sound_by slots_layout row.bytes len room.now ≡ true }
     requires c_bound { c < 48 }
-    requires lawful { Lawful row }
-    ensures { result ≡ site_found row (open_from [] c (view_by slots_layout row room.now)) }
+    ensures { result ≡ site_found row.bytes (open_from [] c (view_by slots_layout row.bytes room.now)) }
 {
-    let n = len / row;
+    let n = len / row.bytes;
     let mut i = 0;
     while i < n {
         if opens_at(room, i, c) {
-            return Found::At(i);
+            return Some(i);
         }
         i += rows::rows_held(row, rows::holder_at(room, i));
     }
-    Found::Nothing
+    None
 }
 
 // Whether row i is the first row of a group of class c "with a slot not live".
@@ -57,10 +56,8 @@ pub fn live_in(room: &[u8], i: usize, c: usize) -> usize
 {
     let n = classes::slots(c);
     let mut live = 0;
-    let mut j = 0;
-    while j < n {
+    for j in 0..n {
         live += one_if_live(plain_slots::slot_at(room, i, j));
-        j += 1;
     }
     live
 }
@@ -77,12 +74,11 @@ fn one_if_live(x: Slot) -> usize
 }
 
 // "Only the tables know starts; the header is compared."
-pub fn find_block(row: usize, len: usize, room: &[u8], offset: usize) -> Looked
-    requires room_value { sound_by slots_layout row len room.now ≡ true }
-    requires lawful { Lawful row }
-    ensures { result ≡ looked row (lookup row (view_by slots_layout row room.now) offset) }
+pub fn find_block(row: Row, len: usize, room: &[u8], offset: usize) -> Looked
+    requires room_value { sound_by slots_layout row.bytes len room.now ≡ true }
+    ensures { result ≡ looked row.bytes (lookup row.bytes (view_by slots_layout row.bytes room.now) offset) }
 {
-    let n = len / row;
+    let n = len / row.bytes;
     let mut i = 0;
     while i < n {
         let found = look_row(row, room, i, offset);
@@ -95,11 +91,10 @@ pub fn find_block(row: usize, len: usize, room: &[u8], offset: usize) -> Looked
 }
 
 // "A row is free, the first row of a group of a named class, or a later row of that group." Only a first row has slots.
-fn look_row(row: usize, room: &[u8], i: usize, offset: usize) -> Looked
+fn look_row(row: Row, room: &[u8], i: usize, offset: usize) -> Looked
     requires i_lt_most_rows { (i < most_rows) × (row_at i + row_record_bytes ≤ length room.now) }
     requires room_bound { class_held (view_holder (drop (row_at i) room.now)) < 48 }
-    requires lawful { Lawful row }
-    ensures { result ≡ row_looked row i offset (drop (row_at i) room.now) }
+    ensures { result ≡ row_looked row.bytes i offset (drop (row_at i) room.now) }
 {
     let h = rows::holder_at(room, i);
     let Holder::First(c) = h else {
@@ -109,24 +104,21 @@ fn look_row(row: usize, room: &[u8], i: usize, offset: usize) -> Looked
 }
 
 // "Slot i of a group begins 16 + i·s bytes after the group's first byte."
-fn look_group(row: usize, room: &[u8], first: usize, c: usize, offset: usize) -> Looked
+fn look_group(row: Row, room: &[u8], first: usize, c: usize, offset: usize) -> Looked
     requires first_lt_most_rows { (first < most_rows) × (row_at first + row_record_bytes ≤ length room.now) }
     requires c_bound { c < 48 }
-    requires lawful { Lawful row }
-    ensures { result ≡ slots_looked first c 0 (row * first + 16) offset (plain_group c (drop (row_at first) room.now)) }
+    ensures { result ≡ slots_looked first c 0 (row.bytes * first + 16) offset (plain_group c (drop (row_at first) room.now)) }
 {
     let n = classes::slots(c);
     let bytes = 16 * classes::units(c);
-    let mut begin = row * first + 16;
-    let mut j = 0;
-    while j < n {
+    let mut begin = row.bytes * first + 16;
+    for j in 0..n {
         let x = plain_slots::slot_at(room, first, j);
         let found = look_slot(first, c, j, begin, offset, x);
         if !absent(found) {
             return found;
         }
         begin += bytes;
-        j += 1;
     }
     Looked::Absent
 }

@@ -8,7 +8,7 @@ use Rattle.model.specs.declared.Totals.{Totals}
 use Rattle.model.specs.Answers.{Answer, done, report_refusal, listed}
 use Rattle.model.specs.Plans.{reports, plan, report, totals}
 use Rattle.model.specs.Tables.{masks_layout, arena_right, sound, view}
-use Rattle.model.specs.Calls.{KeptBytes, Result, engine, sound_kept, call}
+use Rattle.model.specs.Calls.{KeptBytes, EngineOutcome, engine, sound_kept, call}
 use Rattle.model.proofs.Tables.{sound_facts}
 use Rattle.model.proofs.Kept.{kept_sound}
 use Rattle.model.proofs.Counts.{Few, totals_few}
@@ -51,7 +51,7 @@ module _ (a : List ℕ) (t : KeptBytes) where
       let n : length a ≤ 262144 = leb→le (length a) 262144 (let l = q.lawful in search (and_left, and_right)) in
       let f = totals_few row_bytes (lit≤ tt) P q.formed (omega (arith, q.long)) in
       subst short
-      (sym (ap (λ (r : Result). r.answer)
+      (sym (ap (λ (r : EngineOutcome). r.answer)
       (call-sound row_bytes (engine row_bytes) a t e reports tt ∙ carried_whole row_bytes (engine row_bytes) a t (report row_bytes P) refl)))
       (few_short (totals row_bytes P) f)
 
@@ -60,4 +60,4 @@ module _ (a : List ℕ) (t : KeptBytes) where
     where
       go : (b : Bool) → sound_kept row_bytes (length a) t ≡ b → short (call row_bytes a t reports).answer
       go true e = sound-short e
-      go false e = subst short (sym (ap (λ (r : Result). r.answer) (call-unsound row_bytes (engine row_bytes) a t reports tt e))) unsound-short
+      go false e = subst short (sym (ap (λ (r : EngineOutcome). r.answer) (call-unsound row_bytes (engine row_bytes) a t reports tt e))) unsound-short

@@ -1,5 +1,5 @@
 -- A record of a trace after the other: the text of those that are left, by what stands at a place.
-use Rattle.mem.proofs.Prelude.{◌∙◌, ◌≡◌, sym, ap, refl, Option, some, none, true, false, true≢false, List, [], ◌++◌, append-nil}
+use Rattle.mem.proofs.Prelude.{◌∙◌, ◌≡◌, sym, ap, refl, Option, Some, None, true, false, true≢false, List, [], ◌++◌, append-nil}
 use Rattle.mem.proofs.Prelude.{ℕ, suc, ◌+◌, ◌-◌, ◌≤◌, arith, length}
 use Rattle.mem.proofs.Tests.{choose-true, choose-false}
 use Rattle.classes.specs.Classes.{row_bytes}
@@ -30,12 +30,12 @@ all_left a t s = let k : suc (length s) - 1 ≡ length s = omega arith in ap (λ
 module _ (a : List ℕ) (t : KeptBytes) (s : List ℕ) (i at : ℕ) where
   pub last_one : (x : Option Answer) → is_bad x ≡ true → Behind x a t s i at ≡ []
   unfolding lines_text
-  last_one none e = refl
-  last_one (some r) e = absurd (true≢false (sym e))
+  last_one None e = refl
+  last_one (Some r) e = absurd (true≢false (sym e))
 
   pub goes_on : (x : Option Answer) → is_bad x ≡ false → Behind x a t s i at ≡ Rest a t s i at
-  goes_on none e = absurd (true≢false e)
-  goes_on (some r) e = refl
+  goes_on None e = absurd (true≢false e)
+  goes_on (Some r) e = refl
 
 module _ (a : List ℕ) (t : KeptBytes) (s : List ℕ) (i at : ℕ) (h : i ≤ length s) where
   -- there can be one record more

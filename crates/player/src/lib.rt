@@ -9,35 +9,15 @@ ghost use Rattle.classes.specs.Classes.{row_bytes};
 ghost use Rattle.model.specs.Calls.{kept_in};
 ghost use Rattle.trace.specs.Trace.{Within, operation_of};
 ghost use Rattle.trace.specs.Replay.{performed};
-ghost use Rattle.line_text.specs.declared.Said.{Said};
 ghost use Rattle.line_text.specs.Lines.{answer_of, Short};
 ghost use Rattle.player.specs.Printed.{printed, played_text};
 
 use line_text::Said;
-use model::{Answered, Reply, Report, Totals};
+use model::Totals;
 use trace::{Op, Step};
 
 // Room for all lines of a trace: a record has three bytes or more, and its line at most 45.
 pub const TEXT: usize = 1048576;
-
-// What a record tells, and the totals after it.
-#[derive(Clone, Copy)]
-struct Played {
-    pub told: Said,
-    pub totals: Totals,
-}
-
-// What a call tells.
-fn tell(r: Answered) -> Played
-    ensures { (result.told ≡ Said.One r.reply) × (result.totals ≡ r.totals) }
-{
-    let reply = r.reply;
-    let totals = r.totals;
-    Played {
-        told: Said::One(reply),
-        totals: totals,
-    }
-}
 
 // Stores bytes in the arena, where they end inside it. The sum of offset and count is not made: it could wrap.
 fn store(arena: &mut [u8], offset: usize, bytes: &[u8]) -> bool
@@ -57,62 +37,49 @@ fn store(arena: &mut [u8], offset: usize, bytes: &[u8]) -> bool
 }
 
 // What a record does. The bytes of a store are lent from the trace.
-fn perform(arena: &mut [u8], room: &mut [u8], t: Totals, trace: &[u8], op: Op) -> Played
+fn perform(arena: &mut [u8], room: &mut [u8], t: &mut Totals, trace: &[u8], op: Op) -> Said
     requires { Within op (length trace.now) }
-    ensures short { Short result.told }
-    ensures totals_after { record { tells = answer_of result.told; arena = arena.new; kept = kept_in room.new result.totals }
-        ≡ performed row_bytes arena.old (kept_in room.old t) (operation_of trace.now op) }
+    ensures short { Short result }
+    ensures does { record { tells = answer_of result; arena = arena.new; kept = kept_in room.new t.new }
+        ≡ performed row_bytes arena.old (kept_in room.old t.old) (operation_of trace.now op) }
 {
     match op {
-        Op::Grant(n) => tell(pool::grant(arena, room, t, n)),
-        Op::Release(handle) => tell(pool::release(arena, room, t, handle)),
-        Op::ResizeInPlace(handle, n) => tell(resizing::resize_in_place(arena, room, t, handle, n)),
-        Op::Measure(handle) => Played {
-            told: Said::One(pool::measure(arena, room, t, handle)),
-            totals: t,
-        },
+        Op::Grant(n) => Said::One(pool::grant(arena, room, t, n)),
+        Op::Release(handle) => Said::One(pool::release(arena, room, t, handle)),
+        Op::ResizeInPlace(handle, n) => Said::One(resizing::resize_in_place(
+            arena, room, t, handle, n,
+        )),
+        Op::Measure(handle) => Said::One(pool::measure(arena, room, t, handle)),
         Op::Store { offset, from, to } => {
             if store(arena, offset, &trace[from..to]) {
-                Played {
-                    told: Said::One(Reply::Done(0)),
-                    totals: t,
-                }
+                Said::One(Ok(0))
             } else {
-                Played {
-                    told: Said::Bad,
-                    totals: t,
-                }
+                Said::Bad
             }
         }
-        Op::Report => Played {
-            told: Said::Six(pool::report(arena, room, t)),
-            totals: t,
-        },
-        Op::Move(handle, n) => tell(resizing::move_block(arena, room, t, handle, n)),
+        Op::Report => Said::Six(pool::report(arena, room, t)),
+        Op::Move(handle, n) => Said::One(resizing::move_block(arena, room, t, handle, n)),
     }
 }
 
 // Performs the records behind the version byte, one after the other, and writes their lines.
-fn play(arena: &mut [u8], room: &mut [u8], t: Totals, trace: &[u8], out: &mut [u8]) -> usize
+fn play(arena: &mut [u8], room: &mut [u8], t: &mut Totals, trace: &[u8], out: &mut [u8]) -> usize
     requires { (1 ≤ length trace.now) × (length trace.now ≤ 65535) × (1048576 ≤ length out.old) }
-    ensures value { result ≡ length (played_text arena.old (kept_in room.old t) trace.now) }
-    ensures out_after { out.new ≡ put 0 (played_text arena.old (kept_in room.old t) trace.now) out.old }
+    ensures value { result ≡ length (played_text arena.old (kept_in room.old t.old) trace.now) }
+    ensures out_after { out.new ≡ put 0 (played_text arena.old (kept_in room.old t.old) trace.now) out.old }
     ensures small { result ≤ 1048576 }
 {
-    let mut kept = t;
     let mut at = 1;
     let mut count = 1;
     let mut end = 0;
     loop {
         match trace::read(trace, at) {
             Step::Record(op, next) => {
-                let p = perform(arena, room, kept, trace, op);
-                let told = p.told;
+                let told = perform(arena, room, t, trace, op);
                 end = line_text::put_line(out, end, count, told);
                 if line_text::is_bad(told) {
                     return end;
                 }
-                kept = p.totals;
                 at = next;
                 count += 1;
             }
@@ -126,18 +93,17 @@ fn play(arena: &mut [u8], room: &mut [u8], t: Totals, trace: &[u8], out: &mut [u
 pub fn replay(
     arena: &mut [u8],
     room: &mut [u8],
-    t: Totals,
+    t: &mut Totals,
     trace: &[u8],
     out: &mut [u8; TEXT],
 ) -> usize
-    ensures value { result ≡ length (printed arena.old (kept_in room.old t) trace.now) }
-    ensures out_after { out.new ≡ put 0 (printed arena.old (kept_in room.old t) trace.now) out.old }
+    ensures value { result ≡ length (printed arena.old (kept_in room.old t.old) trace.now) }
+    ensures out_after { out.new ≡ put 0 (printed arena.old (kept_in room.old t.old) trace.now) out.old }
     ensures prefix_len { IsPrefixLen result out.new }
 {
     if !trace::readable(trace) {
         return line_text::put_bad(out, 0, 0);
     }
-    let made = pool::set_up(arena, room, t);
-    let totals = made.totals;
-    play(arena, room, totals, trace, out)
+    let _ = pool::set_up(arena, room, t);
+    play(arena, room, t, trace, out)
 }

@@ -1,5 +1,4 @@
-// The calls of the slot pool, over a lent arena, a lent table room and the totals in the record beside it, by value: a call that can change
-// them gives those after it back. Resize in place and move are the crate resizing's, the calls for gather lists are gather's.
+// The calls of the slot pool, over a lent arena, a lent table room and the record of totals beside it. Resize in place and move are the crate resizing's, the calls for gather lists are gather's.
 //
 // Each is a paragraph of document 01. One equation says what it answers and what it leaves of arena, room and totals, for any bytes, totals,
 // handle and size: what the model's call does on them (call, crates/model/specs/Calls.antt).
@@ -13,9 +12,7 @@ ghost use Rattle.model.specs.Tables.{room_for, view};
 ghost use Rattle.model.specs.Calls.{kept_in, engine, sound_kept, left, call};
 ghost use Rattle.frames.specs.Blocks.{CarriedOutBy};
 
-use frames::Located;
-use model::{Answered, Refusal, Reply, Report, Totals};
-use reserving::Reserved;
+use model::{Refusal, Totals};
 
 // The exact size of the table room for an arena, or 0 where the arena's length is outside the rule.
 pub fn room_len(arena_len: usize) -> usize
@@ -25,62 +22,55 @@ pub fn room_len(arena_len: usize) -> usize
 }
 
 // Set up: zero over the whole arena, tables with no groups, and their totals, whatever they were.
-pub fn set_up(arena: &mut [u8], room: &mut [u8], t: Totals) -> Answered
-    ensures { left (reply_answer result.reply) arena.new (kept_in room.new result.totals)
-        ≡ call row_bytes arena.old (kept_in room.old t) sets_up }
+pub fn set_up(arena: &mut [u8], room: &mut [u8], t: &mut Totals) -> Result<usize, Refusal>
+    ensures { left (reply_answer result) arena.new (kept_in room.new t.new)
+        ≡ call row_bytes arena.old (kept_in room.old t.old) sets_up }
 {
     let len = arena.len();
     let size = room_len(len);
     if size == 0 {
-        return totals::refused(Refusal::BadArena, t);
+        return Err(Refusal::BadArena);
     }
     if room.len() != size {
-        return totals::refused(Refusal::BadArena, t);
+        return Err(Refusal::BadArena);
     }
     mem::fill_zero(arena);
     fresh::format(room, len);
-    Answered {
-        reply: Reply::Done(0),
-        totals: Totals {
-            blocks: 0,
-            bytes: 0,
-            held: 0,
-            free: len / classes::ROW,
-            ready: 0,
-            waiting: 0,
-        },
-    }
+    *t = Totals {
+        free: len / classes::ROW.bytes,
+        ..Totals::default()
+    };
+    Ok(0)
 }
 
 // A grant on sound tables: a slot is reserved in the tables, and its block laid out in the arena.
-fn grant_as(arena: &mut [u8], room: &mut [u8], t: Totals, code: u8, n: usize) -> Answered
-    requires totals_value { sound_kept row_bytes (length arena.old) (kept_in room.old t) ≡ true }
+fn grant_as(
+    arena: &mut [u8],
+    room: &mut [u8],
+    t: &mut Totals,
+    code: u8,
+    n: usize,
+) -> Result<usize, Refusal>
+    requires totals_value { sound_kept row_bytes (length arena.old) (kept_in room.old t.old) ≡ true }
     requires code_in_range { (1 ≤ code) × (code ≤ 9) }
     ensures { CarriedOutBy (engine row_bytes) arena.old (grant_as row_bytes (view row_bytes room.old) code n)
-        result.reply arena.new (kept_in room.new result.totals) }
+        result arena.new (kept_in room.new t.new) }
 {
     if classes::too_large(code, n) {
-        return totals::refused(Refusal::TooLarge, t);
+        return Err(Refusal::TooLarge);
     }
     let len = arena.len();
-    let Reserved::Taken(b, taken) = reserving::reserve_slot(classes::ROW, len, room, t, code, n)
-    else {
-        return totals::refused(Refusal::NoRoom, t);
-    };
-    let handle = frames::lay_out(classes::ROW, arena, b);
-    Answered {
-        reply: Reply::Done(handle),
-        totals: taken,
-    }
+    let b = reserving::reserve_slot(classes::ROW, len, room, t, code, n).ok_or(Refusal::NoRoom)?;
+    Ok(frames::lay_out(classes::ROW, arena, b))
 }
 
 // Grant: an ordinary block.
-pub fn grant(arena: &mut [u8], room: &mut [u8], t: Totals, n: usize) -> Answered
-    ensures { left (reply_answer result.reply) arena.new (kept_in room.new result.totals)
-        ≡ call row_bytes arena.old (kept_in room.old t) (grants n) }
+pub fn grant(arena: &mut [u8], room: &mut [u8], t: &mut Totals, n: usize) -> Result<usize, Refusal>
+    ensures { left (reply_answer result) arena.new (kept_in room.new t.new)
+        ≡ call row_bytes arena.old (kept_in room.old t.old) (grants n) }
 {
     if !soundness::sound(classes::ROW, arena.len(), room, t) {
-        return totals::refused(Refusal::Unsound, t);
+        return Err(Refusal::Unsound);
     }
     grant_as(arena, room, t, classes::ORDINARY, n)
 }
@@ -89,64 +79,60 @@ pub fn grant(arena: &mut [u8], room: &mut [u8], t: Totals, n: usize) -> Answered
 pub fn grant_aligned(
     arena: &mut [u8],
     room: &mut [u8],
-    t: Totals,
+    t: &mut Totals,
     n: usize,
     align: usize,
-) -> Answered
-    ensures { left (reply_answer result.reply) arena.new (kept_in room.new result.totals)
-        ≡ call row_bytes arena.old (kept_in room.old t) (grants_aligned n align) }
+) -> Result<usize, Refusal>
+    ensures { left (reply_answer result) arena.new (kept_in room.new t.new)
+        ≡ call row_bytes arena.old (kept_in room.old t.old) (grants_aligned n align) }
 {
     if !soundness::sound(classes::ROW, arena.len(), room, t) {
-        return totals::refused(Refusal::Unsound, t);
+        return Err(Refusal::Unsound);
     }
     let code = classes::code_of(align);
     if code == 0 {
-        return totals::refused(Refusal::BadAlignment, t);
+        return Err(Refusal::BadAlignment);
     }
     grant_as(arena, room, t, code, n)
 }
 
 // Release: the slot waits and its bytes become zero, or the group goes with its last live slot.
-pub fn release(arena: &mut [u8], room: &mut [u8], t: Totals, handle: usize) -> Answered
-    ensures { left (reply_answer result.reply) arena.new (kept_in room.new result.totals)
-        ≡ call row_bytes arena.old (kept_in room.old t) (releases handle) }
+pub fn release(
+    arena: &mut [u8],
+    room: &mut [u8],
+    t: &mut Totals,
+    handle: usize,
+) -> Result<usize, Refusal>
+    ensures { left (reply_answer result) arena.new (kept_in room.new t.new)
+        ≡ call row_bytes arena.old (kept_in room.old t.old) (releases handle) }
 {
     if !soundness::sound(classes::ROW, arena.len(), room, t) {
-        return totals::refused(Refusal::Unsound, t);
+        return Err(Refusal::Unsound);
     }
-    match ops::locate(classes::ROW, arena, room, handle) {
-        Located::At(b) => {
-            let left = ops::discard(classes::ROW, arena, room, t, b);
-            Answered {
-                reply: Reply::Done(0),
-                totals: left,
-            }
-        }
-        Located::Refused(r) => totals::refused(r, t),
-    }
+    let b = ops::locate(classes::ROW, arena, room, handle)?;
+    ops::discard(classes::ROW, arena, room, t, b);
+    Ok(0)
 }
 
 // Measure: the requested size.
-pub fn measure(arena: &[u8], room: &[u8], t: Totals, handle: usize) -> Reply
-    ensures { left (reply_answer result) arena.now (kept_in room.now t)
-        ≡ call row_bytes arena.now (kept_in room.now t) (measures handle) }
+pub fn measure(arena: &[u8], room: &[u8], t: &Totals, handle: usize) -> Result<usize, Refusal>
+    ensures { left (reply_answer result) arena.now (kept_in room.now t.now)
+        ≡ call row_bytes arena.now (kept_in room.now t.now) (measures handle) }
 {
     if !soundness::sound(classes::ROW, arena.len(), room, t) {
-        return Reply::Refused(Refusal::Unsound);
+        return Err(Refusal::Unsound);
     }
-    match ops::locate(classes::ROW, arena, room, handle) {
-        Located::At(b) => Reply::Done(b.alloc.size),
-        Located::Refused(r) => Reply::Refused(r),
-    }
+    let b = ops::locate(classes::ROW, arena, room, handle)?;
+    Ok(b.alloc.size)
 }
 
 // Report: the six totals, as the record has them.
-pub fn report(arena: &[u8], room: &[u8], t: Totals) -> Report
-    ensures { left (report_answer result) arena.now (kept_in room.now t)
-        ≡ call row_bytes arena.now (kept_in room.now t) reports }
+pub fn report(arena: &[u8], room: &[u8], t: &Totals) -> Result<Totals, Refusal>
+    ensures { left (report_answer result) arena.now (kept_in room.now t.now)
+        ≡ call row_bytes arena.now (kept_in room.now t.now) reports }
 {
     if !soundness::sound(classes::ROW, arena.len(), room, t) {
-        return Report::Refused(Refusal::Unsound);
+        return Err(Refusal::Unsound);
     }
-    Report::Counted(t)
+    Ok(*t)
 }

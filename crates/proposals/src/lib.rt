@@ -26,9 +26,7 @@ fn sizes_right(total: usize, cap: usize, sizes: &[usize]) -> bool
     ensures { result ≡ (every (size_right cap) sizes.now && eqb (sum (λ n. n) sizes.now) «total») }
 {
     let mut sum = 0;
-    let mut i = 0;
-    while i < sizes.len() {
-        let n = sizes[i];
+    for &n in sizes {
         if n < 1 {
             return false;
         }
@@ -36,7 +34,6 @@ fn sizes_right(total: usize, cap: usize, sizes: &[usize]) -> bool
             return false;
         }
         sum += n;
-        i += 1;
     }
     sum == total
 }
@@ -67,7 +64,7 @@ pub fn plannable(total: usize, cap: usize) -> bool
 fn lesser(a: usize, b: usize) -> usize
     ensures { result ≡ min a b }
 {
-    if a < b { a } else { b }
+    a.min(b)
 }
 
 // The planner: full caps, then the rest, to the front of an array; how many they are.

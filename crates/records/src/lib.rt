@@ -3,12 +3,13 @@
 
 ghost use Rattle.std.specs.Prelude.{◌≡◌, ◌+◌, ◌≤◌, ◌<◌, length, drop, replicate, ◌++◌};
 ghost use Rattle.mem.specs.Bytes.{low, put};
-ghost use Rattle.classes.specs.Classes.{Lawful, slots_of, rows_of};
+ghost use Rattle.classes.specs.Classes.{slots_of, rows_of};
 ghost use Rattle.model.specs.declared.Slot.{Slot};
 ghost use Rattle.model.specs.State.{group};
 ghost use Rattle.model.specs.Tables.{row_at, row_record_bytes, most_slots, slot_record, span_records, most_rows};
 ghost use Rattle.records.specs.Records.{masks_in, slot_in, stored};
 
+use classes::Row;
 use masks::Masks;
 use model::{Alloc, Holder, Slot};
 
@@ -66,26 +67,15 @@ fn slot_record(x: Slot) -> [u8; 8]
             ready: _,
             count,
             disp,
-        } => [
-            1,
-            count,
-            (disp % 256) as u8,
-            (disp / 256 % 256) as u8,
-            0,
-            0,
-            0,
-            0,
-        ],
-        Slot::Live(a) => [
-            a.align,
-            a.count,
-            (a.disp % 256) as u8,
-            (a.disp / 256 % 256) as u8,
-            (a.size % 256) as u8,
-            (a.size / 256 % 256) as u8,
-            (a.size / 256 / 256 % 256) as u8,
-            0,
-        ],
+        } => {
+            let d = disp.to_le_bytes();
+            [1, count, d[0], d[1], 0, 0, 0, 0]
+        }
+        Slot::Live(a) => {
+            let d = a.disp.to_le_bytes();
+            let n = a.size.to_le_bytes();
+            [a.align, a.count, d[0], d[1], n[0], n[1], n[2], 0]
+        }
     }
 }
 
@@ -93,18 +83,9 @@ fn slot_record(x: Slot) -> [u8; 8]
 fn mask_bytes(m: Masks) -> [u8; 8]
     ensures { result ≡ low 4 m.ready ++ low 4 m.waiting }
 {
-    let r = m.ready;
-    let w = m.waiting;
-    [
-        (r % 256) as u8,
-        (r / 256 % 256) as u8,
-        (r / 256 / 256 % 256) as u8,
-        (r / 256 / 256 / 256 % 256) as u8,
-        (w % 256) as u8,
-        (w / 256 % 256) as u8,
-        (w / 256 / 256 % 256) as u8,
-        (w / 256 / 256 / 256 % 256) as u8,
-    ]
+    let r = m.ready.to_le_bytes();
+    let w = m.waiting.to_le_bytes();
+    [r[0], r[1], r[2], r[3], w[0], w[1], w[2], w[3]]
 }
 
 // Writes a group's masks and the record of one of its slots: all that a grant, a release or a resize in place changes of a group that stays.
@@ -121,11 +102,10 @@ pub fn store(room: &mut [u8], i: usize, m: Masks, j: usize, x: Slot)
 }
 
 // Writes the records of a new group: its class, all slots ready and never granted, and the later rows.
-pub fn make_group(row: usize, room: &mut [u8], i: usize, c: usize)
-    requires c_bound { (c < 48) × (i + rows_of row c ≤ most_rows) }
-    requires c_in_bounds { row_at (i + rows_of row c) ≤ length room.old }
-    requires lawful { Lawful row }
-    ensures { room.new ≡ put (row_at i) (span_records row (group c (replicate (slots_of c) Slot.Fresh))) room.old }
+pub fn make_group(row: Row, room: &mut [u8], i: usize, c: usize)
+    requires c_bound { (c < 48) × (i + rows_of row.bytes c ≤ most_rows) }
+    requires c_in_bounds { row_at (i + rows_of row.bytes c) ≤ length room.old }
+    ensures { room.new ≡ put (row_at i) (span_records row.bytes (group c (replicate (slots_of c) Slot.Fresh))) room.old }
 {
     rows::write_row(room, i, Holder::First(c as u8));
     let sets = mask_bytes(Masks {

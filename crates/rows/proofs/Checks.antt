@@ -1,5 +1,5 @@
 -- Soundness row by row, in any layout: a span that passes its test is one, and a room whose spans pass is sound.
-use Rattle.mem.proofs.Prelude.{◌∙◌, ◌≡◌, sym, ap, refl, ap₂, subst, true, Bool, false, ◌&&◌, and-false, List, [], ◌∷◌, ◌++◌, append_assoc}
+use Rattle.mem.proofs.Prelude.{◌∙◌, ◌≡◌, sym, ap, refl, ap₂, subst, true, Bool, false, ◌&&◌, and-false, List, [], ◌∷◌, ◌++◌, append_assoc, Some, None}
 use Rattle.mem.proofs.Prelude.{◌+◌, ℕ, ◌<◌, ◌≤◌, ◌*◌, ◌-◌, suc, ◌/◌, ◌^◌, ◌%◌, add-zero, le-div_iff_mul-le, add-one, arith, eq-eqb, le-ltb, T, eqb}
 use Rattle.mem.proofs.Prelude.{lit≤, ltb, eqb→eq, leb→le, le→leb, length, drop, get_or, length-append, length-drop, take-append-drop, drop-drop}
 use Rattle.mem.proofs.Prelude.{get_or-drop, drop_at, eqb-true, eqb-false}
@@ -20,7 +20,6 @@ use Rattle.model.specs.Tables.{Layout, LayoutLaws, row_at, holder_bytes, row_rec
 use Rattle.model.specs.Tables.{span_records_by, encode_by, view_rows_by, view_by, sound_by}
 use Rattle.model.proofs.Tables.{row_length, later_length, span_length, spans_length, encode-length, view_span, encode-sound, sound_facts}
 use Rattle.model.proofs.Tables.{group_few, holder_free, holder_later}
-use Rattle.rows.specs.declared.Tile.TheVariants.{Rows, Unsound}
 use Rattle.rows.specs.Rows.{arena_rows}
 use Rattle.rows.specs.Checks.{room_rows, group_checked, held_checked, tile, span_checked, rows_checked, room_checked}
 
@@ -104,11 +103,11 @@ module _ {L : Layout} (law : LayoutLaws L) (row : ℕ) (pos : 0 < row) where
     pub left : k ≤ n
     pub form : t ≡ span_records_by L row span ++ drop (row_record_bytes * k) t
 
-  pub span_begins : (at n k : ℕ) (t : List ℕ) → 0 < n → span_checked L row at n t ≡ Rows k → Begins at n k t
+  pub span_begins : (at n k : ℕ) (t : List ℕ) → 0 < n → span_checked L row at n t ≡ Some k → Begins at n k t
   unfolding span_checked held_checked group_checked choose span_records_by span_sound
   span_begins at n k t p = go (view_holder t)
     where
-      free_begins : (a : Bool) → starts t (zeros row_record_bytes) ≡ a → choose a (Rows 1) Unsound ≡ Rows k → Begins at n k t
+      free_begins : (a : Bool) → starts t (zeros row_record_bytes) ≡ a → choose a (Some 1) None ≡ Some k → Begins at n k t
       free_begins true e q =
           let l : 1 ≡ k = cc in
           record {
@@ -122,7 +121,7 @@ module _ {L : Layout} (law : LayoutLaws L) (row : ℕ) (pos : 0 < row) where
           }
       free_begins false e q = let z : ◌≡◌ {A = ℕ} 0 1 = cc in absurd (omega arith)
 
-      held_begins : (c : ℕ) (b : Bool) → held_checked L row at n c t ≡ b → choose b (Rows (rows_of row c)) Unsound ≡ Rows k → Begins at n k t
+      held_begins : (c : ℕ) (b : Bool) → held_checked L row at n c t ≡ b → choose b (Some (rows_of row c)) None ≡ Some k → Begins at n k t
       held_begins c true f q =
           let ss : List Slot = L.slots_in c t in
           let l : rows_of row c ≡ k = cc in
@@ -147,7 +146,7 @@ module _ {L : Layout} (law : LayoutLaws L) (row : ℕ) (pos : 0 < row) where
           }
       held_begins c false f q = let z : ◌≡◌ {A = ℕ} 0 1 = cc in absurd (omega arith)
 
-      go : (h : Holder) → tile L row at n t h ≡ Rows k → Begins at n k t
+      go : (h : Holder) → tile L row at n t h ≡ Some k → Begins at n k t
       go Free q = free_begins (starts t (zeros row_record_bytes)) refl q
       go (First c) q = held_begins c (held_checked L row at n c t) refl q
       go (Later d) q = let z : ◌≡◌ {A = ℕ} 0 1 = cc in absurd (omega arith)
@@ -164,7 +163,7 @@ module _ {L : Layout} (law : LayoutLaws L) (row : ℕ) (pos : 0 < row) where
 
   -- the records of a sound span pass, whatever stands behind them
   span_passes : (at : ℕ) (s : Span) (n : ℕ) (rest : List ℕ) → T (span_sound s) → T (aligned_from row at (s ∷ [])) → rows_in row s ≤ n
-      → span_checked L row at n (span_records_by L row s ++ rest) ≡ Rows (rows_in row s)
+      → span_checked L row at n (span_records_by L row s ++ rest) ≡ Some (rows_in row s)
   unfolding span_checked span_records_by choose
   span_passes at free n rest h o l =
       let t = row_record Free [] ++ rest in
@@ -192,7 +191,7 @@ module _ {L : Layout} (law : LayoutLaws L) (row : ℕ) (pos : 0 < row) where
         b (view_rows_by L row m 0 rest),
       )
 
-  pub rows_pass : (at n k : ℕ) (t : List ℕ) → 0 < n → span_checked L row at n t ≡ Rows k
+  pub rows_pass : (at n k : ℕ) (t : List ℕ) → 0 < n → span_checked L row at n t ≡ Some k
       → (1 ≤ k) × (k ≤ n) × (rows_checked L row at n t ≡ rows_checked L row (at + row * k) (n - k) (drop (row_record_bytes * k) t))
   rows_pass at n k t p e =
       let b = span_begins at n k t p e in
@@ -213,7 +212,7 @@ module _ {L : Layout} (law : LayoutLaws L) (row : ℕ) (pos : 0 < row) where
   first-aligned at (group c ss) P t =
       and_both (slots_aligned c (at + 16) ss) true (and_left (slots_aligned c (at + 16) ss) (aligned_from row (at + row * rows_of row c) P) t) tt
 
-  pub rows_fail : (at n : ℕ) (t : List ℕ) → 0 < n → length t ≡ row_record_bytes * n → span_checked L row at n t ≡ Unsound
+  pub rows_fail : (at n : ℕ) (t : List ℕ) → 0 < n → length t ≡ row_record_bytes * n → span_checked L row at n t ≡ None
       → rows_checked L row at n t ≡ false
   unfolding rows_checked
   rows_fail at n t p l e = same_test (rows_checked L row at n t) false
@@ -227,7 +226,7 @@ module _ {L : Layout} (law : LayoutLaws L) (row : ℕ) (pos : 0 < row) where
           let hs : T (span_sound s) = and_left (span_sound s) (well_formed P) h in
           let few : rows_in row s ≤ n =
           omega (arith, ap length f, length-append (span_records_by L row s) (join (span_records_by L row) P), span_length law row pos s hs) in
-          let q : span_checked L row at n t ≡ Rows (rows_in row s) =
+          let q : span_checked L row at n t ≡ Some (rows_in row s) =
           ap (span_checked L row at n) f ∙ span_passes at s n (join (span_records_by L row) P) hs (first-aligned at s P o) few in
           let z : ◌≡◌ {A = ℕ} 0 1 = cc in
           omega arith

@@ -1,5 +1,5 @@
 -- Laws of what is counted, in any layout: the rows' totals are those of their spans.
-use Rattle.mem.proofs.Prelude.{◌∙◌, ◌≡◌, sym, ap, ap₂, refl, subst, true, false, Bool, ◌&&◌, List, [], ◌∷◌, ◌++◌, append_assoc}
+use Rattle.mem.proofs.Prelude.{◌∙◌, ◌≡◌, sym, ap, ap₂, refl, subst, true, false, Bool, ◌&&◌, List, [], ◌∷◌, ◌++◌, append_assoc, Option, Some, None}
 use Rattle.mem.proofs.Prelude.{ℕ, ◌+◌, ◌*◌, ◌-◌, ◌/◌, ◌<◌, ◌≤◌, add-zero, zero-add, add_assoc, mul-add, sub-zero, arith, T, leb, length, drop}
 use Rattle.mem.proofs.Prelude.{length-drop, drop-drop, and-false, and-true, ltb, ltb→lt}
 use borrow.Author.Tests.{ltb-false}
@@ -22,8 +22,6 @@ use Rattle.model.specs.Tables.{view_by, sound_by}
 use Rattle.model.proofs.Tables.{group_few, holder_free, view_span, size_small}
 use Rattle.model.proofs.Counts.{held_free, three_sets}
 use Rattle.rows.specs.declared.Frame.{Frame}
-use Rattle.rows.specs.declared.Tile.{Tile}
-use Rattle.rows.specs.declared.Counted.{Counted}
 use Rattle.rows.specs.Checks.{frame_held, frame_in, group_checked, held_checked, tile, span_checked, rows_checked}
 use Rattle.rows.specs.Counts.{all_rows, PerRow, plus, count_if, group_totals, span_held, frame_counted, tile_counted}
 use Rattle.rows.specs.Counts.{span_counted, rows_counted}
@@ -31,18 +29,18 @@ use Rattle.rows.proofs.Checks.{no_class, span_begins, rows_pass, rows_fail}
 
 -- ---- one span
 
-tile_if : (b : Bool) (k : ℕ) (s : Totals) → tile_counted (choose b (Tile.Rows k) Tile.Unsound) s ≡ count_if b s
+tile_if : (b : Bool) (k : ℕ) (s : Totals) → tile_counted (choose b (Some k) None) s ≡ count_if b s
 unfolding choose
 tile_if true k s = refl
 tile_if false k s = refl
 
 -- what a test says of what is counted
-pub counted_if : (b : Bool) (s u : Totals) → count_if b s ≡ Counted.Sound u → (b ≡ true) × (s ≡ u)
+pub counted_if : (b : Bool) (s u : Totals) → count_if b s ≡ Some u → (b ≡ true) × (s ≡ u)
 unfolding choose
 counted_if true s u e = (refl, cc)
 counted_if false s u e = let z : ◌≡◌ {A = ℕ} 0 1 = cc in absurd (omega arith)
 
-pub not-counted : (b : Bool) (s : Totals) → count_if b s ≡ Counted.Unsound → b ≡ false
+pub not-counted : (b : Bool) (s : Totals) → count_if b s ≡ None → b ≡ false
 unfolding choose
 not-counted true s e = let z : ◌≡◌ {A = ℕ} 0 1 = cc in absurd (omega arith)
 not-counted false s e = refl
@@ -52,30 +50,30 @@ unfolding totals
 group_totals_lem row c ss = simp add-zero
 
 -- of the tests of a group's rows and of its slots, each comes as the code makes it
-group_if : (a n g l : Bool) (k c : ℕ) (s : Totals) (f : ℕ → ℕ → Counted) → (a ≡ false → g ≡ false) → f c k ≡ count_if g s
-    → tile_counted (choose (n && g && l) (Tile.Rows k) Tile.Unsound) s ≡ frame_counted (choose (a && n && l) (Frame.Group c k) Frame.Unsound) f
+group_if : (a n g l : Bool) (k c : ℕ) (s : Totals) (f : ℕ → ℕ → (Option Totals)) → (a ≡ false → g ≡ false) → f c k ≡ count_if g s
+    → tile_counted (choose (n && g && l) (Some k) None) s ≡ frame_counted (choose (a && n && l) (Some (Frame.Group c k)) None) f
 unfolding choose
 group_if a n g l k c s f h e = tile_if (n && g && l) k s ∙ go a n g l h e
   where
     go : (a n g l : Bool) → (a ≡ false → g ≡ false) → f c k ≡ count_if g s
-        → count_if (n && g && l) s ≡ frame_counted (choose (a && n && l) (Frame.Group c k) Frame.Unsound) f
+        → count_if (n && g && l) s ≡ frame_counted (choose (a && n && l) (Some (Frame.Group c k)) None) f
     go a false g l h e = rw (and-false a)
     go false true g l h e = rw (h refl)
     go true true g false h e = rw (and-false g)
     go true true g true h e = rw (and-true g) (sym e)
 
 -- what is counted of a span that is a group
-abbrev slots_counted : (L : Layout) (at : ℕ) → List ℕ → ℕ → ℕ → Counted
+abbrev slots_counted : (L : Layout) (at : ℕ) → List ℕ → ℕ → ℕ → Option Totals
 slots_counted L at t c k = count_if (group_checked L at c t) (group_totals k (L.slots_in c t))
 
 -- a span, by what begins with its rows
-pub frame_counted_lem : (L : Layout) (row at n : ℕ) (t : List ℕ) (f : Frame) → frame_in row n t ≡ f
+pub frame_counted_lem : (L : Layout) (row at n : ℕ) (t : List ℕ) (f : Option Frame) → frame_in row n t ≡ f
     → span_counted L row at n t ≡ frame_counted f (λ c k. count_if (group_checked L at c t) (group_totals k (L.slots_in c t)))
 unfolding span_counted span_checked held_checked frame_in totals choose
 frame_counted_lem L row at n t f e = go (view_holder t) ∙ ap (λ g. frame_counted g (slots_counted L at t)) e
   where
-    gap : (b : Bool) → tile_counted (choose b (Tile.Rows 1) Tile.Unsound) (totals row (free ∷ []))
-        ≡ frame_counted (choose b Frame.Free Frame.Unsound) (slots_counted L at t)
+    gap : (b : Bool) → tile_counted (choose b (Some 1) None) (totals row (free ∷ []))
+        ≡ frame_counted (choose b (Some Frame.Free) None) (slots_counted L at t)
     gap true = refl
     gap false = refl
 
@@ -88,16 +86,16 @@ frame_counted_lem L row at n t f e = go (view_holder t) ∙ ap (λ g. frame_coun
     go (Later k) = refl
 
 -- a group is one by its first row
-pub frame-group : (row n c k : ℕ) (t : List ℕ) → frame_in row n t ≡ Frame.Group c k → (c < 48) × (view_holder t ≡ First c)
+pub frame-group : (row n c k : ℕ) (t : List ℕ) → frame_in row n t ≡ Some (Frame.Group c k) → (c < 48) × (view_holder t ≡ First c)
 unfolding frame_in choose
 frame-group row n c k t = go (view_holder t)
   where
-    none : (b : Bool) → choose b Frame.Free Frame.Unsound ≡ Frame.Group c k → ⊥
+    none : (b : Bool) → choose b (Some Frame.Free) None ≡ Some (Frame.Group c k) → ⊥
     none true e = let z : ◌≡◌ {A = ℕ} 0 1 = cc in omega arith
     none false e = let z : ◌≡◌ {A = ℕ} 0 1 = cc in omega arith
 
     some : (j : ℕ) (b : Bool) → b ≡ (ltb j 48 && leb (rows_of row j) n && starts (drop row_record_bytes t) (later_records (rows_of row j - 1) 1))
-        → choose b (Frame.Group j (rows_of row j)) Frame.Unsound ≡ Frame.Group c k → (c < 48) × (First j ≡ First c)
+        → choose b (Some (Frame.Group j (rows_of row j))) None ≡ Some (Frame.Group c k) → (c < 48) × (First j ≡ First c)
     some j true q e =
         let f : j ≡ c = cc in
         let u : T (ltb j 48 && leb (rows_of row j) n && starts (drop row_record_bytes t) (later_records (rows_of row j - 1) 1)) = true-T _ (sym q) in
@@ -105,7 +103,7 @@ frame-group row n c k t = go (view_holder t)
         (rw (← f) l, ap First f)
     some j false q e = let z : ◌≡◌ {A = ℕ} 0 1 = cc in absurd (omega arith)
 
-    go : (h : Holder) → frame_held row n t h ≡ Frame.Group c k → (c < 48) × (h ≡ First c)
+    go : (h : Holder) → frame_held row n t h ≡ Some (Frame.Group c k) → (c < 48) × (h ≡ First c)
     go Free e = absurd (none (starts t (zeros row_record_bytes)) e)
     go (First j) e = some j _ refl e
     go (Later d) e = let z : ◌≡◌ {A = ℕ} 0 1 = cc in absurd (omega arith)
@@ -119,25 +117,25 @@ unfolding rows_counted view_by
 room_counted L row len n t l e = let k : (length t - 16) / row_record_bytes ≡ n = omega arith in rw (e, k)
 
 -- totals of rows passed, and what is counted of those that are left
-abbrev more : Totals → Counted → Counted
-more s (Counted.Sound u) = Counted.Sound (plus s u)
-more s Counted.Unsound = Counted.Unsound
+abbrev more : Totals → (Option Totals) → Option Totals
+more s (Some u) = Some (plus s u)
+more s None = None
 
 more_if : (s : Totals) (b : Bool) (u : Totals) → more s (count_if b u) ≡ count_if b (plus s u)
 unfolding choose
 more_if s true u = refl
 more_if s false u = refl
 
-more-more : (s u : Totals) (x : Counted) → more s (more u x) ≡ more (plus s u) x
-more-more s u (Counted.Sound v) = ap Counted.Sound (simp add_assoc)
-more-more s u Counted.Unsound = refl
+more-more : (s u : Totals) (x : (Option Totals)) → more s (more u x) ≡ more (plus s u) x
+more-more s u (Some v) = ap Some (simp add_assoc)
+more-more s u None = refl
 
 abbrev none : Totals
 none = record { blocks = 0; bytes = 0; held = 0; free = 0; ready = 0; waiting = 0 }
 
-none_more : (x : Counted) → more none x ≡ x
-none_more (Counted.Sound u) = ap Counted.Sound (simp zero-add)
-none_more Counted.Unsound = refl
+none_more : (x : (Option Totals)) → more none x ≡ x
+none_more (Some u) = ap Some (simp zero-add)
+none_more None = refl
 
 totals-cons : (row : ℕ) (x : Span) (P : Pool) → totals row (x ∷ P) ≡ plus (totals row (x ∷ [])) (totals row P)
 unfolding totals
@@ -205,17 +203,17 @@ module _ (L : Layout) (row : ℕ) where
           ∙ rw (drop-drop (row_record_bytes * k) (row_at i) room, j, q, b);
     }
 
-    pub all_passed : n ≤ all_rows s → length room ≡ row_at n → rows_counted L row 0 n (drop 16 room) ≡ Counted.Sound s
+    pub all_passed : n ≤ all_rows s → length room ≡ row_at n → rows_counted L row 0 n (drop 16 room) ≡ Some s
     unfolding rows_counted rows_checked view_rows_by totals choose
     all_passed h l =
         let i = all_rows s in
         let z : n - i ≡ 0 = omega arith in
         let d : drop (row_at i) room ≡ [] = drop_of_length-le room {i = row_at i} (omega arith) in
-        p.left ∙ rw (z, d) (ap Counted.Sound (simp add-zero))
+        p.left ∙ rw (z, d) (ap Some (simp add-zero))
 
 module _ {L : Layout} (law : LayoutLaws L) (row : ℕ) (pos : 0 < row) where
   module _ (at n : ℕ) (t : List ℕ) (p : 0 < n) where
-    span_begun : (k : ℕ) (e : span_checked L row at n t ≡ Tile.Rows k) → Begun L row at n t (totals row ((span_begins law row pos at n k t p e).span ∷ []))
+    span_begun : (k : ℕ) (e : span_checked L row at n t ≡ Some k) → Begun L row at n t (totals row ((span_begins law row pos at n k t p e).span ∷ []))
     unfolding rows_counted
     span_begun k e =
         let b = span_begins law row pos at n k t p e in
@@ -236,31 +234,31 @@ module _ {L : Layout} (law : LayoutLaws L) (row : ℕ) (pos : 0 < row) where
               ∙ sym (more_if s (rows_checked L row (at + row * k) (n - k) R) (totals row P)));
         }
 
-    pub span_counts : (u : Totals) → span_counted L row at n t ≡ Counted.Sound u → Begun L row at n t u
+    pub span_counts : (u : Totals) → span_counted L row at n t ≡ Some u → Begun L row at n t u
     unfolding span_counted
     span_counts u = go (span_checked L row at n t) refl
       where
-        go : (x : Tile) → span_checked L row at n t ≡ x → tile_counted x (totals row (span_held L t (view_holder t) ∷ [])) ≡ Counted.Sound u → Begun L row at n t u
-        go (Tile.Rows k) e q =
+        go : (x : (Option ℕ)) → span_checked L row at n t ≡ x → tile_counted x (totals row (span_held L t (view_holder t) ∷ [])) ≡ Some u → Begun L row at n t u
+        go (Some k) e q =
             let b = span_begins law row pos at n k t p e in
             let f : span_held L t (view_holder t) ≡ b.span =
             subst (λ l. span_held L l (view_holder l) ≡ b.span) (sym b.form) (span_read law row b.span (drop (row_record_bytes * k) t) b.right) in
             let g : totals row (span_held L t (view_holder t) ∷ []) ≡ u = cc in
             subst (Begun L row at n t) (ap (λ x. totals row (x ∷ [])) (sym f) ∙ g) (span_begun k e)
-        go Tile.Unsound e q = let z : ◌≡◌ {A = ℕ} 0 1 = cc in absurd (omega arith)
+        go None e q = let z : ◌≡◌ {A = ℕ} 0 1 = cc in absurd (omega arith)
 
-    span_refused : length t ≡ row_record_bytes * n → span_counted L row at n t ≡ Counted.Unsound → rows_counted L row at n t ≡ Counted.Unsound
+    span_refused : length t ≡ row_record_bytes * n → span_counted L row at n t ≡ None → rows_counted L row at n t ≡ None
     unfolding span_counted rows_counted
     span_refused l = go (span_checked L row at n t) refl
       where
-        go : (x : Tile) → span_checked L row at n t ≡ x → tile_counted x (totals row (span_held L t (view_holder t) ∷ [])) ≡ Counted.Unsound
-            → count_if (rows_checked L row at n t) (totals row (view_rows_by L row n 0 t)) ≡ Counted.Unsound
-        go (Tile.Rows k) e q = let z : ◌≡◌ {A = ℕ} 0 1 = cc in absurd (omega arith)
-        go Tile.Unsound e q = choose-false (rows_checked L row at n t) _ Counted.Unsound (rows_fail law row pos at n t p l e)
+        go : (x : (Option ℕ)) → span_checked L row at n t ≡ x → tile_counted x (totals row (span_held L t (view_holder t) ∷ [])) ≡ None
+            → count_if (rows_checked L row at n t) (totals row (view_rows_by L row n 0 t)) ≡ None
+        go (Some k) e q = let z : ◌≡◌ {A = ℕ} 0 1 = cc in absurd (omega arith)
+        go None e q = choose-false (rows_checked L row at n t) _ None (rows_fail law row pos at n t p l e)
 
   module _ (n : ℕ) (room : List ℕ) (s : Totals) (p : Passed L row n room s) where
     pub not-passed : all_rows s < n → length room ≡ row_at n → (let t = drop (row_at (all_rows s)) room in
-        span_counted L row (row * all_rows s) (n - all_rows s) t ≡ Counted.Unsound → rows_counted L row 0 n (drop 16 room) ≡ Counted.Unsound)
+        span_counted L row (row * all_rows s) (n - all_rows s) t ≡ None → rows_counted L row 0 n (drop 16 room) ≡ None)
     not-passed h l e =
         let i = all_rows s in
         p.left ∙ ap (more s) (span_refused (row * i) (n - i) (drop (row_at i) room) (omega arith) (omega (arith, length-drop (row_at i) room)) e)

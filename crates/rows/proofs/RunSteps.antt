@@ -1,5 +1,5 @@
 -- The search for a run of free rows, span by span.
-use Rattle.mem.proofs.Prelude.{◌∙◌, ◌≡◌, sym, ap, refl, subst, none, List, [], ◌∷◌, ◌++◌, append_assoc, append-nil, ◌+◌, ℕ, ◌<◌, ◌≤◌, ◌-◌, arith}
+use Rattle.mem.proofs.Prelude.{◌∙◌, ◌≡◌, sym, ap, refl, subst, None, List, [], ◌∷◌, ◌++◌, append_assoc, append-nil, ◌+◌, ℕ, ◌<◌, ◌≤◌, ◌-◌, arith, Some}
 use Rattle.mem.proofs.Prelude.{drop}
 use Rattle.classes.specs.Classes.{rows_of}
 use Rattle.classes.proofs.Laws.{rows_pos}
@@ -9,7 +9,6 @@ use Rattle.model.specs.Plans.{run_from, fresh_pool}
 use Rattle.model.specs.Tables.{Layout, row_at, view_by, view_holder}
 use Rattle.model.proofs.Rooms.{rows_append}
 use Rattle.model.proofs.Fresh.{fresh-rows}
-use Rattle.rows.specs.declared.Found.TheVariants.{At, Nothing}
 use Rattle.rows.specs.declared.Run.{Run}
 use Rattle.rows.specs.Rows.{Lent, site_found, class_held, next_run}
 use Rattle.rows.proofs.Rooms.{holder_of, held_class, some-rows, span_sound_lem, span_holder}
@@ -36,7 +35,7 @@ module _ (L : Layout) (row : ℕ) (t : List ℕ) (c : ℕ) where
     pub class : class_held (view_holder (drop (row_at i) t)) < 48
     pub order : r.from ≤ r.next
     pub further : i < r.next
-    pub hit : r.next - r.from ≡ rows_of row c → site_found row (run_from row [] c (view_by L row t)) ≡ At r.from
+    pub hit : r.next - r.from ≡ rows_of row c → site_found row (run_from row [] c (view_by L row t)) ≡ Some r.from
     pub miss : (r.next - r.from ≡ rows_of row c → ⊥) → Ran r.from r.next
 
 module _ {L : Layout} {row n : ℕ} {t : List ℕ} (r : Lent L row n t) (c : ℕ) where
@@ -117,10 +116,10 @@ module _ {L : Layout} {row n : ℕ} {t : List ℕ} (r : Lent L row n t) (c : ℕ
       go X k [] q f m l g = absurd (omega (arith, ap (rows row) q, rows_append row X (fresh_pool k ++ []), rows_append row (fresh_pool k) [], fresh-rows row k))
       go X k (s ∷ Y) q f m l g = subst (Next from) m (subst (λ a. Next a (a + k)) f (step_run X k s Y l q g))
 
-  pub run_end : (from i : ℕ) → Ran L row t c from i → rows row (view_by L row t) ≤ i → site_found row (run_from row [] c (view_by L row t)) ≡ Nothing
+  pub run_end : (from i : ℕ) → Ran L row t c from i → rows row (view_by L row t) ≤ i → site_found row (run_from row [] c (view_by L row t)) ≡ None
   run_end from i p h = ap (site_found row) (p.same ∙ go p.after p.split)
     where
-      go : (Y : Pool) → view_by L row t ≡ p.before ++ (fresh_pool p.length ++ Y) → run_from row p.before c (fresh_pool p.length ++ Y) ≡ none
+      go : (Y : Pool) → view_by L row t ≡ p.before ++ (fresh_pool p.length ++ Y) → run_from row p.before c (fresh_pool p.length ++ Y) ≡ None
       go [] q = ap (run_from row p.before c) (append-nil (fresh_pool p.length)) ∙ run_out row r.pos c p.before p.length p.short
       go (s ∷ Y) q =
           absurd (omega (

@@ -1,5 +1,5 @@
 -- The lowest run of free rows, from the front: k free rows have been passed since X, fewer than are looked for.
-use Rattle.mem.proofs.Prelude.{◌∙◌, ◌≡◌, sym, ap, refl, true, false, some, none, List, [], ◌∷◌, ◌++◌, append_assoc, ◌+◌, ℕ, ◌<◌, suc, zero, arith}
+use Rattle.mem.proofs.Prelude.{◌∙◌, ◌≡◌, sym, ap, refl, true, false, Some, None, List, [], ◌∷◌, ◌++◌, append_assoc, ◌+◌, ℕ, ◌<◌, suc, zero, arith}
 use Rattle.mem.proofs.Prelude.{drop, replicate}
 use Rattle.mem.proofs.Tests.{choose-true, choose-false}
 use Rattle.classes.specs.Classes.{slots_of, rows_of}
@@ -30,13 +30,13 @@ drop-fresh (suc n) Y = drop-fresh n Y
 module _ (row : ℕ) (pos : 0 < row) (c : ℕ) where
   -- the run is long enough
   pub run_here : (X Y : Pool) (n : ℕ) → n ≡ rows_of row c
-      → run_from row X c (fresh_pool n ++ Y) ≡ some (record { before = X; slots = replicate (slots_of c) Fresh; after = Y })
+      → run_from row X c (fresh_pool n ++ Y) ≡ Some (record { before = X; slots = replicate (slots_of c) Fresh; after = Y })
   run_here X Y zero e = absurd (omega (arith, rows_pos row c pos))
   run_here X Y (suc n) e =
       let P : Pool = fresh_pool (suc n) ++ Y in
       let s : Pool → Site = λ Z. record { before = X; slots = replicate (slots_of c) Fresh; after = Z } in
       choose-true (run (rows_of row c) P) _ _ (ap (λ k. run k P) (sym e) ∙ run_whole (suc n) Y)
-      ∙ ap (λ k. some (s (drop k P))) (sym e) ∙ ap (λ Z. some (s Z)) (drop-fresh (suc n) Y)
+      ∙ ap (λ k. Some (s (drop k P))) (sym e) ∙ ap (λ Z. Some (s Z)) (drop-fresh (suc n) Y)
 
   -- a group ends it
   pub run_broken : (X Y : Pool) (g : ℕ) (ss : List Slot) (k : ℕ) → k < rows_of row c
@@ -48,7 +48,7 @@ module _ (row : ℕ) (pos : 0 < row) (c : ℕ) where
       ∙ ap (λ Z. run_from row Z c Y) (append_assoc X (free ∷ []) (fresh_pool k ++ (group g ss ∷ [])))
 
   -- and so does the arena's end
-  pub run_out : (X : Pool) (k : ℕ) → k < rows_of row c → run_from row X c (fresh_pool k) ≡ none
+  pub run_out : (X : Pool) (k : ℕ) → k < rows_of row c → run_from row X c (fresh_pool k) ≡ None
   run_out X zero h = refl
   run_out X (suc k) h =
       choose-false (run (rows_of row c) (fresh_pool (suc k))) _ _ (run_ends (rows_of row c) (suc k) h) ∙ run_out (X ++ (free ∷ [])) k (omega arith)

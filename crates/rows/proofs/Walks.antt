@@ -1,12 +1,11 @@
 -- A walk over the spans of sound tables, in any layout, from row 0 on: what is looked for in the whole is what is looked for in what is left.
 -- The search for a group that can serve is one.
-use Rattle.mem.proofs.Prelude.{◌∙◌, ◌≡◌, sym, ap, refl, subst, true, Bool, false, List, [], ◌∷◌, ◌++◌, append_assoc, ◌+◌, ℕ, ◌<◌, ◌≤◌, arith, drop}
+use Rattle.mem.proofs.Prelude.{◌∙◌, ◌≡◌, sym, ap, refl, subst, true, Bool, false, List, [], ◌∷◌, ◌++◌, append_assoc, ◌+◌, ℕ, ◌<◌, ◌≤◌, arith, drop, Some, None}
 use Rattle.mem.proofs.Tests.{choose-true, choose-false}
 use Rattle.model.specs.State.{Span, Pool, rows}
 use Rattle.model.specs.Plans.{opens, open_from}
 use Rattle.model.specs.Tables.{Layout, row_at, view_by, view_holder}
 use Rattle.model.proofs.Rooms.{rows_append}
-use Rattle.rows.specs.declared.Found.TheVariants.{At, Nothing}
 use Rattle.rows.specs.Rows.{Lent, Passed, NoneOpen, site_found, rows_held, class_held}
 use Rattle.rows.proofs.Rooms.{holder_of, held_class, held_rows, some-rows, span_sound_lem, span_holder}
 
@@ -62,7 +61,7 @@ module _ {A : Type 0} {L : Layout} {row n : ℕ} {t : List ℕ} (r : Lent L row 
 -- what the span that begins at row i says, by a test of its first row
 pub record OpenStep (L : Layout) (row : ℕ) (t : List ℕ) (c : ℕ) (test : List ℕ → Bool) (i : ℕ) : Type 0 where
   pub class : class_held (view_holder (drop (row_at i) t)) < 48
-  pub hit : test (drop (row_at i) t) ≡ true → site_found row (open_from [] c (view_by L row t)) ≡ At i
+  pub hit : test (drop (row_at i) t) ≡ true → site_found row (open_from [] c (view_by L row t)) ≡ Some i
   pub miss : test (drop (row_at i) t) ≡ false → NoneOpen L row t c (i + rows_held row (view_holder (drop (row_at i) t)))
 
 -- the test says whether the span can serve
@@ -80,9 +79,9 @@ module _ {L : Layout} {row n : ℕ} {t : List ℕ} (r : Lent L row n t) (c i : �
       subst (λ k. test (drop (row_at k) t) ≡ opens c a.span) a.count (tested a.before a.span a.after a.split) in
       record {
         class = ahead_class r (λ X Y. open_from X c Y) i a;
-        hit = λ b. ap (site_found row) (a.same ∙ choose-true (opens c a.span) _ _ (sym o ∙ b)) ∙ ap At a.count;
+        hit = λ b. ap (site_found row) (a.same ∙ choose-true (opens c a.span) _ _ (sym o ∙ b)) ∙ ap Some a.count;
         miss = λ b. further r (λ X Y. open_from X c Y) i a (choose-false (opens c a.span) _ _ (sym o ∙ b));
       }
 
-  pub open_end : rows row (view_by L row t) ≤ i → site_found row (open_from [] c (view_by L row t)) ≡ Nothing
+  pub open_end : rows row (view_by L row t) ≤ i → site_found row (open_from [] c (view_by L row t)) ≡ None
   open_end h = ap (site_found row) (all_passed r (λ X Y. open_from X c Y) i p h).1

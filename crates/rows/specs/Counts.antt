@@ -1,5 +1,5 @@
 -- What is counted of rows in the walk that tests them, in any layout, each piece over the room's bytes from its place on.
-use Rattle.std.specs.Prelude.{ℕ, ◌+◌, ◌*◌, ◌≤◌, Bool, List, [], ◌∷◌}
+use Rattle.std.specs.Prelude.{ℕ, ◌+◌, ◌*◌, ◌≤◌, Bool, List, [], ◌∷◌, Option, Some, None}
 use Rattle.mem.specs.Lists.{choose, sum}
 use Rattle.mem.specs.Bytes.{bit}
 use Rattle.model.specs.declared.Slot.{Slot}
@@ -10,9 +10,7 @@ use Rattle.model.specs.State.{Span, free, group, is_live, is_ready, is_waiting, 
 use Rattle.model.specs.Plans.{totals}
 use Rattle.model.specs.Tables.{Layout, view_holder, view_rows_by}
 use Rattle.rows.specs.declared.Frame.{Frame}
-use Rattle.rows.specs.declared.Tile.{Tile}
 use Rattle.rows.specs.Checks.{span_checked, rows_checked}
-use Rattle.rows.specs.declared.Counted.{Counted}
 
 -- the rows that totals are of
 abbrev pub all_rows : Totals → ℕ
@@ -34,8 +32,8 @@ plus a b = record {
 }
 
 -- what is counted of rows that passed a test, or not
-abbrev pub count_if : Bool → Totals → Counted
-count_if b s = choose b (Counted.Sound s) Counted.Unsound
+abbrev pub count_if : Bool → Totals → Option Totals
+count_if b s = choose b (Some s) None
 
 -- a group of k rows, by its slots
 abbrev pub group_totals : ℕ → List Slot → Totals
@@ -55,20 +53,20 @@ span_held L t (First c) = group c (L.slots_in c t)
 span_held L t (Later k) = free
 
 -- by what begins with its rows, and what is counted of the slots of a group
-abbrev pub frame_counted : Frame → (ℕ → ℕ → Counted) → Counted
-frame_counted Frame.Free f = Counted.Sound (record { blocks = 0; bytes = 0; held = 0; free = 1; ready = 0; waiting = 0 })
-frame_counted (Frame.Group c k) f = f c k
-frame_counted Frame.Unsound f = Counted.Unsound
+abbrev pub frame_counted : Option Frame → (ℕ → ℕ → Option Totals) → Option Totals
+frame_counted (Some Frame.Free) f = Some (record { blocks = 0; bytes = 0; held = 0; free = 1; ready = 0; waiting = 0 })
+frame_counted (Some (Frame.Group c k)) f = f c k
+frame_counted None f = None
 
-abbrev pub tile_counted : Tile → Totals → Counted
-tile_counted (Tile.Rows k) s = Counted.Sound s
-tile_counted Tile.Unsound s = Counted.Unsound
+abbrev pub tile_counted : Option ℕ → Totals → Option Totals
+tile_counted (Some k) s = Some s
+tile_counted None s = None
 
 module _ (L : Layout) (row : ℕ) where
   -- the span that begins here, where n rows are left and the first has the arena's byte at first
-  unfoldable pub span_counted : (at n : ℕ) → List ℕ → Counted
+  unfoldable pub span_counted : (at n : ℕ) → List ℕ → Option Totals
   span_counted at n t = tile_counted (span_checked L row at n t) (totals row (span_held L t (view_holder t) ∷ []))
 
   -- all rows that are left, n of them
-  unfoldable pub rows_counted : (at n : ℕ) → List ℕ → Counted
+  unfoldable pub rows_counted : (at n : ℕ) → List ℕ → Option Totals
   rows_counted at n t = count_if (rows_checked L row at n t) (totals row (view_rows_by L row n 0 t))

@@ -1,6 +1,5 @@
 -- What the searches make of rows, by who holds them, and blocks by their place in rows and slots.
-use Rattle.std.specs.Prelude.{ℕ, ◌+◌, ◌*◌, ◌-◌, ◌/◌, ◌≤◌, ◌<◌, ◌≡◌, Bool, true, not, List, [], ◌∷◌, ◌++◌, T, leb, length}
-use Rattle.std.proofs.Math.Option.{Option, none, some}
+use Rattle.std.specs.Prelude.{ℕ, ◌+◌, ◌*◌, ◌-◌, ◌/◌, ◌≤◌, ◌<◌, ◌≡◌, Bool, true, not, List, [], ◌∷◌, ◌++◌, T, leb, length, Option, None, Some}
 use Rattle.mem.specs.Lists.{choose, every, any}
 use Rattle.classes.specs.Classes.{slot_bytes, slots_of, rows_of}
 use Rattle.model.specs.declared.Holder.{Holder}
@@ -10,8 +9,6 @@ use Rattle.model.specs.declared.Slot.TheVariants.{Live}
 use Rattle.model.specs.State.{Pool, Place, group, is_live, count, disp, size, align, slot_sound, well_formed, use_bits, pool_of, slot_number, rows}
 use Rattle.model.specs.Plans.{Site, open_from}
 use Rattle.model.specs.Tables.{Layout, LayoutLaws, row_at, arena_right, encode_by, view_by, sound_by, most_rows}
-use Rattle.rows.specs.declared.Found.{Found}
-use Rattle.rows.specs.declared.Found.TheVariants.{At, Nothing}
 use Rattle.rows.specs.declared.Run.{Run}
 use Rattle.rows.specs.declared.Block.{Block}
 use Rattle.rows.specs.declared.Looked.{Looked}
@@ -40,10 +37,10 @@ reaches i (First c) = true
 reaches i (Later k) = leb k i
 
 -- the first row of the group that row i belongs to
-abbrev pub first_of : ℕ → Holder → Found
-first_of i Free = Nothing
-first_of i (First c) = At i
-first_of i (Later k) = At (i - k)
+abbrev pub first_of : ℕ → Holder → Option ℕ
+first_of i Free = None
+first_of i (First c) = Some i
+first_of i (Later k) = Some (i - k)
 
 module _ (row : ℕ) where
   -- the rows of the span that a row begins
@@ -59,9 +56,9 @@ module _ (row : ℕ) where
   next_run r (Later k) = record { from = r.from; next = r.next + 1 }
 
   -- a site by its first row
-  abbrev pub site_found : Option Site → Found
-  site_found none = Nothing
-  site_found (some s) = At (rows row s.before)
+  abbrev pub site_found : Option Site → Option ℕ
+  site_found None = None
+  site_found (Some s) = Some (rows row s.before)
 
   -- a live slot's block, the first byte that its slot owns, its start, and its handle
   abbrev pub block_of : Place → Block
@@ -74,8 +71,8 @@ module _ (row : ℕ) where
 
   -- what is looked up, as the code has it
   abbrev pub looked : Option Place → Looked
-  looked none = Absent
-  looked (some p) = choose (is_live p.state) (Present (block_of p)) Freed
+  looked None = Absent
+  looked (Some p) = choose (is_live p.state) (Present (block_of p)) Freed
 
   abbrev pub owned_at : Block → ℕ
   owned_at b = row * b.first + 12 + b.slot * slot_bytes b.class

@@ -5,7 +5,6 @@
 ghost use Rattle.std.specs.Prelude.{◌≡◌, true, [], ◌+◌, ◌*◌, ◌-◌, ◌≤◌, ◌<◌, length, drop};
 ghost use Rattle.mem.specs.Lists.{starts};
 ghost use Rattle.mem.specs.Bytes.{zeros, put};
-ghost use Rattle.classes.specs.Classes.{Lawful};
 ghost use Rattle.model.specs.declared.Holder.TheVariants.{First, Later};
 ghost use Rattle.model.specs.Plans.{run_from};
 ghost use Rattle.model.specs.Tables.{row_at, row_record_bytes, row_record, holder_bytes, later_records, view_holder, Layout, view_by, most_rows};
@@ -13,14 +12,8 @@ ghost use Rattle.rows.specs.Checks.{room_rows, frame_held, frame_in};
 ghost use Rattle.rows.specs.Counts.{all_rows, PerRow, plus};
 ghost use Rattle.rows.specs.Rows.{Lent, arena_rows, class_held, rows_held, next_run, reaches, first_of, site_found};
 
+use classes::Row;
 use model::{Alloc, Holder, Totals};
-
-// The first row of what was looked for.
-#[derive(Clone, Copy)]
-pub enum Found {
-    At(usize),
-    Nothing,
-}
 
 // The free rows that end before a row, from the first of them on.
 #[derive(Clone, Copy)]
@@ -46,26 +39,11 @@ pub enum Looked {
     Absent,
 }
 
-// The span that begins at a row: how many rows it has, or that it is no span of sound tables.
-#[derive(Clone, Copy)]
-pub enum Tile {
-    Rows(usize),
-    Unsound,
-}
-
-// What begins at a row, whatever stands in a group's slots: a free row, a group with its class and its rows, or no span of sound tables.
+// What begins at a row, whatever stands in a group's slots: a free row, or a group with its class and its rows.
 #[derive(Clone, Copy)]
 pub enum Frame {
     Free,
     Group { class: usize, rows: usize },
-    Unsound,
-}
-
-// What is counted of rows that are sound, or that they are not.
-#[derive(Clone, Copy)]
-pub enum Counted {
-    Sound(Totals),
-    Unsound,
 }
 
 // The totals of rows and of further rows.
@@ -86,21 +64,20 @@ pub fn plus(a: Totals, b: Totals) -> Totals
 }
 
 // The rows of an arena, or 0 where its length is outside the rule.
-pub fn rows_in(row: usize, len: usize) -> usize
-    requires { Lawful row }
-    ensures value { result ≡ arena_rows row len }
+pub fn rows_in(row: Row, len: usize) -> usize
+    ensures value { result ≡ arena_rows row.bytes len }
     ensures small { result ≤ most_rows }
 {
-    if len < row {
+    if len < row.bytes {
         return 0;
     }
-    if model::MOST_ROWS * row < len {
+    if model::MOST_ROWS * row.bytes < len {
         return 0;
     }
-    if len % row != 0 {
+    if len % row.bytes != 0 {
         return 0;
     }
-    len / row
+    len / row.bytes
 }
 
 // Where the record of a row stands.
@@ -112,9 +89,8 @@ pub fn row_at(i: usize) -> usize
 }
 
 // The rows of a room whose head is right under an arena of len bytes, or 0.
-pub fn rows_under(row: usize, len: usize, room: &[u8]) -> usize
-    requires { Lawful row }
-    ensures value { result ≡ room_rows row len room.now }
+pub fn rows_under(row: Row, len: usize, room: &[u8]) -> usize
+    ensures value { result ≡ room_rows row.bytes len room.now }
     ensures small { result ≤ most_rows }
 {
     let n = rows_in(row, len);
@@ -147,10 +123,9 @@ pub fn holder_at(room: &[u8], i: usize) -> Holder
 }
 
 // The rows of the span that a row begins.
-pub fn rows_held(row: usize, h: Holder) -> usize
+pub fn rows_held(row: Row, h: Holder) -> usize
     requires h_bound { class_held h < 48 }
-    requires lawful { Lawful row }
-    ensures value { result ≡ rows_held row h }
+    ensures value { result ≡ rows_held row.bytes h }
     ensures small { (1 ≤ result) × (result ≤ 256) }
 {
     match h {
@@ -160,23 +135,22 @@ pub fn rows_held(row: usize, h: Holder) -> usize
     }
 }
 
-// The first row of the group that has a row.
-pub fn first_of(i: usize, h: Holder) -> Found
+// The first row of the group that has a row, if one has it.
+pub fn first_of(i: usize, h: Holder) -> Option<usize>
     requires { reaches i h ≡ true }
     ensures { result ≡ first_of i h }
 {
     match h {
-        Holder::Free => Found::Nothing,
-        Holder::First(_) => Found::At(i),
-        Holder::Later(k) => Found::At(i - mem::wide(k)),
+        Holder::Free => None,
+        Holder::First(_) => Some(i),
+        Holder::Later(k) => Some(i - mem::wide(k)),
     }
 }
 
 // A run of free rows, one span further: a free row makes it longer, a group begins it anew.
-fn next_run(row: usize, run: Run, h: Holder) -> Run
+fn next_run(row: Row, run: Run, h: Holder) -> Run
     requires h_bound { (class_held h < 48) × (run.next < most_rows) }
-    requires lawful { Lawful row }
-    ensures { result ≡ next_run row run h }
+    ensures { result ≡ next_run row.bytes run h }
 {
     let after = run.next + rows_held(row, h);
     match h {
@@ -196,13 +170,12 @@ fn next_run(row: usize, run: Run, h: Holder) -> Run
 }
 
 // The lowest run of as many free rows as a group of a class takes.
-pub fn find_run(row: usize, len: usize, room: &[u8], c: usize) -> Found
-    requires lent { (L : Layout) × Lent L row len room.now }
+pub fn find_run(row: Row, len: usize, room: &[u8], c: usize) -> Option<usize>
+    requires lent { (L : Layout) × Lent L row.bytes len room.now }
     requires c_bound { c < 48 }
-    requires lawful { Lawful row }
-    ensures { (L : Layout) → Lent L row len room.now → result ≡ site_found row (run_from row [] c (view_by L row room.now)) }
+    ensures { (L : Layout) → Lent L row.bytes len room.now → result ≡ site_found row.bytes (run_from row.bytes [] c (view_by L row.bytes room.now)) }
 {
-    let n = len / row;
+    let n = len / row.bytes;
     let need = classes::rows(row, c);
     let mut from = 0;
     let mut i = 0;
@@ -218,10 +191,10 @@ pub fn find_run(row: usize, len: usize, room: &[u8], c: usize) -> Found
         from = run.from;
         i = run.next;
         if i - from == need {
-            return Found::At(from);
+            return Some(from);
         }
     }
-    Found::Nothing
+    None
 }
 
 // Whether a row is a later row of a group, k rows after its first.
@@ -244,52 +217,48 @@ pub fn laters_sound(room: &[u8], i: usize, m: usize) -> bool
     requires { (i + m < most_rows) × (row_at (i + m) + row_record_bytes ≤ length room.now) }
     ensures { result ≡ starts (drop (row_at (i + 1)) room.now) (later_records m 1) }
 {
-    let mut k = 0;
-    while k < m {
+    for k in 0..m {
         if !later_sound(room, i + 1 + k, k + 1) {
             return false;
         }
-        k += 1;
     }
     true
 }
 
-// A group of class c that begins at row i, where n rows are left.
-fn group_frame(row: usize, room: &[u8], i: usize, n: usize, c: usize) -> Frame
+// A group of class c that begins at row i, where n rows are left, if it is one.
+fn group_frame(row: Row, room: &[u8], i: usize, n: usize, c: usize) -> Option<Frame>
     requires n_nonzero { (0 < n) × (i + n ≤ most_rows) × (row_at (i + n) ≤ length room.now) }
-    requires lawful { Lawful row }
-    ensures { result ≡ frame_held row n (drop (row_at i) room.now) (First c) }
+    ensures { result ≡ frame_held row.bytes n (drop (row_at i) room.now) (First c) }
 {
     // There is such a class.
     if classes::CLASSES <= c {
-        return Frame::Unsound;
+        return None;
     }
     // Its rows are in the arena, and say how far they are from its first.
     let k = classes::rows(row, c);
     if n < k {
-        return Frame::Unsound;
+        return None;
     }
     if !laters_sound(room, i, k - 1) {
-        return Frame::Unsound;
+        return None;
     }
-    Frame::Group { class: c, rows: k }
+    Some(Frame::Group { class: c, rows: k })
 }
 
-// What begins at row i, where n rows are left.
-pub fn frame_at(row: usize, room: &[u8], i: usize, n: usize) -> Frame
+// What begins at row i, where n rows are left; nothing of sound tables, if there is none.
+pub fn frame_at(row: Row, room: &[u8], i: usize, n: usize) -> Option<Frame>
     requires n_nonzero { (0 < n) × (i + n ≤ most_rows) × (row_at (i + n) ≤ length room.now) }
-    requires lawful { Lawful row }
-    ensures { result ≡ frame_in row n (drop (row_at i) room.now) }
+    ensures { result ≡ frame_in row.bytes n (drop (row_at i) room.now) }
 {
     match holder_at(room, i) {
         Holder::Free => {
             if mem::zeros_at(room, row_at(i), model::ROW_RECORD) {
-                return Frame::Free;
+                return Some(Frame::Free);
             }
-            Frame::Unsound
+            None
         }
         Holder::First(c) => group_frame(row, room, i, n, mem::wide(c)),
-        Holder::Later(_) => Frame::Unsound,
+        Holder::Later(_) => None,
     }
 }
 
@@ -320,10 +289,8 @@ pub fn write_later(room: &mut [u8], i: usize, n: usize)
     requires n_in_bounds { row_at (i + n) ≤ length room.old }
     ensures { room.new ≡ put (row_at (i + 1)) (later_records (n - 1) 1) room.old }
 {
-    let mut k = 1;
-    while k < n {
+    for k in 1..n {
         write_row(room, i + k, Holder::Later(k as u8));
-        k += 1;
     }
 }
 

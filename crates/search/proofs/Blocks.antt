@@ -1,5 +1,5 @@
 -- The block at an offset, from the group that has the offset's row.
-use Rattle.mem.proofs.Prelude.{◌∙◌, ◌≡◌, sym, ap, refl, ap₂, subst, true, Bool, false, some, none, Option, List, [], ◌∷◌, ◌++◌, ◌+◌, ℕ, ◌<◌, ◌≤◌, ◌*◌}
+use Rattle.mem.proofs.Prelude.{◌∙◌, ◌≡◌, sym, ap, refl, ap₂, subst, true, Bool, false, Some, None, Option, List, [], ◌∷◌, ◌++◌, ◌+◌, ℕ, ◌<◌, ◌≤◌, ◌*◌}
 use Rattle.mem.proofs.Prelude.{◌-◌, suc, ◌/◌, ◌%◌, mul_comm, le-div_iff_mul-le, arith, eq-eqb, ne_eqb, leb-false, lt-leb, le-ltb, T, eqb, leb, ltb}
 use Rattle.mem.proofs.Prelude.{length, drop, get_or, take, length-take-le}
 use native.Mathlib.Nat.{mul-add-div, mul-add-mod_self_left, mod-eq_of_lt, div-eq_of_lt, div-add-mod}
@@ -39,7 +39,7 @@ at_slot first c inside i d slots e h l =
 
 -- at a granted slot's own displacement, it is what is looked up
 own : (row : ℕ) (X : Pool) (c : ℕ) (us : List Slot) (x : Slot) (vs : List Slot) (Y : Pool) → T (granted x)
-    → looked row (some (placed X c us x vs Y)) ≡ slot_looked (rows row X) c (length us) (16 * disp x) x
+    → looked row (Some (placed X c us x vs Y)) ≡ slot_looked (rows row X) c (length us) (16 * disp x) x
 unfolding choose
 own row X c us Fresh vs Y g = absurd g
 own row X c us (Idle r k d) vs Y g = sym (choose-true (eqb (16 * d) (16 * d)) Freed Absent (eq-eqb (16 * d) (16 * d) refl))
@@ -53,7 +53,7 @@ other first c i after (Live a) h = sym (choose-false (eqb (16 * a.disp) after) _
 
 module _ (row : ℕ) (pos : 0 < row) (X : Pool) (c : ℕ) (ss : List Slot) (Y : Pool) (w : T (well_formed (X ++ (group c ss ∷ Y)))) (o : ℕ)
     (i : InRows row pos (o / row) X (group c ss)) where
-  found : (p : Place) → lookup row (X ++ (group c ss ∷ Y)) o ≡ some p → looked row (some p)
+  found : (p : Place) → lookup row (X ++ (group c ss ∷ Y)) o ≡ Some p → looked row (Some p)
       ≡ group_looked (rows row X) c (o - row * rows row X) (λ j. get_or ss j Fresh)
   found p e =
       let f : (pool_of p ≡ X ++ (group c ss ∷ Y)) × T (granted p.state) × (start row p ≡ o) = lookup_found row pos (X ++ (group c ss ∷ Y)) o p e in
@@ -79,7 +79,7 @@ module _ (row : ℕ) (pos : 0 < row) (X : Pool) (c : ℕ) (ss : List Slot) (Y : 
       ∙ sym (at_slot (rows row X) c (o - row * rows row X) (slot_number p) (16 * disp p.state) (λ j. get_or ss j Fresh) n
       (omega (arith, d, ap slot_bytes cl)) (omega (arith, t.number, ap slots_of cl)))
 
-  missed : lookup row (X ++ (group c ss ∷ Y)) o ≡ none → Absent ≡ group_looked (rows row X) c (o - row * rows row X) (λ j. get_or ss j Fresh)
+  missed : lookup row (X ++ (group c ss ∷ Y)) o ≡ None → Absent ≡ group_looked (rows row X) c (o - row * rows row X) (λ j. get_or ss j Fresh)
   unfolding group_looked
   missed e =
       choose_case (λ r. Absent ≡ r) (ltb n 16) Absent (choose (leb (slots_of c) j) Absent (slot_looked (rows row X) c j (m % slot_bytes c) (get_or ss j Fresh)))
@@ -106,7 +106,7 @@ module _ (row : ℕ) (pos : 0 < row) (X : Pool) (c : ℕ) (ss : List Slot) (Y : 
           let lo : row * rows row X ≤ o = omega (arith, (le-div_iff_mul-le {k = row} {x = rows row X} {y = o} pos).0 i.from, mul_comm row (rows row X)) in
           let st : start row p ≡ o =
           omega (arith, q, div-add-mod m (slot_bytes c), ap (λ z. z * slot_bytes c) (length-take-le j ss (omega arith)), mul_comm (slot_bytes c) j) in
-          let r : lookup row (X ++ (group c ss ∷ Y)) o ≡ some p =
+          let r : lookup row (X ++ (group c ss ∷ Y)) o ≡ Some p =
           ap₂ (lookup row) (sym pe) (sym st) ∙ lookup-start row pos p (subst (λ Q. T (well_formed Q)) (sym pe) w) g in
           let z : ◌≡◌ {A = ℕ} 0 1 = cc in
           omega arith
@@ -116,24 +116,24 @@ module _ (row : ℕ) (pos : 0 < row) (X : Pool) (c : ℕ) (ss : List Slot) (Y : 
     where
       go : (r : Option Place) → lookup row (X ++ (group c ss ∷ Y)) o ≡ r → looked row r
           ≡ group_looked (rows row X) c (o - row * rows row X) (λ j. get_or ss j Fresh)
-      go none e = missed e
-      go (some p) e = found p e
+      go None e = missed e
+      go (Some p) e = found p e
 
 -- ---- other offsets
 
 module _ (row : ℕ) (pos : 0 < row) where
-  no_place : (P : Pool) (o : ℕ) → ((p : Place) → lookup row P o ≡ some p → ⊥) → looked row (lookup row P o) ≡ Absent
+  no_place : (P : Pool) (o : ℕ) → ((p : Place) → lookup row P o ≡ Some p → ⊥) → looked row (lookup row P o) ≡ Absent
   no_place P o f = go (lookup row P o) refl
     where
       go : (r : Option Place) → lookup row P o ≡ r → looked row r ≡ Absent
-      go none e = refl
-      go (some p) e = absurd (f p e)
+      go None e = refl
+      go (Some p) e = absurd (f p e)
 
   pub looked-free : (X Y : Pool) (o : ℕ) → T (well_formed (X ++ (free ∷ Y))) → InRows row pos (o / row) X free → looked row (lookup row (X ++ (free ∷ Y)) o)
       ≡ Absent
   looked-free X Y o w i = no_place (X ++ (free ∷ Y)) o none_there
     where
-      none_there : (p : Place) → lookup row (X ++ (free ∷ Y)) o ≡ some p → ⊥
+      none_there : (p : Place) → lookup row (X ++ (free ∷ Y)) o ≡ Some p → ⊥
       none_there p e =
           let f : (pool_of p ≡ X ++ (free ∷ Y)) × T (granted p.state) × (start row p ≡ o) = lookup_found row pos (X ++ (free ∷ Y)) o p e in
           let sp : List Slot = p.lower ++ (p.state ∷ p.upper) in
@@ -148,7 +148,7 @@ module _ (row : ℕ) (pos : 0 < row) where
   pub looked-past : (P : Pool) (o : ℕ) → T (well_formed P) → row * rows row P ≤ o → looked row (lookup row P o) ≡ Absent
   looked-past P o w h = no_place P o none_there
     where
-      none_there : (p : Place) → lookup row P o ≡ some p → ⊥
+      none_there : (p : Place) → lookup row P o ≡ Some p → ⊥
       none_there p e =
           let f : (pool_of p ≡ P) × T (granted p.state) × (start row p ≡ o) = lookup_found row pos P o p e in
           let sp : List Slot = p.lower ++ (p.state ∷ p.upper) in

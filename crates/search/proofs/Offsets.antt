@@ -1,5 +1,5 @@
 -- The block at an offset of sound tables, as the code finds it: by the holder of the offset's row.
-use Rattle.mem.proofs.Prelude.{◌∙◌, ◌≡◌, sym, ap, refl, ap₂, subst, true, Bool, false, List, ◌∷◌, ◌++◌, ◌+◌, ℕ, ◌<◌, ◌≤◌, ◌*◌, ◌-◌, suc, ◌/◌, zero}
+use Rattle.mem.proofs.Prelude.{◌∙◌, ◌≡◌, sym, ap, refl, ap₂, subst, true, Bool, false, List, ◌∷◌, ◌++◌, ◌+◌, ℕ, ◌<◌, ◌≤◌, ◌*◌, ◌-◌, suc, ◌/◌, zero, Some, None}
 use Rattle.mem.proofs.Prelude.{◌%◌, mul_comm, le-div_iff_mul-le, arith, le-leb, leb-false, T, leb, ltb, length, drop, get_or}
 use native.Mathlib.Nat.{div-lt_iff_lt-mul}
 use Rattle.mem.specs.Lists.{choose, join}
@@ -14,7 +14,6 @@ use Rattle.model.specs.Plans.{lookup}
 use Rattle.model.specs.Tables.{row_at, masks_layout, span_records, row_record, later_records, view, view_holder, encode, row_record_bytes}
 use Rattle.model.proofs.Tables.{masks_laws, group-slots, group_few}
 use Rattle.model.proofs.Lookup.{InRows}
-use Rattle.rows.specs.declared.Found.TheVariants.{At, Nothing}
 use Rattle.rows.specs.Rows.{Lent, looked, reaches, first_of}
 use Rattle.rows.proofs.Rooms.{held_class, group-first, facts, row_inside, before-sound, span_sound_lem, span_rows, span_from, span_holder}
 use Rattle.rows.proofs.Holders.{holder_read-free, holder_read-first, holder_read_later}
@@ -62,8 +61,8 @@ module _ (row : ℕ) (t : List ℕ) (o : ℕ) where
   -- what the holder of the offset's row says
   pub record Leads (h : Holder) : Type 0 where
     pub reach : reaches (o / row) h ≡ true
-    pub nothing : first_of (o / row) h ≡ Nothing → looked row (lookup row (view row t) o) ≡ Absent
-    pub first : (f : ℕ) → first_of (o / row) h ≡ At f → Group f
+    pub nothing : first_of (o / row) h ≡ None → looked row (lookup row (view row t) o) ≡ Absent
+    pub first : (f : ℕ) → first_of (o / row) h ≡ Some f → Group f
 
 module _ {row n : ℕ} {t : List ℕ} (r : Lent masks_layout row n t) (o : ℕ) where
   pub past : n ≤ o → looked row (lookup row (view row t) o) ≡ Absent
@@ -90,7 +89,7 @@ module _ {row n : ℕ} {t : List ℕ} (r : Lent masks_layout row n t) (o : ℕ) 
               ∙ rw q (same-slots (rows row X) c (o - row * rows row X) (λ j. get_or ss j Fresh) _ (λ j l. sym (group-read row c ss Y j s l)));
         }
 
-    to_first : (h : Holder) → reaches (o / row) h ≡ true → first_of (o / row) h ≡ At (rows row X) → Leads row t o h
+    to_first : (h : Holder) → reaches (o / row) h ≡ true → first_of (o / row) h ≡ Some (rows row X) → Leads row t o h
     to_first h r q = record {
       reach = r;
       nothing = λ q'. let z : ◌≡◌ {A = ℕ} 0 1 = cc in absurd (omega arith);
@@ -102,13 +101,13 @@ module _ {row n : ℕ} {t : List ℕ} (r : Lent masks_layout row n t) (o : ℕ) 
     group_holder zero m =
         let b : T (well_formed X) = before-sound r X (group c ss) Y p in
         let f : o / row ≡ rows row X = omega arith in
-        rw (row_read m p ∙ holder_read-first masks_laws row r.pos X Y b c ss 0 refl) (to_first (First c) refl (ap At f))
+        rw (row_read m p ∙ holder_read-first masks_laws row r.pos X Y b c ss 0 refl) (to_first (First c) refl (ap Some f))
     group_holder (suc k) m =
         let b : T (well_formed X) = before-sound r X (group c ss) Y p in
         let s : T (span_sound (group c ss)) = span_sound_lem r X (group c ss) Y p in
         let f : o / row - suc k ≡ rows row X = omega arith in
         rw (row_read m p ∙ holder_read_later masks_laws row r.pos X Y b c ss (suc k) (group_few c ss s) (omega arith) (omega (arith, i.to)))
-        (to_first (Later (suc k)) (le-leb (suc k) (o / row) (omega arith)) (ap At f))
+        (to_first (Later (suc k)) (le-leb (suc k) (o / row) (omega arith)) (ap Some f))
 
   leads_free : (X Y : Pool) → view row t ≡ X ++ (free ∷ Y) → InRows row r.pos (o / row) X free → Leads row t o (view_holder (drop (row_at (o / row)) t))
   leads_free X Y p i =

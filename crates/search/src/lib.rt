@@ -2,15 +2,15 @@
 #![tactic(auto)]
 
 ghost use Rattle.std.specs.Prelude.{◌≡◌, true, [], ◌+◌, ◌≤◌, ◌<◌, length, drop};
-ghost use Rattle.classes.specs.Classes.{Lawful};
 ghost use Rattle.model.specs.Tables.{row_at, row_record_bytes, masks_layout, sound, view, most_rows};
 ghost use Rattle.model.specs.Plans.{open_from, lookup};
 ghost use Rattle.rows.specs.Rows.{site_found, looked, NoneOpen};
 ghost use Rattle.records.specs.Records.{slots_here};
 ghost use Rattle.search.specs.Found.{opens_in, slot_looked, group_looked, disp_small};
 
+use classes::Row;
 use model::{Holder, Slot};
-use rows::{Block, Found, Looked};
+use rows::{Block, Looked};
 
 // Whether the group whose first row it is has class c and a slot that is not live.
 fn opens_at(room: &[u8], i: usize, c: usize) -> bool
@@ -32,21 +32,20 @@ fn opens_at(room: &[u8], i: usize, c: usize) -> bool
 }
 
 // The lowest group of a class with a slot that is not live, looked for from a row on before which there is none.
-pub fn find_open(row: usize, len: usize, room: &[u8], c: usize, from: usize) -> Found
-    requires room_value { sound row len room.now ≡ true }
-    requires c_bound { (c < 48) × NoneOpen masks_layout row room.now c from }
-    requires lawful { Lawful row }
-    ensures { result ≡ site_found row (open_from [] c (view row room.now)) }
+pub fn find_open(row: Row, len: usize, room: &[u8], c: usize, from: usize) -> Option<usize>
+    requires room_value { sound row.bytes len room.now ≡ true }
+    requires c_bound { (c < 48) × NoneOpen masks_layout row.bytes room.now c from }
+    ensures { result ≡ site_found row.bytes (open_from [] c (view row.bytes room.now)) }
 {
-    let n = len / row;
+    let n = len / row.bytes;
     let mut i = from;
     while i < n {
         if opens_at(room, i, c) {
-            return Found::At(i);
+            return Some(i);
         }
         i += rows::rows_held(row, rows::holder_at(room, i));
     }
-    Found::Nothing
+    None
 }
 
 // A slot as what stands some bytes after its beginning.
@@ -102,21 +101,20 @@ fn look_group(room: &[u8], first: usize, c: usize, inside: usize) -> Looked
 }
 
 // The block at an offset: the row of the offset leads to the group's first row, and the distance from there to the slot.
-pub fn find_block(row: usize, len: usize, room: &[u8], offset: usize) -> Looked
-    requires room_value { sound row len room.now ≡ true }
-    requires lawful { Lawful row }
-    ensures { result ≡ looked row (lookup row (view row room.now) offset) }
+pub fn find_block(row: Row, len: usize, room: &[u8], offset: usize) -> Looked
+    requires room_value { sound row.bytes len room.now ≡ true }
+    ensures { result ≡ looked row.bytes (lookup row.bytes (view row.bytes room.now) offset) }
 {
     if len <= offset {
         return Looked::Absent;
     }
-    let i = offset / row;
-    let Found::At(first) = rows::first_of(i, rows::holder_at(room, i)) else {
+    let i = offset / row.bytes;
+    let Some(first) = rows::first_of(i, rows::holder_at(room, i)) else {
         return Looked::Absent;
     };
     let h = rows::holder_at(room, first);
     let Holder::First(c) = h else {
         return Looked::Absent;
     };
-    look_group(room, first, mem::wide(c), offset - row * first)
+    look_group(room, first, mem::wide(c), offset - row.bytes * first)
 }

@@ -1,12 +1,11 @@
 -- The lowest run in a map, from the front: j free rows have been passed since p, fewer than are looked for.
-use Rattle.mem.proofs.Prelude.{◌∙◌, ◌≡◌, ap, refl, subst, true, false, Bool, some, none, Option, List, [], ◌∷◌, ◌++◌, append-nil, ◌+◌, ℕ, ◌<◌, ◌≤◌, ◌-◌}
+use Rattle.mem.proofs.Prelude.{◌∙◌, ◌≡◌, ap, refl, subst, true, false, Bool, Some, None, Option, List, [], ◌∷◌, ◌++◌, append-nil, ◌+◌, ℕ, ◌<◌, ◌≤◌, ◌-◌}
 use Rattle.mem.proofs.Prelude.{suc, zero, add-one, arith, T, eqb, ne_eqb, length, drop, get_or, replicate, drop-cons}
 use lib.ListN.{drop_of_length-le}
 use Rattle.mem.specs.Lists.{choose, starts}
 use Rattle.mem.proofs.Tests.{and_right, T_true, true-T, choose-true, choose-false}
 use Rattle.mem.proofs.Starts.{starts_own}
-use Rattle.rows.specs.declared.Found.TheVariants.{At, Nothing}
-use Rattle.serving.specs.Survey.{lowest_run, run_found}
+use Rattle.serving.specs.Survey.{lowest_run}
 
 -- k free rows in a map
 abbrev pub free_map : ℕ → List ℕ
@@ -29,53 +28,44 @@ starts_long (suc k) (b ∷ m) t = omega (arith, starts_long k m (and_right (eqb 
 
 module _ (k : ℕ) where
   -- the run is long enough
-  lowest_here : (p : ℕ) (Y : List ℕ) (j : ℕ) → j ≡ k → 1 ≤ j → lowest_run k p (free_map j ++ Y) ≡ some p
+  lowest_here : (p : ℕ) (Y : List ℕ) (j : ℕ) → j ≡ k → 1 ≤ j → lowest_run k p (free_map j ++ Y) ≡ Some p
   lowest_here p Y zero e h = absurd (omega arith)
   lowest_here p Y (suc j) e h =
-      choose-true (starts (free_map (suc j) ++ Y) (free_map k)) (some p) (lowest_run k (suc p) (free_map j ++ Y))
+      choose-true (starts (free_map (suc j) ++ Y) (free_map k)) (Some p) (lowest_run k (suc p) (free_map j ++ Y))
       (T_true (starts (free_map (suc j) ++ Y) (free_map k)) (subst (λ i. T (starts (free_map (suc j) ++ Y) (free_map i))) e (starts_own (free_map (suc j)) Y)))
 
   -- a row that is not free ends it
   lowest_broken : (p j b : ℕ) (Y : List ℕ) → j < k → (b ≡ 1 → ⊥) → lowest_run k p (free_map j ++ (b ∷ Y)) ≡ lowest_run k (p + j + 1) Y
   lowest_broken p zero b Y h n =
       let e : suc p ≡ p + 0 + 1 = omega arith in
-      choose-false (starts (b ∷ Y) (free_map k)) (some p) (lowest_run k (suc p) Y) (starts-short k 0 b Y h n) ∙ ap (λ i. lowest_run k i Y) e
+      choose-false (starts (b ∷ Y) (free_map k)) (Some p) (lowest_run k (suc p) Y) (starts-short k 0 b Y h n) ∙ ap (λ i. lowest_run k i Y) e
   lowest_broken p (suc j) b Y h n =
       let e : suc p + j + 1 ≡ p + suc j + 1 = omega arith in
-      choose-false (starts (free_map (suc j) ++ (b ∷ Y)) (free_map k)) (some p) (lowest_run k (suc p) (free_map j ++ (b ∷ Y))) (starts-short k (suc j) b Y h n)
+      choose-false (starts (free_map (suc j) ++ (b ∷ Y)) (free_map k)) (Some p) (lowest_run k (suc p) (free_map j ++ (b ∷ Y))) (starts-short k (suc j) b Y h n)
       ∙ lowest_broken (suc p) j b Y (omega arith) n ∙ ap (λ i. lowest_run k i Y) e
 
   -- and so does the end of the map
-  lowest_out : (p j : ℕ) → j < k → lowest_run k p (free_map j) ≡ none
+  lowest_out : (p j : ℕ) → j < k → lowest_run k p (free_map j) ≡ None
   lowest_out p zero h = refl
   lowest_out p (suc j) h =
-      choose-false (starts (free_map (suc j)) (free_map k)) (some p) (lowest_run k (suc p) (free_map j)) (starts_ends k (suc j) h)
+      choose-false (starts (free_map (suc j)) (free_map k)) (Some p) (lowest_run k (suc p) (free_map j)) (starts_ends k (suc j) h)
       ∙ lowest_out (suc p) j (omega arith)
 
   -- a run that is found lies in the map
-  lowest_from : (p : ℕ) (m : List ℕ) (r : ℕ) → lowest_run k p m ≡ some r → (p ≤ r) × (r + k ≤ p + length m)
+  lowest_from : (p : ℕ) (m : List ℕ) (r : ℕ) → lowest_run k p m ≡ Some r → (p ≤ r) × (r + k ≤ p + length m)
   unfolding choose
   lowest_from p [] r e = let z : ◌≡◌ {A = ℕ} 0 1 = cc in absurd (omega arith)
   lowest_from p (b ∷ m) r e = go (starts (b ∷ m) (free_map k)) refl e (λ e. lowest_from (suc p) m r e)
     where
-      go : (t : Bool) → starts (b ∷ m) (free_map k) ≡ t → choose t (some p) (lowest_run k (suc p) m) ≡ some r
-          → (lowest_run k (suc p) m ≡ some r → (suc p ≤ r) × (r + k ≤ suc p + length m)) → (p ≤ r) × (r + k ≤ p + suc (length m))
+      go : (t : Bool) → starts (b ∷ m) (free_map k) ≡ t → choose t (Some p) (lowest_run k (suc p) m) ≡ Some r
+          → (lowest_run k (suc p) m ≡ Some r → (suc p ≤ r) × (r + k ≤ suc p + length m)) → (p ≤ r) × (r + k ≤ p + suc (length m))
       go true h e f =
           let q : p ≡ r = cc in
           (omega arith, omega (arith, starts_long k (b ∷ m) (true-T (starts (b ∷ m) (free_map k)) h)))
       go false h e f = (omega (arith, (f e).0), omega (arith, (f e).1))
 
-pub lowest_inside : (k : ℕ) (m : List ℕ) (r : ℕ) → lowest_run k 0 m ≡ some r → r + k ≤ length m
+pub lowest_inside : (k : ℕ) (m : List ℕ) (r : ℕ) → lowest_run k 0 m ≡ Some r → r + k ≤ length m
 lowest_inside k m r e = omega (arith, (lowest_from k 0 m r e).1)
-
--- what is found says whether there is a run, and where
-pub found_at : (o : Option ℕ) (i : ℕ) → At i ≡ run_found o → o ≡ some i
-found_at none i e = let z : ◌≡◌ {A = ℕ} 0 1 = cc in absurd (omega arith)
-found_at (some j) i e = let q : j ≡ i = cc in ap (λ k. some k) q
-
-pub found_nothing : (o : Option ℕ) → Nothing ≡ run_found o → o ≡ none
-found_nothing none e = refl
-found_nothing (some j) e = let z : ◌≡◌ {A = ℕ} 0 1 = cc in absurd (omega arith)
 
 one_more : (j : ℕ) (Y : List ℕ) → free_map j ++ (1 ∷ Y) ≡ free_map (j + 1) ++ Y
 one_more zero Y = refl
@@ -100,7 +90,7 @@ module _ (k : ℕ) (m : List ℕ) where
   -- the run one row further
   pub record Scan (from i : ℕ) : Type 0 where
     pub order : from ≤ i
-    pub hit : i - from ≡ k → lowest_run k 0 m ≡ some from
+    pub hit : i - from ≡ k → lowest_run k 0 m ≡ Some from
     pub miss : (i - from ≡ k → ⊥) → Scanned from i
 
   module _ (from i : ℕ) (s : Scanned from i) where
@@ -133,7 +123,7 @@ module _ (k : ℕ) (m : List ℕ) where
           };
     }
 
-    pub scan_end : length m ≤ i → lowest_run k 0 m ≡ none
+    pub scan_end : length m ≤ i → lowest_run k 0 m ≡ None
     scan_end h =
         s.same ∙ ap (λ Z. lowest_run k from (free_map s.length ++ Z)) (drop_of_length-le m h) ∙ ap (lowest_run k from) (append-nil (free_map s.length))
         ∙ lowest_out k from s.length s.short

@@ -1,9 +1,9 @@
 -- One grant, by the slots of each class that are not live and a map of the free rows: whether it finds a place, and what it leaves.
-use Rattle.mem.proofs.Prelude.{◌∙◌, ◌≡◌, sym, ap, refl, subst, true, false, Bool, ◌&&◌, not, some, none, Option, List, [], ◌∷◌, ◌++◌, map}
+use Rattle.mem.proofs.Prelude.{◌∙◌, ◌≡◌, sym, ap, refl, subst, true, false, Bool, ◌&&◌, not, Some, None, Option, List, [], ◌∷◌, ◌++◌, map, is_some}
 use Rattle.mem.proofs.Prelude.{◌+◌, ℕ, ◌<◌, ◌≤◌, ◌-◌, suc, zero, arith, T, eqb, eq-eqb, ne_eqb, eqb-true, eqb-false, length, get_or, set, drop}
 use Rattle.mem.proofs.Prelude.{length-append, length-set, replicate, length-replicate}
 use lib.Seq.{get_or-set_same, get_or-set_other}
-use Rattle.mem.specs.Lists.{choose, any, is_some, starts, sum}
+use Rattle.mem.specs.Lists.{choose, any, starts, sum}
 use Rattle.mem.specs.Bytes.{zeros, bit, put}
 use Rattle.mem.proofs.Tests.{choose_case, choose-true, choose-false}
 use Rattle.mem.proofs.Laws.{join-append, sum-append, put_at, zeros-length}
@@ -112,17 +112,17 @@ module _ (c : ℕ) where
       go false e = let z : ◌≡◌ {A = ℕ} 0 1 = cc in absurd (omega arith)
 
   -- a group that can serve is found exactly if the class has an open slot
-  pub open_shut : (X P : Pool) → open_slots c P ≡ 0 → open_from X c P ≡ none
+  pub open_shut : (X P : Pool) → open_slots c P ≡ 0 → open_from X c P ≡ None
   unfolding choose open_slots
   open_shut X [] e = refl
   open_shut X (s ∷ P) e = go (opens c s) refl (open_shut (X ++ (s ∷ [])) P (omega arith))
     where
-      go : (b : Bool) → opens c s ≡ b → open_from (X ++ (s ∷ [])) c P ≡ none
-          → choose b (some (record { before = X; slots = slots_in s; after = P })) (open_from (X ++ (s ∷ [])) c P) ≡ none
+      go : (b : Bool) → opens c s ≡ b → open_from (X ++ (s ∷ [])) c P ≡ None
+          → choose b (Some (record { before = X; slots = slots_in s; after = P })) (open_from (X ++ (s ∷ [])) c P) ≡ None
       go true h r = absurd (omega (arith, in_some s h))
       go false h r = r
 
-  pub open_there : (X P : Pool) → 0 < open_slots c P → (s : Site) × (open_from X c P ≡ some s)
+  pub open_there : (X P : Pool) → 0 < open_slots c P → (s : Site) × (open_from X c P ≡ Some s)
   unfolding choose open_slots
   open_there X [] h = absurd (omega arith)
   open_there X (s ∷ P) h = go (opens c s) refl (λ l. open_there (X ++ (s ∷ [])) P l)
@@ -130,8 +130,8 @@ module _ (c : ℕ) where
       here : Site
       here = record { before = X; slots = slots_in s; after = P }
 
-      go : (b : Bool) → opens c s ≡ b → (0 < open_slots c P → (g : Site) × (open_from (X ++ (s ∷ [])) c P ≡ some g))
-          → (g : Site) × (choose b (some here) (open_from (X ++ (s ∷ [])) c P) ≡ some g)
+      go : (b : Bool) → opens c s ≡ b → (0 < open_slots c P → (g : Site) × (open_from (X ++ (s ∷ [])) c P ≡ Some g))
+          → (g : Site) × (choose b (Some here) (open_from (X ++ (s ∷ [])) c P) ≡ Some g)
       go true e r = (here, refl)
       go false e r = r (omega (arith, in_none s e))
 
@@ -200,8 +200,8 @@ module _ (row : ℕ) where
 
   -- a site by its first row
   abbrev first_row : Option Site → Option ℕ
-  first_row none = none
-  first_row (some s) = some (rows row s.before)
+  first_row None = None
+  first_row (Some s) = Some (rows row s.before)
 
   first_chosen : (b : Bool) (s t : Option Site) → first_row (choose b s t) ≡ choose b (first_row s) (first_row t)
   unfolding choose
@@ -215,36 +215,36 @@ module _ (row : ℕ) where
     run-first X [] = refl
     run-first X (free ∷ Y) =
         let e : suc (rows row X) ≡ rows row (X ++ (free ∷ [])) = omega (arith, rows_append row X (free ∷ [])) in
-        ap (λ b. choose b (some (rows row X)) (lowest_run (rows_of row c) (suc (rows row X)) (map_of row Y))) (starts-run pos (rows_of row c) (free ∷ Y))
-        ∙ ap (choose (run (rows_of row c) (free ∷ Y)) (some (rows row X)))
+        ap (λ b. choose b (Some (rows row X)) (lowest_run (rows_of row c) (suc (rows row X)) (map_of row Y))) (starts-run pos (rows_of row c) (free ∷ Y))
+        ∙ ap (choose (run (rows_of row c) (free ∷ Y)) (Some (rows row X)))
         (ap (λ i. lowest_run (rows_of row c) i (map_of row Y)) e ∙ run-first (X ++ (free ∷ [])) Y)
-        ∙ sym (first_chosen (run (rows_of row c) (free ∷ Y)) (some (new c X (free ∷ Y))) (run_from row (X ++ (free ∷ [])) c Y))
+        ∙ sym (first_chosen (run (rows_of row c) (free ∷ Y)) (Some (new c X (free ∷ Y))) (run_from row (X ++ (free ∷ [])) c Y))
     run-first X (group g ss ∷ Y) =
         let e : rows row X + rows_of row g ≡ rows row (X ++ (group g ss ∷ [])) = omega (arith, rows_append row X (group g ss ∷ [])) in
         zeros-passed (rows_of row c) (rows row X) (rows_of row g) (map_of row Y) (rows_pos row c pos)
         ∙ ap (λ i. lowest_run (rows_of row c) i (map_of row Y)) e ∙ run-first (X ++ (group g ss ∷ [])) Y
         ∙ sym (ap first_row
-        (choose-false (run (rows_of row c) (group g ss ∷ Y)) (some (new c X (group g ss ∷ Y))) _ (no_run (rows_of row c) (rows_pos row c pos))))
+        (choose-false (run (rows_of row c) (group g ss ∷ Y)) (Some (new c X (group g ss ∷ Y))) _ (no_run (rows_of row c) (rows_pos row c pos))))
       where
         no_run : (k : ℕ) → 1 ≤ k → run k (group g ss ∷ Y) ≡ false
         no_run zero h = absurd (omega arith)
         no_run (suc k) h = refl
 
     -- so the two searches find alike
-    pub some-run : (P : Pool) (r : ℕ) → lowest_run (rows_of row c) 0 (map_of row P) ≡ some r
-        → (s : Site) × (run_from row [] c P ≡ some s) × (rows row s.before ≡ r)
+    pub some-run : (P : Pool) (r : ℕ) → lowest_run (rows_of row c) 0 (map_of row P) ≡ Some r
+        → (s : Site) × (run_from row [] c P ≡ Some s) × (rows row s.before ≡ r)
     some-run P r e = go (run_from row [] c P) (sym (run-first [] P) ∙ e)
       where
-        go : (o : Option Site) → first_row o ≡ some r → (s : Site) × (o ≡ some s) × (rows row s.before ≡ r)
-        go none e = let z : ◌≡◌ {A = ℕ} 0 1 = cc in absurd (omega arith)
-        go (some s) e = let q : rows row s.before ≡ r = cc in (s, refl, q)
+        go : (o : Option Site) → first_row o ≡ Some r → (s : Site) × (o ≡ Some s) × (rows row s.before ≡ r)
+        go None e = let z : ◌≡◌ {A = ℕ} 0 1 = cc in absurd (omega arith)
+        go (Some s) e = let q : rows row s.before ≡ r = cc in (s, refl, q)
 
-    pub none-run : (P : Pool) → lowest_run (rows_of row c) 0 (map_of row P) ≡ none → run_from row [] c P ≡ none
+    pub none-run : (P : Pool) → lowest_run (rows_of row c) 0 (map_of row P) ≡ None → run_from row [] c P ≡ None
     none-run P e = go (run_from row [] c P) (sym (run-first [] P) ∙ e)
       where
-        go : (o : Option Site) → first_row o ≡ none → o ≡ none
-        go none e = refl
-        go (some s) e = let z : ◌≡◌ {A = ℕ} 0 1 = cc in absurd (omega arith)
+        go : (o : Option Site) → first_row o ≡ None → o ≡ None
+        go None e = refl
+        go (Some s) e = let z : ◌≡◌ {A = ℕ} 0 1 = cc in absurd (omega arith)
 
 -- ---- what a grant leaves
 
@@ -277,7 +277,7 @@ module _ (row : ℕ) (P : Pool) (n c : ℕ) (class : c ≡ class_of n) where
 
   -- a slot of a group that is there
   pub record FromOpen (q : Place) : Type 0 where
-    pub found : reserve row P ordinary n ≡ some q
+    pub found : reserve row P ordinary n ≡ Some q
     pub slots : (k : ℕ) → open_slots k (pool_of q) + bit (eqb k c) ≡ open_slots k P
     pub gaps : map_of row (pool_of q) ≡ map_of row P
 
@@ -296,7 +296,7 @@ module _ (row : ℕ) (P : Pool) (n c : ℕ) (class : c ≡ class_of n) where
 
   -- the first slot of a new group
   pub record FromNew (r : ℕ) (q : Place) : Type 0 where
-    pub found : reserve row P ordinary n ≡ some q
+    pub found : reserve row P ordinary n ≡ Some q
     pub own : open_slots c (pool_of q) ≡ slots_of c - 1
     pub others : (k : ℕ) → (k ≡ c → ⊥) → open_slots k (pool_of q) ≡ open_slots k P
     pub gaps : map_of row (pool_of q) ≡ put r (zeros (rows_of row c)) (map_of row P)
@@ -307,11 +307,11 @@ module _ (row : ℕ) (P : Pool) (n c : ℕ) (class : c ≡ class_of n) where
     unfolding site
     site-run = ap (λ o. site_or o (run_from row [] c P)) (open_shut c [] P shut)
 
-    pub from_new : T (well_formed P) → (r : ℕ) → lowest_run (rows_of row c) 0 (map_of row P) ≡ some r → (q : Place) × FromNew r q
+    pub from_new : T (well_formed P) → (r : ℕ) → lowest_run (rows_of row c) 0 (map_of row P) ≡ Some r → (q : Place) × FromNew r q
     from_new w r e =
         let (s, f, h) = some-run row pos c P r e in
         let m : New row P c s = run_found_lem row [] P c s f in
-        let i : site row P c ≡ some s = site-run ∙ f in
+        let i : site row P c ≡ Some s = site-run ∙ f in
         let t : T (any (λ x. not (is_live x)) s.slots) = (ground row P c s w i).room in
         let l : sum spare s.slots ≡ slots_of c = ap (sum spare) m.slots ∙ spare-fresh (slots_of c) in
         let d : (k : ℕ) → open_slots k P ≡ open_slots k s.before + open_slots k s.after =
@@ -334,7 +334,7 @@ module _ (row : ℕ) (P : Pool) (n c : ℕ) (class : c ≡ class_of n) where
           },
         )
 
-    pub from_none : lowest_run (rows_of row c) 0 (map_of row P) ≡ none → reserve row P ordinary n ≡ none
+    pub from_none : lowest_run (rows_of row c) 0 (map_of row P) ≡ None → reserve row P ordinary n ≡ None
     from_none e = reserve-site ∙ ap (reserve_in row c ordinary n) (site-run ∙ none-run row pos c P e)
 
 -- ---- what counts and a map tell after a grant
@@ -347,7 +347,7 @@ module _ (row : ℕ) (P : Pool) (n c : ℕ) (os m : List ℕ) (t : NotesOf row P
   own_count = t.counts c (omega (arith, (class_facts n small).inside))
 
   -- a grant after which class c has v open slots, and the others as many as before
-  granted : (q : Place) (v : ℕ) (l : List ℕ) → reserve row P ordinary n ≡ some q → open_slots c (pool_of q) ≡ v
+  granted : (q : Place) (v : ℕ) (l : List ℕ) → reserve row P ordinary n ≡ Some q → open_slots c (pool_of q) ≡ v
       → ((k : ℕ) → (k ≡ c → ⊥) → open_slots k (pool_of q) ≡ open_slots k P) → l ≡ map_of row (pool_of q) → Serves row P n true (set os c v) l
   granted q v l e own others kept =
       let f = reserve_formed row P ordinary n q t.formed (plain small) e in
@@ -380,14 +380,14 @@ module _ (row : ℕ) (P : Pool) (n c : ℕ) (os m : List ℕ) (t : NotesOf row P
       (λ k i. let a : eqb k c ≡ false = ne_eqb k c i in omega (arith, f.slots k, ap bit a)) (t.rows-free ∙ sym f.gaps)
 
   module _ (pos : 0 < row) (shut : get_or os c 0 ≡ 0) where
-    pub serves_new : (r : ℕ) → lowest_run (rows_of row c) 0 m ≡ some r → Serves row P n true (set os c (slots_of c - 1)) (put r (zeros (rows_of row c)) m)
+    pub serves_new : (r : ℕ) → lowest_run (rows_of row c) 0 m ≡ Some r → Serves row P n true (set os c (slots_of c - 1)) (put r (zeros (rows_of row c)) m)
     serves_new r e =
         let (q, f) = from_new row P n c class pos (sym own_count ∙ shut) t.formed r (ap (lowest_run (rows_of row c) 0) (sym t.rows-free) ∙ e) in
         granted q (slots_of c - 1) (put r (zeros (rows_of row c)) m) f.found f.own f.others
         (ap (put r (zeros (rows_of row c))) t.rows-free ∙ sym f.gaps)
 
-    pub serves_none : lowest_run (rows_of row c) 0 m ≡ none → Serves row P n false os m
+    pub serves_none : lowest_run (rows_of row c) 0 m ≡ None → Serves row P n false os m
     serves_none e =
-        let g : reserve row P ordinary n ≡ none = from_none row P n c class pos (sym own_count ∙ shut)
+        let g : reserve row P ordinary n ≡ None = from_none row P n c class pos (sym own_count ∙ shut)
         (ap (lowest_run (rows_of row c) 0) (sym t.rows-free) ∙ e) in
         record { found = ap is_some (sym g); left = λ q f. let z : ◌≡◌ {A = ℕ} 0 1 = cc in absurd (omega arith) }

@@ -1,7 +1,7 @@
 -- One size of a list, and the sizes after it.
-use Rattle.mem.proofs.Prelude.{◌∙◌, ◌≡◌, sym, ap, refl, Bool, true, false, not, not-true, not-false, some, none, Option, List, ◌+◌, ℕ, ◌<◌, ◌≤◌}
+use Rattle.mem.proofs.Prelude.{◌∙◌, ◌≡◌, sym, ap, refl, Bool, true, false, not, not-true, not-false, Some, None, Option, List, ◌+◌, ℕ, ◌<◌, ◌≤◌, is_some}
 use Rattle.mem.proofs.Prelude.{arith, ltb, length, drop, get_or}
-use Rattle.mem.specs.Lists.{choose, every, is_some}
+use Rattle.mem.specs.Lists.{choose, every}
 use Rattle.classes.specs.Classes.{class_of, size_limit}
 use Rattle.classes.specs.Alignments.{ordinary}
 use Rattle.model.specs.State.{Pool, Place, pool_of}
@@ -41,16 +41,16 @@ module _ {row : ℕ} {sizes : List ℕ} {P : Pool} {i : ℕ} {spare gaps : List 
     one_refused n = go (reserve row g.pool ordinary (get_or sizes i 0)) refl (sym (not-true r n) ∙ serves.found)
       where
         go : (o : Option Place) → reserve row g.pool ordinary (get_or sizes i 0) ≡ o → false ≡ is_some o → false ≡ is_some (reserve_all row P sizes)
-        go none k s = sym (by_place none k)
-        go (some q) k s = let z : ◌≡◌ {A = ℕ} 0 1 = cc in absurd (omega arith)
+        go None k s = sym (by_place None k)
+        go (Some q) k s = let z : ◌≡◌ {A = ℕ} 0 1 = cc in absurd (omega arith)
 
     pub one_served : not r ≡ false → ToGo row sizes P (i + 1) spare' map'
     one_served n = go (reserve row g.pool ordinary (get_or sizes i 0)) refl (sym (not-false r n) ∙ serves.found)
       where
         go : (o : Option Place) → reserve row g.pool ordinary (get_or sizes i 0) ≡ o → true ≡ is_some o → ToGo row sizes P (i + 1) spare' map'
-        go none k s = let z : ◌≡◌ {A = ℕ} 0 1 = cc in absurd (omega arith)
-        go (some q) k s = record {
+        go None k s = let z : ◌≡◌ {A = ℕ} 0 1 = cc in absurd (omega arith)
+        go (Some q) k s = record {
           pool = pool_of q;
           tells = serves.left q k;
-          same = by_place (some q) k ∙ some-placed q (reserve_all row (pool_of q) (drop (i + 1) sizes));
+          same = by_place (Some q) k ∙ some-placed q (reserve_all row (pool_of q) (drop (i + 1) sizes));
         }

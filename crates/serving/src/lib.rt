@@ -2,42 +2,38 @@
 // that are free. No table is read.
 #![tactic(auto)]
 
-ghost use Rattle.std.specs.Prelude.{◌≡◌, true, ℕ, ◌≤◌, ◌<◌, ltb};
-ghost use Rattle.mem.specs.Lists.{every, is_some};
-ghost use Rattle.classes.specs.Classes.{Lawful, class_of, size_limit};
+ghost use Rattle.std.specs.Prelude.{◌≡◌, true, ℕ, ◌≤◌, ◌<◌, ltb, is_some};
+ghost use Rattle.mem.specs.Lists.{every};
+ghost use Rattle.classes.specs.Classes.{class_of, size_limit};
 ghost use Rattle.model.specs.State.{Pool};
 ghost use Rattle.model.specs.Plans.{reserve_all};
-ghost use Rattle.serving.specs.Survey.{lowest_run, run_found, NotesOf, Serves};
+ghost use Rattle.serving.specs.Survey.{lowest_run, NotesOf, Serves};
 
-use classes::Sized;
-use rows::Found;
+use classes::{Row, Sized};
 
 // The lowest run of free rows in a map, where 1 stands for a free row.
-fn lowest_run(gaps: &[u8], need: usize) -> Found
+fn lowest_run(gaps: &[u8], need: usize) -> Option<usize>
     requires { 1 ≤ need }
-    ensures { result ≡ run_found (lowest_run need 0 gaps.now) }
+    ensures { result ≡ lowest_run need 0 gaps.now }
 {
     let mut from = 0;
-    let mut i = 0;
-    while i < gaps.len() {
-        if gaps[i] != 1 {
+    for (i, gap) in gaps.iter().enumerate() {
+        if *gap != 1 {
             from = i + 1;
         }
-        i += 1;
-        if i - from == need {
-            return Found::At(from);
+        if i + 1 - from == need {
+            return Some(from);
         }
     }
-    Found::Nothing
+    None
 }
 
 // Whether a slot of class c can be taken, and what is left then: a slot of a group that is there, or of a new one.
-fn serve(row: usize, c: usize, spare: &mut [usize], gaps: &mut [u8]) -> bool
-    requires notes_of { (P : Pool) × NotesOf row P spare.old gaps.old }
+fn serve(row: Row, c: usize, spare: &mut [usize], gaps: &mut [u8]) -> bool
+    requires notes_of { (P : Pool) × NotesOf row.bytes P spare.old gaps.old }
     requires c_bound { c < 48 }
-    requires lawful { Lawful row }
-    ensures { (P : Pool) (n : ℕ) → NotesOf row P spare.old gaps.old → c ≡ class_of n → n < size_limit
-        → Serves row P n result spare.new gaps.new }
+    ensures { (P : Pool) (n : ℕ) → NotesOf row.bytes P spare.old gaps.old → c ≡ class_of n → n < size_limit
+        → Serves row.bytes P n result spare.new gaps.new }
 {
     let k = spare[c];
     if 0 < k {
@@ -45,7 +41,7 @@ fn serve(row: usize, c: usize, spare: &mut [usize], gaps: &mut [u8]) -> bool
         return true;
     }
     let need = classes::rows(row, c);
-    let Found::At(i) = lowest_run(gaps, need) else {
+    let Some(i) = lowest_run(gaps, need) else {
         return false;
     };
     mem::clear(gaps, i, i + need);
@@ -54,20 +50,17 @@ fn serve(row: usize, c: usize, spare: &mut [usize], gaps: &mut [u8]) -> bool
 }
 
 // Whether slots for sizes can be taken, one after the other.
-pub fn serve_all(row: usize, sizes: &[usize], spare: &mut [usize], gaps: &mut [u8]) -> bool
-    requires notes_of { (P : Pool) × NotesOf row P spare.old gaps.old }
+pub fn serve_all(row: Row, sizes: &[usize], spare: &mut [usize], gaps: &mut [u8]) -> bool
+    requires notes_of { (P : Pool) × NotesOf row.bytes P spare.old gaps.old }
     requires small_sizes { every (λ n. ltb n size_limit) sizes.now ≡ true }
-    requires lawful { Lawful row }
-    ensures { (P : Pool) → NotesOf row P spare.old gaps.old → result ≡ is_some (reserve_all row P sizes.now) }
+    ensures { (P : Pool) → NotesOf row.bytes P spare.old gaps.old → result ≡ is_some (reserve_all row.bytes P sizes.now) }
 {
     let mut last = Sized { size: 0, class: 0 };
-    let mut i = 0;
-    while i < sizes.len() {
-        last = classes::with_class(sizes[i], last);
+    for size in sizes {
+        last = classes::with_class(*size, last);
         if !serve(row, last.class, spare, gaps) {
             return false;
         }
-        i += 1;
     }
     true
 }

@@ -39,14 +39,12 @@ fn slots_walk(
 {
     let mut sound = true;
     let mut bytes = 0;
-    let mut i = 0;
-    while i < n {
+    for i in 0..n {
         let lo = mem::quad(s, at + model::SLOT_RECORD * i);
         let hi = mem::quad(s, at + model::SLOT_RECORD * i + model::SIZE);
         sound = sound
             & slot_rules::record_sound(lo, hi, has(ready, i), has(waiting, i), most, least);
         bytes += hi % 16777216;
-        i += 1;
     }
     Slots {
         sound: sound & (ready >> n as u32 == 0) & (waiting >> n as u32 == 0),
@@ -93,8 +91,7 @@ fn slots_sound(
     let bytes = 16 * classes::units(c);
     let most = (bytes - 4) as u32;
     let least = below(c) as u32;
-    let mut i = 0;
-    while i < n {
+    for i in 0..n {
         let lo = mem::quad(s, at + model::SLOT_RECORD * i);
         let hi = mem::quad(s, at + model::SLOT_RECORD * i + model::SIZE);
         if !slot_rules::slot_sound(
@@ -108,7 +105,6 @@ fn slots_sound(
         ) {
             return false;
         }
-        i += 1;
     }
     if ready >> n as u32 != 0 {
         return false;
@@ -150,8 +146,7 @@ fn slots_aligned(
     let tag = mem::wide32(code);
     let mut place = begin as u32;
     let mut sound = true;
-    let mut i = 0;
-    while i < n {
+    for i in 0..n {
         let lo = mem::quad(s, at + model::SLOT_RECORD * i);
         let hi = mem::quad(s, at + model::SLOT_RECORD * i + model::SIZE);
         sound = sound
@@ -167,7 +162,6 @@ fn slots_aligned(
                 align,
             );
         place += bytes;
-        i += 1;
     }
     sound & (ready >> n as u32 == 0) & (waiting >> n as u32 == 0)
 }
@@ -177,12 +171,10 @@ fn first_live(idle: u32, n: usize) -> usize
     requires { n ≤ most_slots }
     ensures { result ≤ n }
 {
-    let mut i = 0;
-    while i < n {
+    for i in 0..n {
         if !has(idle, i) {
             return i;
         }
-        i += 1;
     }
     n
 }

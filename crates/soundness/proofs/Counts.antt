@@ -1,5 +1,5 @@
 -- Laws of what is counted: a group's masks and records say the totals of its slots, and the record must have those of the rows.
-use Rattle.mem.proofs.Prelude.{◌∙◌, ◌≡◌, sym, ap, ap₂, refl, subst, true, false, List, [], ◌∷◌, ◌++◌, append_assoc, map}
+use Rattle.mem.proofs.Prelude.{◌∙◌, ◌≡◌, sym, ap, ap₂, refl, subst, true, false, List, [], ◌∷◌, ◌++◌, append_assoc, map, Some, None}
 use Rattle.mem.proofs.Prelude.{ℕ, ◌+◌, ◌*◌, ◌-◌, arith, T, eqb→eq, length, drop, drop_at, drop-drop, ones}
 use Rattle.mem.specs.Lists.{every, sum, join}
 use Rattle.mem.specs.Bytes.{zeros, number, mask, part, bit}
@@ -16,7 +16,6 @@ use Rattle.model.specs.Tables.{slot_record, sizes_in, view_group, view, sound}
 use Rattle.model.specs.Calls.{KeptBytes, same_totals, sound_kept}
 use Rattle.model.proofs.Tables.{slot_length, slots_length, size_small}
 use Rattle.model.proofs.Counts.{mask-ones, three_sets}
-use Rattle.rows.specs.declared.Counted.{Counted}
 use Rattle.rows.specs.Counts.{count_if, group_totals}
 use Rattle.rows.proofs.Counts.{counted_if, not-counted}
 use Rattle.soundness.specs.Checks.{members_checked}
@@ -80,9 +79,9 @@ module _ (s : List ℕ) (at c b n r w : ℕ) (h : members_checked c b (drop at s
 -- ---- the room and the record
 
 module _ (row len : ℕ) (t : KeptBytes) where
-  pub kept_refused : count_if (sound row len t.tables) (totals row (view row t.tables)) ≡ Counted.Unsound → false ≡ sound_kept row len t
+  pub kept_refused : count_if (sound row len t.tables) (totals row (view row t.tables)) ≡ None → false ≡ sound_kept row len t
   kept_refused q = rw (not-counted (sound row len t.tables) (totals row (view row t.tables)) q)
 
-  pub kept_counted : (s : Totals) → count_if (sound row len t.tables) (totals row (view row t.tables)) ≡ Counted.Sound s
+  pub kept_counted : (s : Totals) → count_if (sound row len t.tables) (totals row (view row t.tables)) ≡ Some s
       → same_totals t.totals s ≡ sound_kept row len t
   kept_counted s q = let r = counted_if (sound row len t.tables) (totals row (view row t.tables)) s q in rw (r.0, r.1)

@@ -70,10 +70,6 @@ sized-small k n t s m f hn = record {
 }
 
 -- totals are their six numbers
-pub six-same : {b n h f r w : ℕ} (s : Totals) → b ≡ s.blocks → n ≡ s.bytes → h ≡ s.held → f ≡ s.free → r ≡ s.ready → w ≡ s.waiting
-    → ◌≡◌ {A = Totals} (record { blocks = b; bytes = n; held = h; free = f; ready = r; waiting = w }) s
-six-same s e₀ e₁ e₂ e₃ e₄ e₅ = rw (e₀, e₁, e₂, e₃, e₄, e₅)
-
 -- ---- sums over slots
 
 abbrev ready_in : Slot → ℕ

@@ -1,6 +1,5 @@
 -- What a trace does, over the definitions of the calls: a line for each record (02 §2).
-use Rattle.std.specs.Prelude.{ℕ, suc, ◌+◌, ◌/◌, List, [], ◌∷◌, leb, length}
-use Rattle.std.proofs.Math.Option.{Option, none, some}
+use Rattle.std.specs.Prelude.{ℕ, suc, ◌+◌, ◌/◌, List, [], ◌∷◌, leb, length, Option, None, Some}
 use Rattle.mem.specs.Lists.{choose}
 use Rattle.mem.specs.Bytes.{zeros, put}
 use Rattle.classes.specs.Classes.{row_bytes}
@@ -8,7 +7,7 @@ use Rattle.model.specs.declared.Totals.{Totals}
 use Rattle.model.specs.Answers.{Answer, done}
 use Rattle.model.specs.Plans.{sets_up, grants, releases, resizes_in_place, moves, measures, reports}
 use Rattle.model.specs.Tables.{room_bytes}
-use Rattle.model.specs.Calls.{KeptBytes, kept_in, Result, call}
+use Rattle.model.specs.Calls.{KeptBytes, kept_in, EngineOutcome, call}
 use Rattle.trace.specs.Trace.{Operation, grant, release, resize_in_place, measure, store, report, move, Item, does, items, trace_right}
 
 -- "The replay program sets up a pool of 16,384 bytes"
@@ -26,18 +25,18 @@ pub record Effect : Type 0 where
   pub arena : List ℕ
   pub kept : KeptBytes
 
-abbrev pub effect : Result → Effect
-effect r = record { tells = some r.answer; arena = r.arena; kept = r.kept }
+abbrev pub effect : EngineOutcome → Effect
+effect r = record { tells = Some r.answer; arena = r.arena; kept = r.kept }
 
 -- the line of record i, by what it tells
 abbrev pub line_of : ℕ → Option Answer → Line
-line_of i none = bad i
-line_of i (some r) = told r
+line_of i None = bad i
+line_of i (Some r) = told r
 
 -- the lines behind it: a bad record ends the trace
 abbrev pub go_on : Option Answer → List Line → List Line
-go_on none ls = []
-go_on (some r) ls = ls
+go_on None ls = []
+go_on (Some r) ls = ls
 
 abbrev pub line_then : ℕ → Option Answer → List Line → List Line
 line_then i x ls = line_of i x ∷ go_on x ls
@@ -50,8 +49,8 @@ module _ (row : ℕ) where
   performed a t (resize_in_place o n) = effect (call row a t (resizes_in_place o n))
   performed a t (measure o) = effect (call row a t (measures o))
   performed a t (store o bs) =
-      choose (leb (o + length bs) (length a)) (record { tells = some (done (0 ∷ [])); arena = put o bs a; kept = t })
-      (record { tells = none; arena = a; kept = t })
+      choose (leb (o + length bs) (length a)) (record { tells = Some (done (0 ∷ [])); arena = put o bs a; kept = t })
+      (record { tells = None; arena = a; kept = t })
   performed a t report = effect (call row a t reports)
   performed a t (move o n) = effect (call row a t (moves o n))
 

@@ -1,8 +1,7 @@
 -- `inspect` meets its contract: its two tests are those of the definition.
-use Rattle.mem.proofs.Prelude.{◌∙◌, ◌≡◌, ◌+◌, ◌*◌, ◌-◌, arith}
+use Rattle.mem.proofs.Prelude.{◌∙◌, ◌≡◌, ◌+◌, ◌*◌, ◌-◌, arith, Ok, Err}
 use Rattle.mem.specs.Lists.{choose}
 use Rattle.model.specs.declared.Refusal.TheVariants.{Overrun}
-use Rattle.model.specs.declared.Damage.TheVariants.{Intact, Damaged}
 use Rattle.model.specs.Blocks.{reserved, header_right, damage_in}
 use Rattle.blocks.proofs.Laws.{bytes_small, header_by}
 use Rattle.blocks.proofs.inspect.Goals as goal
@@ -23,7 +22,7 @@ header_test c =
 
 -- with the header right, the guard decides
 passed : (c : After-guard_right) → (let a = c.args in
-    damage_in a.c a.i a.d a.n a.slot.now ≡ choose c.guard_right.result Intact (Damaged Overrun))
+    damage_in a.c a.i a.d a.n a.slot.now ≡ choose c.guard_right.result (Ok tt) (Err Overrun))
 unfolding damage_in choose
 passed c =
     rw (← header_test (goal.at.After-guard_right c).After-same_bytes, c.if-not-same_bytes.false, c.guard_right.ensures)

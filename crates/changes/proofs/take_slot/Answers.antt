@@ -12,18 +12,18 @@ use Rattle.changes.proofs.take_slot.Goals.{After-refill-m, After-units, Start}
 
 -- the group's first row stands in the room
 inside : (s : Start) → (s.args.i < 512) × (row_at s.args.i + row_record_bytes ≤ length s.args.room.now)
-inside s = offered_inside s.args.row s.args.room.now s.args.i s.args.c s.requires.offers.0 s.requires.offers.1
+inside s = offered_inside s.args.row.bytes s.args.room.now s.args.i s.args.c s.requires.offers.0 s.requires.offers.1
 
 -- a slot is ready, and its number is one of a group's
 ready : (c : After-refill-m) → (0 < c.refill-m.result.ready) × (lowest c.refill-m.result < 31)
 ready c =
     let a = c.args in
     ready_number a.i a.c a.code a.n a.room.now c.masks_at-old.result c.refill-m.result c.masks_at-old.ensures
-    c.refill-m.ensures a.row c.requires.offers.0 c.requires.offers.1
+    c.refill-m.ensures a.row.bytes c.requires.offers.0 c.requires.offers.1
 
 -- the bytes before the group, and those of the slots before this one
-before : (s : Start) → s.args.row * s.args.i ≤ 524288
-before s = few_bytes s.args.row s.args.i s.requires.lawful.1 (omega (arith, inside s))
+before : (s : Start) → s.args.row.bytes * s.args.i ≤ 524288
+before s = few_bytes s.args.row.bytes s.args.i s.args.row.lawful.1 (omega (arith, inside s))
 
 within : (c : After-units) → c.lowest-j.result * (16 * c.units.result) < 4063232
 within c =
@@ -57,9 +57,9 @@ pub returns : goal.returns
 unfolding slot_bytes
 returns c g o =
     let a = c.args in
-    let e = ap (λ v. a.row * a.i + 16 + c.lowest-j.result * (16 * v)) c.units.ensures.value in
+    let e = ap (λ v. a.row.bytes * a.i + 16 + c.lowest-j.result * (16 * v)) c.units.ensures.value in
     let d = taken_slot a.i a.c a.code a.n a.room.now c.masks_at-old.result c.refill-m.result c.masks_at-old.ensures
-    c.refill-m.ensures a.row g o c.lowest-j.result c.slot_at.result c.grant_slot-a.result c.take.result
+    c.refill-m.ensures a.row.bytes g o c.lowest-j.result c.slot_at.result c.grant_slot-a.result c.take.result
     c.store.new.room c.lowest-j.ensures c.slot_at.ensures
     (c.grant_slot-a.ensures ∙ ap (λ b. grant_slot a.c a.code a.n b c.slot_at.result) e) c.take.ensures
     c.store.ensures in (
@@ -67,7 +67,7 @@ returns c g o =
       d.1,
       c.to_refill.ensures
           ∙ refilled-site a.i a.c a.code a.n a.room.now c.masks_at-old.result c.refill-m.result c.masks_at-old.ensures
-          c.refill-m.ensures a.row g o,
+          c.refill-m.ensures a.row.bytes g o,
     )
 
 pub masks_at-old-requires : goal.masks_at-old-requires

@@ -1,16 +1,10 @@
 -- `align_of` meets its contract: the shift loses nothing.
-use Rattle.mem.proofs.Prelude.{◌^◌, ◌≤◌, arith, rules}
+use Rattle.mem.proofs.Prelude.{◌^◌, ◌≤◌, arith}
 use native.Mathlib.Nat.{pow-le-pow_right, one-le-pow}
 use lib.Dec.{lit<, lit≤}
 use lib.Pow.{shl_exact}
 use Rattle.classes.specs.Alignments.{align_of}
 use Rattle.classes.proofs.align_of.Goals as goal
-
-pub overflow_cast-result-2 : goal.overflow_cast-result-2
-overflow_cast-result-2 c = search rules
-
-pub overflow_shl-result : goal.overflow_shl-result
-overflow_shl-result c = search rules
 
 pub returns : goal.returns
 unfolding align_of

@@ -1,7 +1,6 @@
 -- `class_of` meets its contract: up to ten units the need is its class, and past them each comparison halves the classes that are left.
-use Rattle.mem.proofs.Prelude.{subst, sym, ◌+◌, arith}
+use Rattle.mem.proofs.Prelude.{subst, sym, arith}
 use Rattle.classes.specs.Classes.{units_of, size_limit}
-use Rattle.classes.proofs.Laws.{units_small}
 use Rattle.classes.proofs.Zeros.{Among, four_from, up_to_ten, by_zeros, halve, halve_not, past, not-past}
 use Rattle.classes.proofs.class_of.Goals as goal
 use Rattle.classes.proofs.class_of.Goals.{Joined-table-c, then-table-c, else-table-c}
@@ -17,18 +16,11 @@ overflow_add-q-2 c = omega arith
 pub returns-then-q-le10 : goal.returns-then-q-le10
 returns-then-q-le10 c = let e = up_to_ten c.args.n c.requires (omega arith) in record { value = e; small = omega (arith, e) }
 
-pub overflow_cast-c : goal.overflow_cast-c
-overflow_cast-c c = omega (arith, (by_zeros c.args.n c.requires (omega arith)).0)
-
 pub overflow_sub-c : goal.overflow_sub-c
 overflow_sub-c c = omega (arith, (by_zeros c.args.n c.requires (omega arith)).0)
 
 pub bounds-table-c : goal.bounds-table-c
 bounds-table-c c = omega (arith, (by_zeros c.args.n c.requires (omega arith)).1)
-
-pub overflow_cast-table : goal.overflow_cast-table
-unfolding units_of
-overflow_cast-table c = omega (arith, units_small (four_from c.args.n + 1))
 
 -- past the first comparison
 two : (c : Joined-table-c) → Among 2 c.args.n c.if-table-c.c
@@ -41,18 +33,8 @@ two c =
       | else-table-c w ↦ subst (Among 2 n) (sym w.c-is) (halve_not n c.requires (four_from n) f (omega arith))
     ]
 
-pub offset_bounds-table-c-2 : goal.offset_bounds-table-c-2
-offset_bounds-table-c-2 c = omega (arith, two (goal.at.offset_bounds-table-c-2 c).Joined-table-c)
-
 pub bounds-table-c-2 : goal.bounds-table-c-2
 bounds-table-c-2 c = omega (arith, two (goal.at.bounds-table-c-2 c).Joined-table-c)
-
-pub overflow_cast-table-2 : goal.overflow_cast-table-2
-unfolding units_of
-overflow_cast-table-2 c = omega (arith, units_small c.if-table-c.c)
-
-pub overflow_add-c-then-table-c-2 : goal.overflow_add-c-then-table-c-2
-overflow_add-c-then-table-c-2 c = omega (arith, two (goal.at.overflow_add-c-then-table-c-2 c).Joined-table-c)
 
 pub returns-then-table-c-2 : goal.returns-then-table-c-2
 unfolding units_of

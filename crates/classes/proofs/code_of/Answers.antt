@@ -1,12 +1,11 @@
 -- `code_of` passes a power of two only while it is not the alignment. The loop's invariant: it has not passed the alignment's place.
-use Rattle.mem.proofs.Prelude.{◌∙◌, ◌≡◌, sym, ap, ℕ, ◌<◌, ◌≤◌, ◌-◌, arith, eqb, ltb, leb, leb→le, get_or, eq-eqb, eqb-true, Bool, true, List, [], ◌∷◌, suc}
+use Rattle.mem.proofs.Prelude.{◌∙◌, ◌≡◌, sym, ap, ℕ, ◌<◌, ◌≤◌, ◌-◌, arith, eqb, ltb, get_or, eq-eqb, eqb-true, Bool, true, List, [], ◌∷◌, suc}
 use Rattle.mem.proofs.Prelude.{length, true≢false, le-ltb, lt-ltb}
 use Prim.Native.Nat.{max}
 use Rattle.mem.specs.Lists.{first}
-use Rattle.mem.proofs.Tests.{choose-true, choose-false, choose_case, every_at}
+use Rattle.mem.proofs.Tests.{choose-true, choose-false, choose_case}
 use Rattle.classes.specs.Alignments.{powers, code_of}
 use Rattle.classes.proofs.Laws.{first-before}
-use Rattle.classes.proofs.Alignments.{code_most}
 use Rattle.classes.proofs.code_of.Invariants.{place}
 use Rattle.classes.proofs.code_of.Goals as goal
 
@@ -37,46 +36,19 @@ not_yet a i l h n =
     λ e. n (ap (λ j. get_or powers j 0) e ∙ eqb-true (get_or powers (place a) 0) a (first-true (λ p. eqb p a) powers (omega (arith, e)))) in
     omega arith
 
-small : (i : ℕ) → get_or powers i 0 ≤ 4096
+pub returns-then-from-align-clause-value : goal.returns-then-from-align-clause-value
 unfolding powers
-small i = leb→le (get_or powers i 0) 4096 (every_at (λ p. leb p 4096) powers 0 tt tt i)
-
-pub loop-i-init : goal.loop-i-init
-loop-i-init c = (omega arith, omega arith)
-
-pub offset_bounds-i : goal.offset_bounds-i
-offset_bounds-i c = omega arith
-
-pub bounds-i : goal.bounds-i
-bounds-i c = omega arith
-
-pub overflow_cast-i : goal.overflow_cast-i
-unfolding powers
-overflow_cast-i c = omega (arith, small c.loop-i.i)
-
-pub code_at-requires : goal.code_at-requires
-code_at-requires c = omega arith
-
-pub returns-then-i-align : goal.returns-then-i-align
-unfolding powers
-returns-then-i-align c =
+returns-then-from-align-clause-value c =
     let a = c.args.align in
     let i = c.loop-i.i in
-    let e = found a i (omega arith) (omega (arith, not-past a i (omega arith))) in
-    record { value = omega (arith, e); small = omega (arith, e, code_most a) }
-
-pub overflow_add-i : goal.overflow_add-i
-overflow_add-i c = omega arith
-
-pub loop-i-smaller : goal.loop-i-smaller
-loop-i-smaller c = omega arith
+    omega (arith, found a i (omega arith) (omega (arith, not-past a i (omega arith))))
 
 pub loop-i-preserved : goal.loop-i-preserved
 unfolding powers
 loop-i-preserved c =
     let a = c.args.align in
     let i = c.loop-i.i in
-    (omega (arith, not_yet a i (omega arith) (omega arith) (λ e. omega (arith, e))), omega arith)
+    omega (arith, not_yet a i (omega arith) (omega arith) (λ e. omega (arith, e)))
 
-pub returns : goal.returns
-returns c = let a = c.args.align in record { value = absent a (omega arith); small = omega arith }
+pub returns-clause-value : goal.returns-clause-value
+returns-clause-value c = absent c.args.align (omega arith)

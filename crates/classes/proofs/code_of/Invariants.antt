@@ -1,5 +1,5 @@
 -- `code_of` passes a power of two only while it is not the alignment. The loop's invariant: it has not passed the alignment's place.
-use Rattle.mem.proofs.Prelude.{ℕ, ◌≤◌, ◌-◌, eqb}
+use Rattle.mem.proofs.Prelude.{ℕ, ◌≤◌, eqb}
 use Rattle.mem.specs.Lists.{first}
 use Rattle.classes.specs.Alignments.{powers}
 use Rattle.classes.proofs.code_of.Given as goal
@@ -9,7 +9,4 @@ abbrev pub place : ℕ → ℕ
 place a = first (λ p. eqb p a) powers
 
 abbrev pub invariant-loop-i : goal.invariant-loop-i
-invariant-loop-i l = (l.i ≤ place l.align) × (l.i ≤ 13)
-
-abbrev pub decreases-loop-i : goal.decreases-loop-i
-decreases-loop-i l = 13 - l.i
+invariant-loop-i l = l.i ≤ place l.align

@@ -14,9 +14,6 @@ pub returns-then-code-le-ORDINARY : goal.returns-then-code-le-ORDINARY
 unfolding size_limit
 returns-then-code-le-ORDINARY c = let a = c.args in record { value = itself a.code a.n (omega arith); small = omega arith }
 
-pub align_of-requires : goal.align_of-requires
-align_of-requires c = omega arith
-
 pub overflow_sub-result : goal.overflow_sub-result
 overflow_sub-result c = omega (arith, align_least c.args.code (omega arith))
 

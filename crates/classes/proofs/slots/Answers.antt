@@ -1,5 +1,5 @@
 -- `slots` computes the definition, with the units that `units` gives.
-use Rattle.mem.proofs.Prelude.{◌≡◌, ap, ℕ, ◌*◌, ◌/◌, arith, rules}
+use Rattle.mem.proofs.Prelude.{◌≡◌, ap, ℕ, ◌*◌, ◌/◌, arith}
 use Rattle.classes.specs.Classes.{units_of, slot_bytes, slots_of}
 use Rattle.classes.proofs.slots.Goals as goal
 
@@ -7,15 +7,6 @@ use Rattle.classes.proofs.slots.Goals as goal
 parts : (u c : ℕ) → u ≡ units_of c → 4080 / (16 * u) ≡ 4080 / slot_bytes c
 unfolding slot_bytes
 parts u c e = ap (λ (v : ℕ). 4080 / (16 * v)) e
-
-pub units-requires : goal.units-requires
-units-requires c = search rules
-
-pub overflow_mul-n : goal.overflow_mul-n
-overflow_mul-n c = search rules
-
-pub nonzero_div-n : goal.nonzero_div-n
-nonzero_div-n c = search rules
 
 pub returns-then-n-lt1 : goal.returns-then-n-lt1
 unfolding slots_of

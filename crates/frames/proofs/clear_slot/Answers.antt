@@ -6,7 +6,7 @@ use Rattle.classes.proofs.Laws.{bytes-units}
 use Rattle.frames.proofs.clear_slot.Goals as goal
 
 pub owned_of-at-requires : goal.owned_of-at-requires
-owned_of-at-requires c = let h = c.requires.standing in record { class_bound = (h.class, h.slot, omega (arith, h.few)); lawful = search rules }
+owned_of-at-requires c = let h = c.requires.standing in record { class_bound = (h.class, h.slot, omega (arith, h.few)) }
 
 pub clear-requires : goal.clear-requires
 clear-requires c =

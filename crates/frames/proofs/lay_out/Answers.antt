@@ -11,7 +11,7 @@ told c = omega (arith, c.units-bytes.ensures.value, bytes-units c.args.b.class)
 pub owned_in-at-requires : goal.owned_in-at-requires
 owned_in-at-requires c =
     let h = c.requires.standing in
-    record { class_bound = (h.class, h.slot, omega (arith, h.few), told c); lawful = c.requires.lawful }
+    record { class_bound = (h.class, h.slot, omega (arith, h.few), told c) }
 
 pub enframe_at-requires : goal.enframe_at-requires
 enframe_at-requires c =

@@ -5,8 +5,8 @@ use Rattle.frames.proofs.owned_in.Goals as goal
 use Rattle.frames.proofs.owned_in.Goals.{Start}
 
 -- the bytes before the group, and those of the slots before this one
-before : (s : Start) → let a = s.args in a.row * a.b.first ≤ 524288
-before s = few_bytes s.args.row s.args.b.first (omega (arith, s.requires.lawful)) (omega (arith, s.requires.class_bound))
+before : (s : Start) → let a = s.args in a.row.bytes * a.b.first ≤ 524288
+before s = few_bytes s.args.row.bytes s.args.b.first (omega (arith, s.args.row.lawful)) (omega (arith, s.requires.class_bound))
 
 within : (s : Start) → s.args.b.slot * s.args.bytes < 4063232
 within s =

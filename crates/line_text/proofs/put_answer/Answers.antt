@@ -3,13 +3,8 @@ use Rattle.mem.proofs.Prelude.{arith}
 use Rattle.mem.specs.Lists.{join}
 use Rattle.text.specs.Decimal.{decimal}
 use Rattle.line_text.specs.Lines.{field, line_text}
-use Rattle.line_text.proofs.Laws.{ended, ended_long}
+use Rattle.line_text.proofs.Laws.{ended}
 use Rattle.line_text.proofs.put_answer.Goals as goal
-
-pub shape_of-out : goal.shape_of-out
-shape_of-out c =
-    let a = c.args in
-    ended_long a.at _ _ _ (decimal a.number) _ a.out.now _ _ c.put_decimal-told.ensures.out_after c.put_fields-end.ensures.out_after
 
 pub returns : goal.returns
 unfolding line_text

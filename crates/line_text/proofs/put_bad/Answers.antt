@@ -1,13 +1,8 @@
 -- `put_bad` meets its contract: the word, the number and a newline.
 use Rattle.mem.proofs.Prelude.{refl, [], ◌∷◌, arith}
 use Rattle.line_text.specs.Lines.{field, line_text}
-use Rattle.line_text.proofs.Laws.{ended, ended_long}
+use Rattle.line_text.proofs.Laws.{ended}
 use Rattle.line_text.proofs.put_bad.Goals as goal
-
-pub shape_of-out : goal.shape_of-out
-shape_of-out c =
-    let a = c.args in
-    ended_long a.at _ _ _ (98 ∷ 97 ∷ 100 ∷ []) _ a.out.now _ _ c.copy_in.ensures c.put_field-end.ensures.out_after
 
 pub returns : goal.returns
 unfolding line_text

@@ -1,15 +1,9 @@
 -- `put_field` meets its contract: a byte, and the number behind it.
-use Rattle.mem.proofs.Prelude.{◌∙◌, sym, ap, add-one, arith, length, length-set}
-use Rattle.mem.proofs.Laws.{put-cons, put-length}
+use Rattle.mem.proofs.Prelude.{◌∙◌, sym, add-one, arith}
+use Rattle.mem.proofs.Laws.{put-cons}
 use Rattle.text.specs.Decimal.{decimal}
 use Rattle.line_text.specs.Lines.{field}
 use Rattle.line_text.proofs.put_field.Goals as goal
-
-pub put_decimal-requires : goal.put_decimal-requires
-put_decimal-requires c = simp length-set (omega arith)
-
-pub shape_of-out : goal.shape_of-out
-shape_of-out c = ap length c.put_decimal.ensures.out_after ∙ simp (put-length, length-set)
 
 pub returns : goal.returns
 unfolding field

@@ -1,5 +1,5 @@
 -- The invariant: from here on the sizes that are left make what all of them make from the start.
-use Rattle.mem.proofs.Prelude.{◌≡◌, map, ◌<◌, ◌≤◌, ◌-◌, length}
+use Rattle.mem.proofs.Prelude.{◌≡◌, map, ◌<◌}
 use Rattle.mem.specs.Bytes.{put}
 use Rattle.classes.specs.Classes.{class_of}
 use Rattle.model.specs.State.{handle}
@@ -13,11 +13,7 @@ use Rattle.lists.proofs.grant_all.Given as goal
 
 abbrev pub invariant-loop-i : goal.invariant-loop-i
 invariant-loop-i l =
-    let qs = granted (reserve_all l.row (view l.row l.initial.room) l.sizes) in
-    (l.i ≤ length l.sizes) × (length l.arena ≡ length l.initial.arena) × (length l.room ≡ length l.initial.room) × (length l.handles ≡ length l.initial.handles)
-    × (l.last.class ≡ class_of l.last.size) × (l.last.class < 48) × NoneOpen masks_layout l.row l.room l.last.class l.from
-    × ToGo masks_layout l.row l.sizes (written l.initial.arena (map (enframe l.row) qs)) (pool_after (view l.row l.initial.room) qs) (put 0 (map (handle l.row) qs) l.initial.handles) l.i
-    l.arena l.room l.handles × (l.kept ≡ totals l.row (view l.row l.room))
-
-abbrev pub decreases-loop-i : goal.decreases-loop-i
-decreases-loop-i l = length l.sizes - l.i
+    let qs = granted (reserve_all l.row.bytes (view l.row.bytes l.initial.room) l.sizes) in
+    (l.last.class ≡ class_of l.last.size) × (l.last.class < 48) × NoneOpen masks_layout l.row.bytes l.room l.last.class l.from
+    × ToGo masks_layout l.row.bytes l.sizes (written l.initial.arena (map (enframe l.row.bytes) qs)) (pool_after (view l.row.bytes l.initial.room) qs) (put 0 (map (handle l.row.bytes) qs) l.initial.handles) l.i
+    l.arena l.room l.handles × (l.t ≡ totals l.row.bytes (view l.row.bytes l.room))

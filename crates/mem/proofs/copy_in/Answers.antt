@@ -1,6 +1,6 @@
 -- `copy_in` meets its contract. The invariant: writing what is left of `v` makes the whole written.
-use Rattle.mem.proofs.Prelude.{◌∙◌, ◌≡◌, sym, refl, List, ◌+◌, ℕ, ◌<◌, suc, add-zero, add-one, arith, rules, length, drop, get_or}
-use Rattle.mem.proofs.Prelude.{set, length-set, drop-cons}
+use Rattle.mem.proofs.Prelude.{◌∙◌, ◌≡◌, sym, List, ◌+◌, ℕ, ◌<◌, suc, add-one, arith, length, drop, get_or}
+use Rattle.mem.proofs.Prelude.{set, drop-cons}
 use lib.ListN.{drop_of_length-le}
 use Rattle.mem.specs.Bytes.{put}
 use Rattle.mem.proofs.Laws.{put-nil, put-cons}
@@ -13,17 +13,14 @@ turn at i v s h =
     let e : suc (at + i) ≡ at + suc i = omega arith in
     rw (add-one, ← e, drop-cons v i 0) (put-cons (at + i) (get_or v i 0) (drop (suc i) v) s)
 
-pub loop-i-init : goal.loop-i-init
-loop-i-init c = (search rules, refl, rw add-zero)
-
 pub loop-i-preserved : goal.loop-i-preserved
 loop-i-preserved c =
     let l = c.loop-i in
     let a = c.args in
-    (omega arith, simp length-set l.invariant.1, sym (turn a.at l.i a.v.now l.s (omega arith)) ∙ l.invariant.2)
+    sym (turn a.at l.i a.v.now l.s (omega arith)) ∙ l.invariant
 
 pub returns : goal.returns
 returns c =
     let l = c.loop-i in
     let a = c.args in
-    sym (put-nil (a.at + l.i) l.s) ∙ rw (drop_of_length-le a.v.now c.loop-i-test.false) at l.invariant.2
+    sym (put-nil (a.at + l.i) l.s) ∙ rw (drop_of_length-le a.v.now c.loop-i-test.false) at l.invariant

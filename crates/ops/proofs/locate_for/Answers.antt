@@ -9,15 +9,15 @@ use Rattle.ops.proofs.locate_for.Goals as goal
 
 pub judge_for-requires : goal.judge_for-requires
 judge_for-requires c =
-    let r = by_masks c.requires.room_value c.requires.lawful in
+    let r = by_masks c.requires.room_value c.args.row.lawful in
     let k = subst (Known r c.start_in.result) (sym c.find_block.ensures) (found_known r c.start_in.result) in
-    record { lies = k.lies; found_bound = k.last_code; lawful = c.requires.lawful }
+    record { lies = k.lies; found_bound = k.last_code }
 
 pub returns : goal.returns
 returns c =
     let a = c.args in
-    c.judge_for.ensures ∙ ap (judged_for a.row a.arena.now a.handle a.n) c.find_block.ensures
-    ∙ judged_for-looked a.row a.arena.now a.handle a.n
-    (lookup a.row (view a.row a.room.now) c.start_in.result)
-    ∙ ap (λ o. located_for a.row a.arena.now a.handle a.n (lookup a.row (view a.row a.room.now) o))
+    c.judge_for.ensures ∙ ap (judged_for a.row.bytes a.arena.now a.handle a.n) c.find_block.ensures
+    ∙ judged_for-looked a.row.bytes a.arena.now a.handle a.n
+    (lookup a.row.bytes (view a.row.bytes a.room.now) c.start_in.result)
+    ∙ ap (λ o. located_for a.row.bytes a.arena.now a.handle a.n (lookup a.row.bytes (view a.row.bytes a.room.now) o))
     c.start_in.ensures

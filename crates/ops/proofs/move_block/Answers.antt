@@ -1,84 +1,84 @@
 -- A grant, a copy and a release; the old block is still there for the release, and apart from the new one.
-use Rattle.mem.proofs.Prelude.{◌∙◌, ◌≡◌, sym, ap, ap₂, subst, ⊎_elim, inl, inr, some, min, arith, length}
+use Rattle.mem.proofs.Prelude.{◌∙◌, ◌≡◌, sym, ap, ap₂, subst, ⊎_elim, inl, inr, Some, Err, min, arith, length}
 use Rattle.mem.specs.Bytes.{put, part}
 use Rattle.mem.proofs.Laws.{put-length}
 use Rattle.model.specs.declared.Refusal.TheVariants.{NoRoom}
 use Rattle.model.specs.State.{Place, pool_of}
 use Rattle.model.specs.Plans.{reserve, totals}
 use Rattle.model.specs.Tables.{masks_layout, view, sound, encode}
+use Rattle.model.proofs.Handed.{had, had_none, handed_on}
 use Rattle.rows.specs.Rows.{Lent, block_of, start_at, Holds}
 use Rattle.rows.proofs.Rooms.{by_masks}
 use Rattle.frames.specs.Blocks.{Standing}
-use Rattle.reserving.specs.Reserves.{next_room}
+use Rattle.reserving.specs.Reserves.{next_room, next_totals}
 use Rattle.frames.proofs.Places.{held_stands}
 use Rattle.frames.proofs.Moves.{reserve-leaves, beside, beside_holds, copy_apart, taken-size, unmoved_plan}
-use Rattle.reserving.proofs.Places.{reserved_place, reserved-none}
-use Rattle.ops.proofs.Kit.{told_out}
+use Rattle.frames.proofs.Reserved.{reserved_place, reserved-none}
 use Rattle.ops.proofs.Moves.{moved, refused_on_lem}
 use Rattle.ops.proofs.move_block.Goals as goal
-use Rattle.ops.proofs.move_block.Goals.{In-Taken, Start}
+use Rattle.ops.proofs.move_block.Goals.{In_ok-q, Start}
 
-room : (s : Start) → Lent masks_layout s.args.row (length s.args.arena.now) s.args.room.now
-room s = by_masks s.requires.room_value.0 s.requires.lawful
+room : (s : Start) → Lent masks_layout s.args.row.bytes (length s.args.arena.now) s.args.room.now
+room s = by_masks s.requires.room_value.0 s.args.row.lawful
 
-pub returns-in_default : goal.returns-in_default
-returns-in_default z p h =
+pub returns-in_err-q : goal.returns-in_err-q
+returns-in_err-q z p h =
     let a = z.args in
-    let e = reserved-none a.row (reserve a.row (view a.row a.room.now) a.b.alloc.align a.n)
-    (sym z.reserve_slot.ensures.value ∙ z.in_default.is) in
-    told_out a.row z.refused.ensures
-    (rw (
-      z.reserve_slot.ensures.room_after ∙ ap (next_room a.row a.room.now) e,
-      unmoved_plan (room (goal.at.returns-in_default z).Start) a.b.alloc.align a.n h (ap (λ b. b.alloc.align) h.block) e,
+    let n = had_none z.ok_or.ensures.ok_part z.in_err-q.was in
+    let e = reserved-none a.row.bytes (reserve a.row.bytes (view a.row.bytes a.room.now) a.b.alloc.align a.n) (sym z.reserve_slot.ensures.value ∙ n) in
+    let x : z.from_residual.result ≡ Err z.in_err-q.field-0.0 = grind arith in
+    rw (
+      handed_on n z.ok_or.ensures.value z.in_err-q.was x,
+      z.reserve_slot.ensures.room_after ∙ ap (next_room a.row.bytes a.room.now) e,
+      z.reserve_slot.ensures.totals_after ∙ ap (next_totals a.row.bytes a.t.now) e,
+      unmoved_plan (room (goal.at.returns-in_err-q z).Start) a.b.alloc.align a.n h (ap (λ b. b.alloc.align) h.block) e,
     )
-    (refused_on_lem (room (goal.at.returns-in_default z).Start) h a.arena.now a.t z.requires.room_value.1 NoRoom))
+    (refused_on_lem (room (goal.at.returns-in_err-q z).Start) h a.arena.now a.t.now z.requires.room_value.1 NoRoom)
 
 -- the place that is taken, and the room with it
-new : (c : In-Taken) → (let a = c.args in
-    (q : Place) × (reserve a.row (view a.row a.room.now) a.b.alloc.align a.n ≡ some q) × (block_of a.row q ≡ c.in-Taken.q)
-    × (totals a.row (pool_of q) ≡ c.in-Taken.s))
+new : (c : In_ok-q) → (let a = c.args in
+    (q : Place) × (reserve a.row.bytes (view a.row.bytes a.room.now) a.b.alloc.align a.n ≡ Some q) × (block_of a.row.bytes q ≡ c.in_ok-q.q))
 new c =
     let a = c.args in
-    reserved_place a.row (reserve a.row (view a.row a.room.now) a.b.alloc.align a.n) c.in-Taken.q
-    c.in-Taken.s
-    (sym c.reserve_slot.ensures.value ∙ c.in-Taken.is)
+    reserved_place a.row.bytes (reserve a.row.bytes (view a.row.bytes a.room.now) a.b.alloc.align a.n) c.in_ok-q.q
+    (sym c.reserve_slot.ensures.value ∙ had c.ok_or.ensures.ok_part c.in_ok-q.was)
 
-after : (c : In-Taken) → (c.reserve_slot.new.room ≡ encode c.args.row (pool_of (new c).0))
+after : (c : In_ok-q) → (c.reserve_slot.new.room ≡ encode c.args.row.bytes (pool_of (new c).0))
 after c =
     let a = c.args in
-    c.reserve_slot.ensures.room_after ∙ ap (next_room a.row a.room.now) (new c).1
+    c.reserve_slot.ensures.room_after ∙ ap (next_room a.row.bytes a.room.now) (new c).1
 
 -- the new block stands in the arena, and the old one
-stands : (c : In-Taken) → (let a = c.args in
-    Standing a.row (length a.arena.now) c.in-Taken.q)
+stands : (c : In_ok-q) → (let a = c.args in
+    Standing a.row.bytes (length a.arena.now) c.in_ok-q.q)
 stands c =
-    let (q, f, e, z₀) = new c in
-    rw (sym e) (reserve-leaves (room (goal.at.In-Taken c).Start) c.args.b.alloc.align c.args.n c.requires.askable q f).stands
+    let (q, f, e) = new c in
+    rw (sym e) (reserve-leaves (room (goal.at.In_ok-q c).Start) c.args.b.alloc.align c.args.n c.requires.askable q f).stands
 
-old : (s : Start) → Standing s.args.row (length s.args.arena.now) s.args.b
+old : (s : Start) → Standing s.args.row.bytes (length s.args.arena.now) s.args.b
 old s = held_stands (room s) s.requires.holds.1
 
 pub start_of-requires : goal.start_of-requires
 start_of-requires c =
     let h = old (goal.at.start_of-requires c).Start in
-    record { class_bound = (h.class, h.slot, omega (arith, h.few)); disp_bound = omega (arith, h.bytes); lawful = c.requires.lawful }
+    record { class_bound = (h.class, h.slot, omega (arith, h.few)); disp_bound = omega (arith, h.bytes) }
 
 pub start_of-requires-2 : goal.start_of-requires-2
 start_of-requires-2 c =
-    let h = stands (goal.at.start_of-requires-2 c).In-Taken in
-    record { class_bound = (h.class, h.slot, omega (arith, h.few)); disp_bound = omega (arith, h.bytes); lawful = c.requires.lawful }
+    let h = stands (goal.at.start_of-requires-2 c).In_ok-q in
+    record { class_bound = (h.class, h.slot, omega (arith, h.few)); disp_bound = omega (arith, h.bytes) }
 
 pub copy_within-requires : goal.copy_within-requires
 copy_within-requires c =
     let a = c.args in
-    let (q, f, e, z₀) = new (goal.at.copy_within-requires c).In-Taken in
-    let h = stands (goal.at.copy_within-requires c).In-Taken in
+    let (q, f, e) = new (goal.at.copy_within-requires c).In_ok-q in
+    let h = stands (goal.at.copy_within-requires c).In_ok-q in
     let o = old (goal.at.copy_within-requires c).Start in
     let x = c.lay_out-handle in
     let l : length x.new.arena ≡ length a.arena.now = ap length x.ensures.arena_after ∙ put-length _ _ a.arena.now in
     let from = c.start_of.ensures.value in
     let at = c.start_of-2.ensures.value in
-    let to = at ∙ ap (start_at a.row) (sym e) in
+    let to = at ∙ ap (start_at a.row.bytes) (sym e) in
     let z = taken-size (room (goal.at.copy_within-requires c).Start) a.b.alloc.align a.n c.requires.askable q f c.requires.holds.1 in
     let zb = ap (λ b. b.alloc.size) e in
     let m = c.lesser.ensures in record {
@@ -92,29 +92,28 @@ copy_within-requires c =
     }
 
 -- the old block in the room that the grant left
-still : (c : In-Taken) → (let a = c.args in
-    (p : Place) (h : Holds masks_layout a.row a.room.now a.b p)
-    → Holds masks_layout a.row c.reserve_slot.new.room a.b
-    (beside (room (goal.at.In-Taken c).Start) a.b.alloc.align a.n c.requires.askable (new c).0 (new c).1 h).place)
+still : (c : In_ok-q) → (let a = c.args in
+    (p : Place) (h : Holds masks_layout a.row.bytes a.room.now a.b p)
+    → Holds masks_layout a.row.bytes c.reserve_slot.new.room a.b
+    (beside (room (goal.at.In_ok-q c).Start) a.b.alloc.align a.n c.requires.askable (new c).0 (new c).1 h).place)
 still c p h =
-    subst (λ u. Holds masks_layout c.args.row u c.args.b (beside (room (goal.at.In-Taken c).Start) c.args.b.alloc.align c.args.n c.requires.askable (new c).0
+    subst (λ u. Holds masks_layout c.args.row.bytes u c.args.b (beside (room (goal.at.In_ok-q c).Start) c.args.b.alloc.align c.args.n c.requires.askable (new c).0
     (new c).1 h).place)
-    (sym (after c)) (beside_holds (room (goal.at.In-Taken c).Start) c.args.b.alloc.align c.args.n c.requires.askable (new c).0 (new c).1 h)
+    (sym (after c)) (beside_holds (room (goal.at.In_ok-q c).Start) c.args.b.alloc.align c.args.n c.requires.askable (new c).0 (new c).1 h)
 
-pub discard-left-requires : goal.discard-left-requires
-discard-left-requires c =
+pub discard-requires : goal.discard-requires
+discard-requires c =
     let a = c.args in
     let x = c.lay_out-handle in
     let y = c.copy_within in
     let l : length y.new.s ≡ length a.arena.now = ap length y.ensures ∙ put-length _ _ x.new.arena ∙ ap length x.ensures.arena_after
     ∙ put-length _ _ a.arena.now in
-    let (q, f, e, z₀) = new (goal.at.discard-left-requires c).In-Taken in record {
+    let (q, f, e) = new (goal.at.discard-requires c).In_ok-q in record {
       room_value = (
-        ap₂ (sound a.row) l (after (goal.at.discard-left-requires c).In-Taken) ∙ (reserve-leaves (room (goal.at.discard-left-requires c).Start) a.b.alloc.align a.n c.requires.askable q f).room.sound,
-        sym z₀ ∙ ap (totals a.row) (sym (ap (view a.row) (after (goal.at.discard-left-requires c).In-Taken) ∙ (reserve-leaves (room (goal.at.discard-left-requires c).Start) a.b.alloc.align a.n c.requires.askable q f).says)),
+        ap₂ (sound a.row.bytes) l (after (goal.at.discard-requires c).In_ok-q) ∙ (reserve-leaves (room (goal.at.discard-requires c).Start) a.b.alloc.align a.n c.requires.askable q f).room.sound,
+        c.reserve_slot.ensures.totals_after ∙ ap (next_totals a.row.bytes a.t.now) f ∙ ap (totals a.row.bytes) (sym (ap (view a.row.bytes) (after (goal.at.discard-requires c).In_ok-q) ∙ (reserve-leaves (room (goal.at.discard-requires c).Start) a.b.alloc.align a.n c.requires.askable q f).says)),
       );
-      holds = (_, still (goal.at.discard-left-requires c).In-Taken c.requires.holds.0 c.requires.holds.1);
-      lawful = c.requires.lawful;
+      holds = (_, still (goal.at.discard-requires c).In_ok-q c.requires.holds.0 c.requires.holds.1);
     }
 
 pub returns : goal.returns
@@ -122,17 +121,17 @@ returns c p h =
     let a = c.args in
     let x = c.lay_out-handle in
     let y = c.copy_within in
-    let d = c.discard-left in
+    let d = c.discard in
     let from = c.start_of in
     let to = c.start_of-2 in
     let m = c.lesser in
-    let b = c.in-Taken.q in
-    let g = d.ensures _ (still (goal.at.returns c).In-Taken p h) in
-    let copied : y.new.s ≡ put (start_at a.row b) (part (start_at a.row a.b) (min a.b.alloc.size a.n) x.new.arena) x.new.arena =
+    let b = c.in_ok-q.q in
+    let g = d.ensures _ (still (goal.at.returns c).In_ok-q p h) in
+    let copied : y.new.s ≡ put (start_at a.row.bytes b) (part (start_at a.row.bytes a.b) (min a.b.alloc.size a.n) x.new.arena) x.new.arena =
     y.ensures ∙ rw (to.ensures.value, from.ensures.value, m.ensures) in
-    moved (room (goal.at.returns c).Start) a.b.alloc.align a.n c.requires.askable (new (goal.at.returns c).In-Taken).0 (new (goal.at.returns c).In-Taken).1 h b a.arena.now x.new.arena y.new.s d.new.arena
+    moved (room (goal.at.returns c).Start) a.b.alloc.align a.n c.requires.askable (new (goal.at.returns c).In_ok-q).0 (new (goal.at.returns c).In_ok-q).1 h b a.arena.now x.new.arena y.new.s d.new.arena
     d.new.room
-    x.result d.result (new (goal.at.returns c).In-Taken).2 x.ensures.arena_after copied g.0 g.1 g.2 x.ensures.value (ap (λ b'. b'.alloc.align) h.block)
+    x.result d.new.t (new (goal.at.returns c).In_ok-q).2 x.ensures.arena_after copied g.0 g.1 g.2 x.ensures.value (ap (λ b'. b'.alloc.align) h.block)
 
 pub lay_out-handle-requires : goal.lay_out-handle-requires
-lay_out-handle-requires c = record { standing = stands (goal.at.lay_out-handle-requires c).In-Taken; lawful = c.requires.lawful }
+lay_out-handle-requires c = record { standing = stands (goal.at.lay_out-handle-requires c).In_ok-q }

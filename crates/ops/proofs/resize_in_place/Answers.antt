@@ -14,15 +14,14 @@ use Rattle.frames.specs.Blocks.{Standing, stays_in}
 use Rattle.frames.proofs.Places.{held_stands}
 use Rattle.frames.proofs.Plans.{stays_fits, in_place-writes, in_place_pool, stays_plan, refused-plan}
 use Rattle.ops.proofs.Counts.{sized_counts}
-use Rattle.ops.proofs.Kit.{told_out}
 use Rattle.ops.proofs.Moves.{refused_on_lem}
 use Rattle.ops.proofs.resize_in_place.Goals as goal
 use Rattle.ops.proofs.resize_in_place.Goals.{Else-not-stays_in, Start}
 
-room : (s : Start) → Lent masks_layout s.args.row (length s.args.arena.now) s.args.room.now
-room s = by_masks s.requires.room_value.0 s.requires.lawful
+room : (s : Start) → Lent masks_layout s.args.row.bytes (length s.args.arena.now) s.args.room.now
+room s = by_masks s.requires.room_value.0 s.args.row.lawful
 
-stands : (s : Start) → Standing s.args.row (length s.args.arena.now) s.args.b
+stands : (s : Start) → Standing s.args.row.bytes (length s.args.arena.now) s.args.b
 stands s = held_stands (room s) s.requires.holds.1
 
 -- the size is one that can be asked for
@@ -38,14 +37,13 @@ stays_in-requires c = let h = stands (goal.at.stays_in-requires c).Start in reco
 
 pub returns-then-not-stays_in : goal.returns-then-not-stays_in
 returns-then-not-stays_in c p h =
-    told_out c.args.row c.refused.ensures
-    (rw (refused-plan h (pool_of p) c.args.n (sym c.stays_in.ensures ∙ c.if-not-stays_in.true))
-    (refused_on_lem (room (goal.at.returns-then-not-stays_in c).Start) h c.args.arena.now c.args.t c.requires.room_value.1 NotInPlace))
+    rw (refused-plan h (pool_of p) c.args.n (sym c.stays_in.ensures ∙ c.if-not-stays_in.true))
+    (refused_on_lem (room (goal.at.returns-then-not-stays_in c).Start) h c.args.arena.now c.args.t.now c.requires.room_value.1 NotInPlace)
 
 pub owned_of-requires : goal.owned_of-requires
 owned_of-requires c =
     let h = stands (goal.at.owned_of-requires c).Start in
-    record { class_bound = (h.class, h.slot, omega (arith, h.few)); lawful = c.requires.lawful }
+    record { class_bound = (h.class, h.slot, omega (arith, h.few)) }
 
 pub reframe_at-requires : goal.reframe_at-requires
 reframe_at-requires c =
@@ -53,16 +51,16 @@ reframe_at-requires c =
 
 pub resize_slot-requires : goal.resize_slot-requires
 resize_slot-requires c =
-    (c.args.row, c.requires.holds.0, c.requires.holds.1)
+    (c.args.row.bytes, c.requires.holds.0, c.requires.holds.1)
 
 pub handle_of-requires : goal.handle_of-requires
 handle_of-requires c =
     let h = stands (goal.at.handle_of-requires c).Start in
-    record { class_bound = (h.class, h.slot, omega (arith, h.few)); disp_bound = omega (arith, h.bytes); lawful = c.requires.lawful }
+    record { class_bound = (h.class, h.slot, omega (arith, h.few)); disp_bound = omega (arith, h.bytes) }
 
 pub sized-requires : goal.sized-requires
 sized-requires c =
-    let d = sized_counts c.requires.holds.1 c.args.t c.requires.room_value.1 c.args.n (small (goal.at.sized-requires c).Start) in
+    let d = sized_counts c.requires.holds.1 c.args.t.now c.requires.room_value.1 c.args.n (small (goal.at.sized-requires c).Start) in
     (_, d.0, d.1)
 
 pub returns : goal.returns
@@ -72,9 +70,9 @@ returns c p h =
     let kept = c.lesser-kept in
     let a = c.args in
     rw (stays_plan h (pool_of p) a.n (stayed (goal.at.returns c).Else-not-stays_in)) (record {
-      answer = ap (λ v. done (v ∷ [])) (c.handle_of.ensures ∙ ap (handle_at a.row) h.block);
+      answer = ap (λ v. done (v ∷ [])) (c.handle_of.ensures ∙ ap (handle_at a.row.bytes) h.block);
       arena = in_place-writes h a.arena.now a.n c.owned_of.result kept.result c.reframe_at.new.arena c.owned_of.ensures.value
           kept.ensures c.reframe_at.ensures;
-      kept = ap₂ kept_in (w.ensures a.row p h ∙ ap (encode a.row) (in_place_pool a.row p a.n))
-          (c.sized.ensures _ (sized_counts h a.t c.requires.room_value.1 a.n (small (goal.at.returns c).Start)).0);
+      kept = ap₂ kept_in (w.ensures a.row.bytes p h ∙ ap (encode a.row.bytes) (in_place_pool a.row.bytes p a.n))
+          (c.sized.ensures _ (sized_counts h a.t.now c.requires.room_value.1 a.n (small (goal.at.returns c).Start)).0);
     })

@@ -12,7 +12,7 @@ pub locate_for-requires : goal.locate_for-requires
 unfolding row_bytes
 locate_for-requires c =
     let a = c.args in
-    record { room_value = (checked a.arena.now a.room.now c.sound.ensures (ap not c.if-not-sound.false)).sound; lawful = card_row }
+    record { room_value = (checked a.arena.now a.room.now c.sound.ensures (ap not c.if-not-sound.false)).sound }
 
 pub returns : goal.returns
 unfolding row_bytes

@@ -1,5 +1,5 @@
 -- `first_ready` meets its contract. The invariant: none of the slots passed by is ready.
-use Rattle.mem.proofs.Prelude.{◌∙◌, ◌≡◌, sym, ap, true, false, List, ℕ, ◌+◌, ◌<◌, suc, arith, rules, drop}
+use Rattle.mem.proofs.Prelude.{◌∙◌, ◌≡◌, sym, ap, true, false, List, ℕ, ◌+◌, ◌<◌, suc, arith, drop}
 use Rattle.mem.specs.Lists.{first}
 use Rattle.mem.proofs.Tests.{choose-true, choose-false}
 use Rattle.model.specs.State.{is_ready}
@@ -19,7 +19,7 @@ module _ (n i j : ℕ) (s : List ℕ) (h : j < n) where
 pub loop-j-init : goal.loop-j-init
 loop-j-init c =
     let a = c.args in
-    (search rules, omega (arith, ap (first is_ready) (slots-begin c.slots-n.result a.c a.i a.room.now c.slots-n.ensures.value)))
+    omega (arith, ap (first is_ready) (slots-begin c.slots-n.result a.c a.i a.room.now c.slots-n.ensures.value))
 
 pub returns-then-is_ready : goal.returns-then-is_ready
 returns-then-is_ready c =
@@ -28,7 +28,7 @@ returns-then-is_ready c =
     let a = c.args in
     omega (
       arith,
-      l.invariant.1,
+      l.invariant,
       hit k.result a.i l.j a.room.now c.loop-j-test.true
           (ap is_ready (sym c.slot_at.ensures.value) ∙ sym c.is_ready.ensures ∙ c.if-is_ready.true),
     )
@@ -37,14 +37,12 @@ pub loop-j-preserved : goal.loop-j-preserved
 loop-j-preserved c =
     let l = c.loop-j in
     let k = c.slots-n in
-    let a = c.args in (
-      omega arith,
-      omega (
-        arith,
-        l.invariant.1,
-        miss k.result a.i l.j a.room.now c.loop-j-test.true
-            (ap is_ready (sym c.slot_at.ensures.value) ∙ sym c.is_ready.ensures ∙ c.if-is_ready.false),
-      ),
+    let a = c.args in
+    omega (
+      arith,
+      l.invariant,
+      miss k.result a.i l.j a.room.now c.loop-j-test.true
+          (ap is_ready (sym c.slot_at.ensures.value) ∙ sym c.is_ready.ensures ∙ c.if-is_ready.false),
     )
 
 pub returns : goal.returns
@@ -52,4 +50,4 @@ returns c =
     let l = c.loop-j in
     let k = c.slots-n in
     let a = c.args in
-    omega (arith, l.invariant.1, ap (first is_ready) (slots_end k.result a.i a.room.now l.j c.loop-j-test.false))
+    omega (arith, l.invariant, ap (first is_ready) (slots_end k.result a.i a.room.now l.j c.loop-j-test.false))

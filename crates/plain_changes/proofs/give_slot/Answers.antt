@@ -8,13 +8,13 @@ use Rattle.plain_changes.proofs.Changes.{given_last, given_back}
 use Rattle.plain_changes.proofs.give_slot.Goals as goal
 use Rattle.plain_changes.proofs.give_slot.Goals.{Start}
 
-held : (s : Start) → (let b = s.args.b in let row = s.args.row in
+held : (s : Start) → (let b = s.args.b in let row = s.args.row.bytes in
     (b.class < 48) × (b.slot < 31) × (b.first + rows_of row b.class ≤ 512) × (row_at (b.first + rows_of row b.class) ≤ length s.args.room.now))
-held s = held_rows s.args.row s.args.room.now s.args.b s.requires.holds.0 s.requires.holds.1
+held s = held_rows s.args.row.bytes s.args.room.now s.args.b s.requires.holds.0 s.requires.holds.1
 
 -- the group's first row stands in the room
 inside : (s : Start) → (s.args.b.first < 512) × (row_at s.args.b.first + row_record_bytes ≤ length s.args.room.now)
-inside s = held_inside s.args.row s.args.room.now s.args.b s.requires.holds.0 s.requires.holds.1
+inside s = held_inside s.args.row.bytes s.args.room.now s.args.b s.requires.holds.0 s.requires.holds.1
 
 pub store-requires : goal.store-requires
 unfolding choose
@@ -33,13 +33,13 @@ drop_rows-requires c =
 pub returns-then-live_in-eq0 : goal.returns-then-live_in-eq0
 returns-then-live_in-eq0 c p h =
     let a = c.args in
-    given_last a.row a.room.now a.b p h c.store.new.room c.store.ensures c.live_in.result c.live_in.ensures c.if-live_in-eq0.true
+    given_last a.row.bytes a.room.now a.b p h c.store.new.room c.store.ensures c.live_in.result c.live_in.ensures c.if-live_in-eq0.true
     c.rows.result c.rows.ensures.value c.drop_rows.new.room c.drop_rows.ensures
 
 pub returns : goal.returns
 returns c p h =
     let a = c.args in
-    given_back a.row a.room.now a.b p h c.store.new.room c.store.ensures c.live_in.result c.live_in.ensures c.if-live_in-eq0.false
+    given_back a.row.bytes a.room.now a.b p h c.store.new.room c.store.ensures c.live_in.result c.live_in.ensures c.if-live_in-eq0.false
 
 pub rows-requires : goal.rows-requires
-rows-requires c = record { c_bound = (held (goal.at.rows-requires c).Start).0; lawful = search rules }
+rows-requires c = record { c_bound = (held (goal.at.rows-requires c).Start).0 }

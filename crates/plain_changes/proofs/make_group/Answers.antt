@@ -46,10 +46,10 @@ made row i c k s s₁ s₂ e₁ ek e₂ =
 
 pub write_row-requires : goal.write_row-requires
 write_row-requires c =
-    let a = c.args in (omega (arith, rows_pos a.row a.c (omega arith)), omega (arith, rows_pos a.row a.c (omega arith)))
+    let a = c.args in (omega (arith, rows_pos a.row.bytes a.c (omega arith)), omega (arith, rows_pos a.row.bytes a.c (omega arith)))
 
 pub returns : goal.returns
 returns c =
     let a = c.args in
-    made a.row a.i a.c c.rows.result a.room.now c.write_row.new.room c.write_later.new.room c.write_row.ensures
+    made a.row.bytes a.i a.c c.rows.result a.room.now c.write_row.new.room c.write_later.new.room c.write_row.ensures
     c.rows.ensures.value c.write_later.ensures

@@ -11,17 +11,17 @@ use Rattle.plain_changes.proofs.take_slot.Goals.{After-ready_slot-j, After-units
 
 -- the group's first row stands in the room
 inside : (s : Start) → (s.args.i < 512) × (row_at s.args.i + row_record_bytes ≤ length s.args.room.now)
-inside s = offered_inside s.args.row s.args.room.now s.args.i s.args.c s.requires.offers.0 s.requires.offers.1
+inside s = offered_inside s.args.row.bytes s.args.room.now s.args.i s.args.c s.requires.offers.0 s.requires.offers.1
 
 -- the slot's number is one of a group's
 number : (c : After-ready_slot-j) → c.ready_slot-j.result < 31
 number c =
     let o = c.requires.offers.1 in
-    ready_number o c.ready_slot-j.result (c.ready_slot-j.ensures c.args.row c.requires.offers.0 o).0
+    ready_number o c.ready_slot-j.result (c.ready_slot-j.ensures c.args.row.bytes c.requires.offers.0 o).0
 
 -- the bytes before the group, and those of the slots before this one
-before : (s : Start) → s.args.row * s.args.i ≤ 524288
-before s = few_bytes s.args.row s.args.i s.requires.lawful.1 (omega (arith, inside s))
+before : (s : Start) → s.args.row.bytes * s.args.i ≤ 524288
+before s = few_bytes s.args.row.bytes s.args.i s.args.row.lawful.1 (omega (arith, inside s))
 
 within : (c : After-units) → c.ready_slot-j.result * (16 * c.units.result) < 4063232
 within c =
@@ -46,14 +46,14 @@ pub returns : goal.returns
 unfolding slot_bytes
 returns c g o =
     let z = c.args in
-    let q = c.ready_slot-j.ensures z.row g o in
-    let e = ap (λ v. z.row * z.i + 16 + c.ready_slot-j.result * (16 * v)) c.units.ensures.value in
+    let q = c.ready_slot-j.ensures z.row.bytes g o in
+    let e = ap (λ v. z.row.bytes * z.i + 16 + c.ready_slot-j.result * (16 * v)) c.units.ensures.value in
     taken_slot o z.code z.n c.ready_slot-j.result c.slot_at.result c.grant_slot-a.result c.ready_slot-j.new.room c.store.new.room q.0
     q.1
     c.slot_at.ensures.value (c.grant_slot-a.ensures ∙ ap (λ b. grant_slot z.c z.code z.n b c.slot_at.result) e) c.store.ensures
 
 pub ready_slot-j-requires : goal.ready_slot-j-requires
-ready_slot-j-requires c = (c.args.row, c.requires.offers.0, c.requires.offers.1)
+ready_slot-j-requires c = (c.args.row.bytes, c.requires.offers.0, c.requires.offers.1)
 
 pub overflow_mul-begin : goal.overflow_mul-begin
 overflow_mul-begin c = omega (arith, before (goal.at.overflow_mul-begin c).Start)

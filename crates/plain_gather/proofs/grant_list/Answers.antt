@@ -42,7 +42,7 @@ right c = proposal _ _ _ c.plannable.ensures (ap not c.if-not-plannable.false) c
 
 pub fits-requires : goal.fits-requires
 unfolding row_bytes
-fits-requires c = record { room_value = (lent (goal.at.fits-requires c).Else-not-sound).sound; small_sizes = small-sizes (right c); lawful = card_row }
+fits-requires c = record { room_value = (lent (goal.at.fits-requires c).Else-not-sound).sound; small_sizes = small-sizes (right (goal.at.fits-requires c).Else-not-accepts) }
 
 pub returns-then-not-fits : goal.returns-then-not-fits
 unfolding row_bytes
@@ -52,7 +52,7 @@ returns-then-not-fits c =
 pub grant_all-requires : goal.grant_all-requires
 unfolding row_bytes
 grant_all-requires c =
-    record { room_value = (lent (goal.at.grant_all-requires c).Else-not-sound).sound; small_sizes = (small-sizes (right (goal.at.grant_all-requires c).Else-not-accepts), few_sizes (right (goal.at.grant_all-requires c).Else-not-accepts)); room_enough = passing c.fits.ensures (ap not c.if-not-fits.false); lawful = card_row }
+    record { room_value = (lent (goal.at.grant_all-requires c).Else-not-sound).sound; small_sizes = (small-sizes (right (goal.at.grant_all-requires c).Else-not-accepts), few_sizes (right (goal.at.grant_all-requires c).Else-not-accepts)); room_enough = passing c.fits.ensures (ap not c.if-not-fits.false) }
 
 pub returns : goal.returns
 unfolding row_bytes

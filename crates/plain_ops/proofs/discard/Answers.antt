@@ -7,8 +7,8 @@ use Rattle.plain_tables.proofs.Opens.{by_slots}
 use Rattle.plain_ops.proofs.discard.Goals as goal
 use Rattle.plain_ops.proofs.discard.Goals.{Start}
 
-stands : (s : Start) → Standing s.args.row (length s.args.arena.now) s.args.b
-stands s = held_stands (by_slots s.requires.room_value s.requires.lawful) s.requires.holds.1
+stands : (s : Start) → Standing s.args.row.bytes (length s.args.arena.now) s.args.b
+stands s = held_stands (by_slots s.requires.room_value s.args.row.lawful) s.requires.holds.1
 
 pub returns-then-give_slot : goal.returns-then-give_slot
 returns-then-give_slot c p h =
@@ -23,7 +23,7 @@ returns c p h =
     (c.clear_group.ensures ∙ dropped-writes h a.arena.now (sym e.0 ∙ c.if-give_slot.false), e.1)
 
 pub clear_slot-requires : goal.clear_slot-requires
-clear_slot-requires c = record { standing = stands (goal.at.clear_slot-requires c).Start; lawful = c.requires.lawful }
+clear_slot-requires c = record { standing = stands (goal.at.clear_slot-requires c).Start }
 
 pub clear_group-requires : goal.clear_group-requires
-clear_group-requires c = record { standing = stands (goal.at.clear_group-requires c).Start; lawful = c.requires.lawful }
+clear_group-requires c = record { standing = stands (goal.at.clear_group-requires c).Start }

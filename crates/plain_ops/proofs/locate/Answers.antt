@@ -11,15 +11,14 @@ use Rattle.plain_ops.proofs.locate.Goals as goal
 pub judge-requires : goal.judge-requires
 judge-requires c =
     let a = c.args in record {
-      lies = subst (Lies a.row (length a.arena.now)) (sym c.find_block.ensures)
-          (found_lies (by_slots c.requires.room_value c.requires.lawful) c.start_in.result);
-      lawful = c.requires.lawful;
+      lies = subst (Lies a.row.bytes (length a.arena.now)) (sym c.find_block.ensures)
+          (found_lies (by_slots c.requires.room_value c.args.row.lawful) c.start_in.result);
     }
 
 pub returns : goal.returns
 returns c =
     let a = c.args in
-    c.judge.ensures ∙ ap (judged a.row a.arena.now a.handle) c.find_block.ensures
-    ∙ judged-looked a.row a.arena.now a.handle (lookup a.row (view_by slots_layout a.row a.room.now) c.start_in.result)
-    ∙ ap (λ o. located a.row a.arena.now a.handle (lookup a.row (view_by slots_layout a.row a.room.now) o))
+    c.judge.ensures ∙ ap (judged a.row.bytes a.arena.now a.handle) c.find_block.ensures
+    ∙ judged-looked a.row.bytes a.arena.now a.handle (lookup a.row.bytes (view_by slots_layout a.row.bytes a.room.now) c.start_in.result)
+    ∙ ap (λ o. located a.row.bytes a.arena.now a.handle (lookup a.row.bytes (view_by slots_layout a.row.bytes a.room.now) o))
     c.start_in.ensures

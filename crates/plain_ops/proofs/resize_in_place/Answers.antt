@@ -14,8 +14,8 @@ use Rattle.plain_tables.proofs.Opens.{by_slots}
 use Rattle.plain_ops.proofs.resize_in_place.Goals as goal
 use Rattle.plain_ops.proofs.resize_in_place.Goals.{Else-not-stays_in, Start}
 
-stands : (s : Start) → Standing s.args.row (length s.args.arena.now) s.args.b
-stands s = held_stands (by_slots s.requires.room_value s.requires.lawful) s.requires.holds.1
+stands : (s : Start) → Standing s.args.row.bytes (length s.args.arena.now) s.args.b
+stands s = held_stands (by_slots s.requires.room_value s.args.row.lawful) s.requires.holds.1
 
 -- the block can stay
 stayed : (c : Else-not-stays_in) → (let a = c.args in stays_in a.b a.n ≡ true)
@@ -32,7 +32,7 @@ returns-then-not-stays_in c p h =
 pub owned_of-requires : goal.owned_of-requires
 owned_of-requires c =
     let h = stands (goal.at.owned_of-requires c).Start in
-    record { class_bound = (h.class, h.slot, omega (arith, h.few)); lawful = c.requires.lawful }
+    record { class_bound = (h.class, h.slot, omega (arith, h.few)) }
 
 pub reframe_at-requires : goal.reframe_at-requires
 reframe_at-requires c =
@@ -40,12 +40,12 @@ reframe_at-requires c =
 
 pub resize_slot-requires : goal.resize_slot-requires
 resize_slot-requires c =
-    (c.args.row, c.requires.holds.0, c.requires.holds.1)
+    (c.args.row.bytes, c.requires.holds.0, c.requires.holds.1)
 
 pub handle_of-requires : goal.handle_of-requires
 handle_of-requires c =
     let h = stands (goal.at.handle_of-requires c).Start in
-    record { class_bound = (h.class, h.slot, omega (arith, h.few)); disp_bound = omega (arith, h.bytes); lawful = c.requires.lawful }
+    record { class_bound = (h.class, h.slot, omega (arith, h.few)); disp_bound = omega (arith, h.bytes) }
 
 pub returns : goal.returns
 unfolding resize_at
@@ -54,8 +54,8 @@ returns c p h =
     let kept = c.lesser-kept in
     let a = c.args in
     rw (stays_plan h (pool_of p) a.n (stayed (goal.at.returns c).Else-not-stays_in)) (record {
-      answer = ap (λ v. done (v ∷ [])) (c.handle_of.ensures ∙ ap (handle_at a.row) h.block);
+      answer = ap (λ v. done (v ∷ [])) (c.handle_of.ensures ∙ ap (handle_at a.row.bytes) h.block);
       arena = in_place-writes h a.arena.now a.n c.owned_of.result kept.result c.reframe_at.new.arena c.owned_of.ensures.value
           kept.ensures c.reframe_at.ensures;
-      kept = w.ensures a.row p h ∙ ap (encode_by slots_layout a.row) (in_place_pool a.row p a.n);
+      kept = w.ensures a.row.bytes p h ∙ ap (encode_by slots_layout a.row.bytes) (in_place_pool a.row.bytes p a.n);
     })

@@ -6,6 +6,6 @@ pub returns-then-ready : goal.returns-then-ready
 unfolding choose
 returns-then-ready c = rw c.if-ready.true
 
-pub returns : goal.returns
+pub returns-else-ready : goal.returns-else-ready
 unfolding choose
-returns c = rw c.if-ready.false
+returns-else-ready c = rw c.if-ready.false

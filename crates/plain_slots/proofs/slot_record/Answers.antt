@@ -1,5 +1,5 @@
 -- `slot_record` meets its contract.
-use Rattle.mem.proofs.Prelude.{subst, ◌+◌, ◌<◌, arith}
+use Rattle.mem.proofs.Prelude.{subst, ◌+◌, ◌<◌, arith, rules}
 use Rattle.model.specs.Plain.{condition, plain_record}
 use Rattle.plain_slots.proofs.slot_record.Goals as goal
 
@@ -14,8 +14,8 @@ returns-in-Fresh c = rw c.in-Fresh.is
 
 pub returns-in-Idle : goal.returns-in-Idle
 unfolding plain_record
-returns-in-Idle c = rw (c.in-Idle.is, c.idle_condition.ensures)
+returns-in-Idle c = search rules
 
 pub returns-in-Live : goal.returns-in-Live
 unfolding plain_record
-returns-in-Live c = rw c.in-Live.is
+returns-in-Live c = search rules

@@ -6,7 +6,7 @@ use Rattle.rows.proofs.Counts.{Passed}
 use Rattle.plain_sound.proofs.rows_counted.Given as goal
 
 abbrev pub invariant-loop-s : goal.invariant-loop-s
-invariant-loop-s l = Passed slots_layout l.row l.n l.room l.s
+invariant-loop-s l = Passed slots_layout l.row.bytes l.n l.room l.s
 
 abbrev pub decreases-loop-s : goal.decreases-loop-s
 decreases-loop-s l = l.n - all_rows l.s

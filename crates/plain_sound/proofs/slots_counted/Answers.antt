@@ -1,8 +1,9 @@
 -- `slots_counted` meets its contract. The invariant: what is counted of all slots is what was counted, and what is of those that are left.
-use Rattle.mem.proofs.Prelude.{◌∙◌, ◌≡◌, sym, ◌+◌, ◌*◌, add_assoc, arith, drop, take}
+use Rattle.mem.proofs.Prelude.{◌∙◌, ◌≡◌, sym, ◌+◌, ◌*◌, add_assoc, drop, take}
 use Rattle.classes.specs.Classes.{slot_bytes}
 use Rattle.model.specs.Tables.{row_at}
 use Rattle.model.specs.Plain.{plain_in}
+use Rattle.model.proofs.SixTotals.{zero_totals}
 use Rattle.plain_sound.proofs.Laws.{one_right, slot_next, none-counted, all_counted, not-counted, one_counted}
 use Rattle.plain_sound.proofs.slots_counted.Goals as goal
 use Rattle.plain_sound.proofs.slots_counted.Goals.{After-record_sound}
@@ -10,14 +11,7 @@ use Rattle.plain_sound.proofs.slots_counted.Goals.{After-record_sound}
 pub loop-j-init : goal.loop-j-init
 loop-j-init c =
     let a = c.args in
-    none-counted a.room.now (row_at a.i + 16) a.c a.k a.begin c.slots-n.result
-
-pub record_sound-requires : goal.record_sound-requires
-record_sound-requires c =
-    record {
-      i_lt_most_rows = (c.requires.i_lt_most_rows.0, c.requires.i_lt_most_rows.1, omega arith);
-      c_bound = (c.requires.c_bound.0, omega (arith, c.loop-j.invariant.near), c.slot_at-x.ensures.small);
-    }
+    rw (zero_totals c.default.result c.default.ensures) (none-counted a.room.now (row_at a.i + 16) a.c a.k a.begin c.slots-n.result)
 
 -- the slot that was read is the next one
 next : (e : After-record_sound) → (let a = e.args in
@@ -39,14 +33,6 @@ returns-then-not-record_sound c =
     let w = not-counted a.room.now (row_at a.i + 16) a.c a.k a.begin n.result c.loop-j.t c.loop-j.place c.loop-j.j c.loop-j.invariant
     c.slot_at-x.result c.loop-j-test.true (next (goal.at.returns-then-not-record_sound c).After-record_sound) (right (goal.at.returns-then-not-record_sound c).After-record_sound ∙ c.if-not-record_sound.true) in
     rw (← n.ensures.value) (sym w)
-
-pub with_slot-t-requires : goal.with_slot-t-requires
-with_slot-t-requires c =
-    let f = c.loop-j.invariant.few in
-    ((omega (arith, f), omega (arith, f), omega (arith, f), omega (arith, f)), c.slot_at-x.ensures.small)
-
-pub overflow_add-place : goal.overflow_add-place
-overflow_add-place c = omega (arith, c.loop-j.invariant.near)
 
 pub loop-j-preserved : goal.loop-j-preserved
 unfolding slot_bytes

@@ -5,7 +5,7 @@ use Rattle.serving.proofs.Notes.{Passed}
 use Rattle.plain_survey.proofs.note.Given as goal
 
 abbrev pub invariant-loop-i : goal.invariant-loop-i
-invariant-loop-i l = Passed slots_layout l.row l.len l.room l.i l.spare l.gaps
+invariant-loop-i l = Passed slots_layout l.row.bytes l.len l.room l.i l.spare l.gaps
 
 abbrev pub decreases-loop-i : goal.decreases-loop-i
 decreases-loop-i l = l.n - l.i

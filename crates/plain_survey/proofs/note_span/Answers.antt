@@ -52,4 +52,4 @@ pub bounds-spare-c-2 : goal.bounds-spare-c-2
 bounds-spare-c-2 c = omega (arith, (known (goal.at.bounds-spare-c-2 c).After-wide-c).index)
 
 pub rows-requires : goal.rows-requires
-rows-requires c = record { c_bound = (known (goal.at.rows-requires c).After-wide-c).class; lawful = search rules }
+rows-requires c = record { c_bound = (known (goal.at.rows-requires c).After-wide-c).class }

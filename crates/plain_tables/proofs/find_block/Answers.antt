@@ -13,10 +13,10 @@ use Rattle.plain_tables.proofs.find_block.Goals as goal
 use Rattle.plain_tables.proofs.find_block.Goals.{In-loop-i, Start}
 
 pub loop-i-init : goal.loop-i-init
-loop-i-init c = let a = c.args in none_passed slots_layout a.row a.room.now (Left a.row a.offset)
+loop-i-init c = let a = c.args in none_passed slots_layout a.row.bytes a.room.now (Left a.row.bytes a.offset)
 
-room : (s : Start) → Lent slots_layout s.args.row s.args.len s.args.room.now
-room s = by_slots s.requires.room_value s.requires.lawful
+room : (s : Start) → Lent slots_layout s.args.row.bytes s.args.len s.args.room.now
+room s = by_slots s.requires.room_value s.args.row.lawful
 
 -- the row is one of the arena's
 inside : (c : In-loop-i)
@@ -25,7 +25,7 @@ inside c =
     let r = room (goal.at.In-loop-i c).Start in
     row_inside r c.loop-i.i (row_below r c.loop-i.i c.loop-i-test.true)
 
-step : (c : In-loop-i) → (let a = c.args in BlockStep a.row a.room.now a.offset c.loop-i.i)
+step : (c : In-loop-i) → (let a = c.args in BlockStep a.row.bytes a.room.now a.offset c.loop-i.i)
 step c =
     let r = room (goal.at.In-loop-i c).Start in
     let l = c.loop-i in
@@ -37,7 +37,7 @@ returns-then-not-absent c =
     (ap not c.if-not-absent.true)))
 
 pub rows_held-i-requires : goal.rows_held-i-requires
-rows_held-i-requires c = record { h_bound = rw c.holder_at.ensures (step (goal.at.rows_held-i-requires c).In-loop-i).class; lawful = search rules }
+rows_held-i-requires c = record { h_bound = rw c.holder_at.ensures (step (goal.at.rows_held-i-requires c).In-loop-i).class }
 
 pub overflow_add-i : goal.overflow_add-i
 overflow_add-i c = omega (arith, (inside (goal.at.overflow_add-i c).In-loop-i).0)
@@ -54,7 +54,7 @@ returns c =
     sym (block_end r c.args.offset l.i l.invariant (row_past r l.i c.loop-i-test.false))
 
 pub look_row-found-requires : goal.look_row-found-requires
-look_row-found-requires c = record { i_lt_most_rows = inside c; room_bound = (step c).class; lawful = search rules }
+look_row-found-requires c = record { i_lt_most_rows = inside c; room_bound = (step c).class }
 
 pub holder_at-requires : goal.holder_at-requires
 holder_at-requires c = inside (goal.at.holder_at-requires c).In-loop-i

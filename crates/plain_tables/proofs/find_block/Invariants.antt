@@ -6,7 +6,7 @@ use Rattle.plain_tables.proofs.Blocks.{Left}
 use Rattle.plain_tables.proofs.find_block.Given as goal
 
 abbrev pub invariant-loop-i : goal.invariant-loop-i
-invariant-loop-i l = Passed slots_layout l.row l.room (Left l.row l.offset) l.i
+invariant-loop-i l = Passed slots_layout l.row.bytes l.room (Left l.row.bytes l.offset) l.i
 
 abbrev pub decreases-loop-i : goal.decreases-loop-i
 decreases-loop-i l = l.n - l.i

@@ -11,10 +11,10 @@ use Rattle.plain_tables.proofs.find_open.Goals as goal
 use Rattle.plain_tables.proofs.find_open.Goals.{In-loop-i, Start}
 
 pub loop-i-init : goal.loop-i-init
-loop-i-init c = let a = c.args in open_start slots_layout a.row a.room.now a.c
+loop-i-init c = let a = c.args in open_start slots_layout a.row.bytes a.room.now a.c
 
-room : (s : Start) → Lent slots_layout s.args.row s.args.len s.args.room.now
-room s = by_slots s.requires.room_value s.requires.lawful
+room : (s : Start) → Lent slots_layout s.args.row.bytes s.args.len s.args.room.now
+room s = by_slots s.requires.room_value s.args.row.lawful
 
 -- the row is one of the arena's
 inside : (c : In-loop-i)
@@ -24,7 +24,7 @@ inside c =
     row_inside r c.loop-i.i (row_below r c.loop-i.i c.loop-i-test.true)
 
 step : (c : In-loop-i)
-    → (let a = c.args in OpenStep slots_layout a.row a.room.now a.c (opens_in a.c) c.loop-i.i)
+    → (let a = c.args in OpenStep slots_layout a.row.bytes a.room.now a.c (opens_in a.c) c.loop-i.i)
 step c =
     let r = room (goal.at.In-loop-i c).Start in
     let l = c.loop-i in
@@ -35,7 +35,7 @@ pub returns-then-opens_at : goal.returns-then-opens_at
 returns-then-opens_at c = sym ((step (goal.at.returns-then-opens_at c).In-loop-i).hit (sym c.opens_at.ensures ∙ c.if-opens_at.true))
 
 pub rows_held-i-requires : goal.rows_held-i-requires
-rows_held-i-requires c = record { h_bound = rw c.holder_at.ensures (step (goal.at.rows_held-i-requires c).In-loop-i).class; lawful = search rules }
+rows_held-i-requires c = record { h_bound = rw c.holder_at.ensures (step (goal.at.rows_held-i-requires c).In-loop-i).class }
 
 pub overflow_add-i : goal.overflow_add-i
 overflow_add-i c = omega (arith, (inside (goal.at.overflow_add-i c).In-loop-i).0)

@@ -5,7 +5,7 @@ use Rattle.rows.specs.Rows.{NoneOpen}
 use Rattle.plain_tables.proofs.find_open.Given as goal
 
 abbrev pub invariant-loop-i : goal.invariant-loop-i
-invariant-loop-i l = NoneOpen slots_layout l.row l.room l.c l.i
+invariant-loop-i l = NoneOpen slots_layout l.row.bytes l.room l.c l.i
 
 abbrev pub decreases-loop-i : goal.decreases-loop-i
 decreases-loop-i l = l.n - l.i

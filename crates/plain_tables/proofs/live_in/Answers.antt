@@ -9,7 +9,7 @@ use Rattle.plain_tables.proofs.live_in.Goals as goal
 pub loop-j-init : goal.loop-j-init
 loop-j-init c =
     let a = c.args in
-    (search rules, search rules, omega (arith, ap live_in (slots-begin c.slots-n.result a.c a.i a.room.now c.slots-n.ensures.value)))
+    (search rules, omega (arith, ap live_in (slots-begin c.slots-n.result a.c a.i a.room.now c.slots-n.ensures.value)))
 
 pub loop-j-preserved : goal.loop-j-preserved
 loop-j-preserved c =
@@ -17,11 +17,10 @@ loop-j-preserved c =
     let k = c.slots-n in
     let a = c.args in
     let e = ap live_in (slots_turn k.result a.i a.room.now l.j c.loop-j-test.true) in (
-      omega arith,
       omega (arith, c.one_if_live-live.ensures.small),
       omega (
         arith,
-        l.invariant.2,
+        l.invariant.1,
         e,
         c.one_if_live-live.ensures.value ∙ ap (λ x. bit (is_live x))
             c.slot_at.ensures.value,
@@ -33,4 +32,4 @@ returns c =
     let l = c.loop-j in
     let k = c.slots-n in
     let a = c.args in
-    omega (arith, l.invariant.2, ap live_in (slots_end k.result a.i a.room.now l.j c.loop-j-test.false))
+    omega (arith, l.invariant.1, ap live_in (slots_end k.result a.i a.room.now l.j c.loop-j-test.false))

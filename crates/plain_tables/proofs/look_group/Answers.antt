@@ -1,5 +1,5 @@
 -- `look_group` meets its contract. The invariant: what stands there is what stands there in the slots that are left.
-use Rattle.mem.proofs.Prelude.{◌∙◌, ◌≡◌, sym, ap, true, false, List, ℕ, ◌+◌, ◌*◌, ◌<◌, ◌≤◌, add-one, arith, rules, drop}
+use Rattle.mem.proofs.Prelude.{◌∙◌, ◌≡◌, sym, ap, true, false, List, ℕ, ◌+◌, ◌*◌, ◌<◌, ◌≤◌, add-one, arith, drop}
 use Rattle.classes.specs.Classes.{slot_bytes}
 use Rattle.classes.proofs.Laws.{few_bytes}
 use Rattle.model.specs.Tables.{row_at}
@@ -32,16 +32,15 @@ module _ (first c n j b o : ℕ) (s : List ℕ) (h : j < n) where
         ∙ ap (λ v. slots_looked first c (j + 1) (b + v) o (slots_from n first s (j + 1))) (sym g)
 
 -- the bytes before the group
-before : (c : After-units-bytes) → (let a = c.args in a.row * a.first ≤ 524288)
-before c = few_bytes c.args.row c.args.first c.requires.lawful.1 (omega arith)
+before : (c : After-units-bytes) → (let a = c.args in a.row.bytes * a.first ≤ 524288)
+before c = few_bytes c.args.row.bytes c.args.first c.args.row.lawful.1 (omega arith)
 
 pub loop-j-init : goal.loop-j-init
 loop-j-init c =
     let k = c.slots-n in
     let a = c.args in (
-      search rules,
-      omega (arith, before c),
-      ap (slots_looked a.first a.c 0 (a.row * a.first + 16) a.offset)
+      omega (arith, before (goal.at.loop-j-init c).After-units-bytes),
+      ap (slots_looked a.first a.c 0 (a.row.bytes * a.first + 16) a.offset)
           (slots-begin k.result a.c a.first a.room.now k.ensures.value),
     )
 
@@ -61,7 +60,7 @@ returns-then-not-absent c =
     let a = c.args in
     hit a.first a.c k.result l.j l.begin a.offset a.room.now c.loop-j-test.true _
     c.look_slot-found.result
-    l.invariant.2 (found (goal.at.returns-then-not-absent c).After-absent) (sym c.absent.ensures ∙ c.if-not-absent.true)
+    l.invariant.1 (found (goal.at.returns-then-not-absent c).After-absent) (sym c.absent.ensures ∙ c.if-not-absent.true)
 
 pub loop-j-preserved : goal.loop-j-preserved
 unfolding slot_bytes
@@ -71,9 +70,8 @@ loop-j-preserved c =
     let k = c.slots-n in
     let a = c.args in (
       omega arith,
-      omega arith,
       miss a.first a.c k.result l.j l.begin a.offset a.room.now c.loop-j-test.true _
-          c.look_slot-found.result l.invariant.2 (found (goal.at.loop-j-preserved c).After-absent) (sym c.absent.ensures ∙ c.if-not-absent.false) (16 * u.result)
+          c.look_slot-found.result l.invariant.1 (found (goal.at.loop-j-preserved c).After-absent) (sym c.absent.ensures ∙ c.if-not-absent.false) (16 * u.result)
           (ap (λ v. 16 * v) u.ensures.value),
     )
 
@@ -83,17 +81,5 @@ returns c =
     let l = c.loop-j in
     let k = c.slots-n in
     let a = c.args in
-    sym (l.invariant.2 ∙ ap (slots_looked a.first a.c l.j l.begin a.offset) (slots_end k.result a.first a.room.now l.j
+    sym (l.invariant.1 ∙ ap (slots_looked a.first a.c l.j l.begin a.offset) (slots_end k.result a.first a.room.now l.j
     c.loop-j-test.false))
-
-pub overflow_mul-begin : goal.overflow_mul-begin
-overflow_mul-begin c = omega (arith, before c)
-
-pub overflow_add-begin : goal.overflow_add-begin
-overflow_add-begin c = omega (arith, before c)
-
-pub look_slot-found-requires : goal.look_slot-found-requires
-look_slot-found-requires c = (omega arith, c.slot_at-x.ensures.small.1)
-
-pub overflow_add-begin-in-loop-j : goal.overflow_add-begin-in-loop-j
-overflow_add-begin-in-loop-j c = omega arith

@@ -30,14 +30,14 @@ returns-in_default c =
     let h = c.holder_at-h in
     let a = c.args in
     let t = drop (row_at a.i) a.room.now in
-    other a.row a.i a.offset t h.result c.in_default.not-First ∙ told a.row a.i a.offset t h.result h.ensures
+    other a.row.bytes a.i a.offset t h.result c.in_default.not-First ∙ told a.row.bytes a.i a.offset t h.result h.ensures
 
 pub look_group-requires : goal.look_group-requires
 look_group-requires c =
-    record { first_lt_most_rows = c.requires.i_lt_most_rows; c_bound = subst (λ h. class_held h < 48) (sym (class c)) c.requires.room_bound; lawful = c.requires.lawful }
+    record { first_lt_most_rows = c.requires.i_lt_most_rows; c_bound = subst (λ h. class_held h < 48) (sym (class c)) c.requires.room_bound }
 
 pub returns : goal.returns
 returns c =
     let a = c.args in
     let t = drop (row_at a.i) a.room.now in
-    c.look_group.ensures ∙ told a.row a.i a.offset t (First c.wide.result) (class (goal.at.returns c).After-wide)
+    c.look_group.ensures ∙ told a.row.bytes a.i a.offset t (First c.wide.result) (class (goal.at.returns c).After-wide)

@@ -1,20 +1,16 @@
 -- `perform` meets its contract: an operation is a call, or a store of bytes of the trace.
-use Rattle.mem.proofs.Prelude.{◌∙◌, ◌≡◌, sym, ap, ap₂, refl, subst, Option, some, none, List, [], ◌∷◌, ℕ, ◌-◌, ◌≤◌, length}
+use Rattle.mem.proofs.Prelude.{◌∙◌, ◌≡◌, sym, ap, refl, subst, Option, Some, None, List, [], ◌∷◌, ℕ, ◌-◌, ◌≤◌, length}
 use Rattle.mem.specs.Lists.{choose}
 use Rattle.mem.specs.Bytes.{part}
 use Rattle.mem.proofs.Tests.{choose-true, choose-false}
 use Rattle.classes.specs.Classes.{row_bytes}
-use Rattle.model.specs.declared.Totals.{Totals}
-use Rattle.model.specs.declared.Answered.{Answered}
-use Rattle.model.specs.Answers.{Answer, done, reply_answer}
+use Rattle.model.specs.Answers.{Answer, done}
 use Rattle.model.specs.Plans.{Call, grants, releases, resizes_in_place, moves, measures, reports}
-use Rattle.model.specs.Calls.{KeptBytes, kept_in, Result, left, call}
+use Rattle.model.specs.Calls.{KeptBytes, kept_in, EngineOutcome, left, call}
 use Rattle.trace.specs.declared.Op.{Op}
 use Rattle.trace.specs.Trace.{Within, operation_of}
 use Rattle.trace.specs.Replay.{Line, Effect, effect, performed}
-use Rattle.line_text.specs.declared.Said.{Said}
-use Rattle.player.specs.declared.Played.{Played}
-use Rattle.line_text.specs.Lines.{line_text, answer_of, Short}
+use Rattle.line_text.specs.Lines.{line_text}
 use Rattle.player.proofs.Laws.{of_call, of_store}
 use Rattle.player.proofs.Lines.{report-short}
 use Rattle.player.proofs.perform.Goals as goal
@@ -22,7 +18,7 @@ use Rattle.player.proofs.perform.Goals.{After-store, In-Store, Start}
 
 -- what an operation does, at the function's entry
 abbrev does : (s : Start) → Op → Effect
-does s o = performed row_bytes s.args.arena.now (kept_in s.args.room.now s.args.t) (operation_of s.args.trace.now o)
+does s o = performed row_bytes s.args.arena.now (kept_in s.args.room.now s.args.t.now) (operation_of s.args.trace.now o)
 
 -- the bytes of a store lie in the trace
 inside : (c : In-Store) → (Within (Op.Store c.in-Store.offset c.in-Store.from c.in-Store.to) (length c.args.trace.now))
@@ -39,38 +35,30 @@ slice_bounds-store-end c = (inside (goal.at.slice_bounds-store-end c).In-Store).
 
 -- a call made at the function's entry, for the operation that was read
 asks : (s : Start) (o : Op) (c : Call) {x : Answer} {b : List ℕ} {k : KeptBytes} → s.args.op ≡ o
-    → does s o ≡ effect (call row_bytes s.args.arena.now (kept_in s.args.room.now s.args.t) c)
-    → left x b k ≡ call row_bytes s.args.arena.now (kept_in s.args.room.now s.args.t) c
-    → record { tells = some x; arena = b; kept = k } ≡ does s s.args.op
+    → does s o ≡ effect (call row_bytes s.args.arena.now (kept_in s.args.room.now s.args.t.now) c)
+    → left x b k ≡ call row_bytes s.args.arena.now (kept_in s.args.room.now s.args.t.now) c
+    → record { tells = Some x; arena = b; kept = k } ≡ does s s.args.op
 asks s o c e d r = of_call (ap (does s) e ∙ d) r
-
--- a call that tells one value and its totals
-tells : {d : Effect} (p : Played) (r : Answered) (b u : List ℕ) → (p.told ≡ Said.One r.reply) × (p.totals ≡ r.totals)
-    → record { tells = some (reply_answer r.reply); arena = b; kept = kept_in u r.totals } ≡ d
-    → Short p.told × (record { tells = answer_of p.told; arena = b; kept = kept_in u p.totals } ≡ d)
-tells {d} p r b u (e, f) h =
-    let did : Said → Totals → Effect = λ x z. record { tells = answer_of x; arena = b; kept = kept_in u z } in
-    (subst Short (sym e) tt, ap₂ did e f ∙ h)
 
 pub returns-in-Grant : goal.returns-in-Grant
 unfolding performed operation_of
-returns-in-Grant c = let told = tells c.tell.result c.grant.result _ _ c.tell.ensures
-    (asks (goal.at.returns-in-Grant c).Start (Op.Grant c.in-Grant.n) (grants c.in-Grant.n) c.in-Grant.is refl c.grant.ensures) in record { short = told.0; totals_after = told.1 }
+returns-in-Grant c =
+    record { short = tt; does = asks (goal.at.returns-in-Grant c).Start (Op.Grant c.in-Grant.n) (grants c.in-Grant.n) c.in-Grant.is refl c.grant.ensures }
 
 pub returns-in-Release : goal.returns-in-Release
 unfolding performed operation_of
-returns-in-Release c = let told = tells c.tell-in-Release.result c.release.result _ _ c.tell-in-Release.ensures
-    (asks (goal.at.returns-in-Release c).Start (Op.Release c.in-Release.handle) (releases c.in-Release.handle) c.in-Release.is refl c.release.ensures) in record { short = told.0; totals_after = told.1 }
+returns-in-Release c =
+    record { short = tt; does = asks (goal.at.returns-in-Release c).Start (Op.Release c.in-Release.handle) (releases c.in-Release.handle) c.in-Release.is refl c.release.ensures }
 
 pub returns-in-ResizeInPlace : goal.returns-in-ResizeInPlace
 unfolding performed operation_of
-returns-in-ResizeInPlace c = let told = tells c.tell-in-ResizeInPlace.result c.resize_in_place.result _ _ c.tell-in-ResizeInPlace.ensures
-    (asks (goal.at.returns-in-ResizeInPlace c).Start (Op.ResizeInPlace c.in-ResizeInPlace.handle c.in-ResizeInPlace.n) (resizes_in_place c.in-ResizeInPlace.handle c.in-ResizeInPlace.n) c.in-ResizeInPlace.is refl c.resize_in_place.ensures) in record { short = told.0; totals_after = told.1 }
+returns-in-ResizeInPlace c =
+    record { short = tt; does = asks (goal.at.returns-in-ResizeInPlace c).Start (Op.ResizeInPlace c.in-ResizeInPlace.handle c.in-ResizeInPlace.n) (resizes_in_place c.in-ResizeInPlace.handle c.in-ResizeInPlace.n) c.in-ResizeInPlace.is refl c.resize_in_place.ensures }
 
 pub returns-in-Measure : goal.returns-in-Measure
 unfolding performed operation_of
 returns-in-Measure c =
-    record { short = tt; totals_after = asks (goal.at.returns-in-Measure c).Start (Op.Measure c.in-Measure.handle) (measures c.in-Measure.handle) c.in-Measure.is refl c.measure.ensures }
+    record { short = tt; does = asks (goal.at.returns-in-Measure c).Start (Op.Measure c.in-Measure.handle) (measures c.in-Measure.handle) c.in-Measure.is refl c.measure.ensures }
 
 -- an effect by its parts
 abbrev effect_of : Option Answer → List ℕ → KeptBytes → Effect
@@ -78,32 +66,32 @@ effect_of x b k = record { tells = x; arena = b; kept = k }
 
 -- a store made of a part of the trace
 stores : (g : After-store)
-    → (effect_of (choose g.store.result (some (done (0 ∷ []))) none) g.store.new.arena (kept_in g.args.room.now g.args.t) ≡ does (goal.at.After-store g).Start g.args.op)
+    → (effect_of (choose g.store.result (Some (done (0 ∷ []))) None) g.store.new.arena (kept_in g.args.room.now g.args.t.now) ≡ does (goal.at.After-store g).Start g.args.op)
 unfolding operation_of
 stores g =
     let bs = part g.in-Store.from (g.in-Store.to - g.in-Store.from) g.args.trace.now in
-    of_store row_bytes (does (goal.at.After-store g).Start g.args.op) g.args.arena.now (kept_in g.args.room.now g.args.t) bs g.store.new.arena g.in-Store.offset
+    of_store row_bytes (does (goal.at.After-store g).Start g.args.op) g.args.arena.now (kept_in g.args.room.now g.args.t.now) bs g.store.new.arena g.in-Store.offset
     g.store.result
     (ap (does (goal.at.After-store g).Start) g.in-Store.is) (g.store.ensures.value, g.store.ensures.arena_after)
 
 pub returns-then-store : goal.returns-then-store
 returns-then-store c =
-    record { short = tt; totals_after = ap (λ x. effect_of x c.store.new.arena (kept_in c.args.room.now c.args.t)) (sym (choose-true _ _ _ c.if-store.true)) ∙ stores (goal.at.returns-then-store c).After-store }
+    record { short = tt; does = ap (λ x. effect_of x c.store.new.arena (kept_in c.args.room.now c.args.t.now)) (sym (choose-true _ _ _ c.if-store.true)) ∙ stores (goal.at.returns-then-store c).After-store }
 
 pub returns-else-store : goal.returns-else-store
 returns-else-store c =
-    record { short = tt; totals_after = ap (λ x. effect_of x c.store.new.arena (kept_in c.args.room.now c.args.t)) (sym (choose-false _ _ _ c.if-store.false)) ∙ stores (goal.at.returns-else-store c).After-store }
+    record { short = tt; does = ap (λ x. effect_of x c.store.new.arena (kept_in c.args.room.now c.args.t.now)) (sym (choose-false _ _ _ c.if-store.false)) ∙ stores (goal.at.returns-else-store c).After-store }
 
 pub returns-in-Report : goal.returns-in-Report
 unfolding performed operation_of
 returns-in-Report c =
     let e = c.report.ensures in record {
-      short = subst (λ (r : Result). length (line_text (Line.told r.answer)) ≤ 45) (sym e) (report-short c.args.arena.now
-          (kept_in c.args.room.now c.args.t));
-      totals_after = asks (goal.at.returns-in-Report c).Start Op.Report reports c.in-Report.is refl e;
+      short = subst (λ (r : EngineOutcome). length (line_text (Line.told r.answer)) ≤ 45) (sym e) (report-short c.args.arena.now
+          (kept_in c.args.room.now c.args.t.now));
+      does = asks (goal.at.returns-in-Report c).Start Op.Report reports c.in-Report.is refl e;
     }
 
 pub returns-in-Move : goal.returns-in-Move
 unfolding performed operation_of
-returns-in-Move c = let told = tells c.tell-in-Move.result c.move_block.result _ _ c.tell-in-Move.ensures
-    (asks (goal.at.returns-in-Move c).Start (Op.Move c.in-Move.handle c.in-Move.n) (moves c.in-Move.handle c.in-Move.n) c.in-Move.is refl c.move_block.ensures) in record { short = told.0; totals_after = told.1 }
+returns-in-Move c =
+    record { short = tt; does = asks (goal.at.returns-in-Move c).Start (Op.Move c.in-Move.handle c.in-Move.n) (moves c.in-Move.handle c.in-Move.n) c.in-Move.is refl c.move_block.ensures }

@@ -22,7 +22,7 @@ loop-op-init c =
       refl,
       refl,
       left_all _ _ a.out.now
-          (all_left a.arena.now (kept_in a.room.now a.t) a.trace.now),
+          (all_left a.arena.now (kept_in a.room.now a.t.now) a.trace.now),
     )
 
 -- what the record that was read promises
@@ -34,34 +34,34 @@ promised o =
     step_within o.args.trace.now o.loop-op.at o.in-Record.op o.in-Record.next
     (sym o.in-Record.is ∙ o.read.ensures)
 
-pub perform-p-requires : goal.perform-p-requires
-perform-p-requires c = (promised (goal.at.perform-p-requires c).In-Record).1.1
+pub perform-told-requires : goal.perform-told-requires
+perform-told-requires c = (promised (goal.at.perform-told-requires c).In-Record).1.1
 
 pub put_line-end-requires : goal.put_line-end-requires
 put_line-end-requires c =
     let w = promised (goal.at.put_line-end-requires c).In-Record in
     let l = c.loop-op.invariant in
     let h = c.requires in
-    (omega (arith, w.0, w.1.0, l.2, l.5, h.1, h.2), c.perform-p.ensures.short)
+    (omega (arith, w.0, w.1.0, l.2, l.5, h.1, h.2), c.perform-told.ensures.short)
 
 -- the record's line is written, and what is behind it is left
 written : (p : After-is_bad)
     → (let a = p.args in
-    Left 0 (played_text a.arena.now (kept_in a.room.now a.t) a.trace.now) a.out.now p.put_line-end.result
-    (Behind (answer_of p.perform-p.result.told) p.perform-p.new.arena (kept_in p.perform-p.new.room p.perform-p.result.totals) a.trace.now
+    Left 0 (played_text a.arena.now (kept_in a.room.now a.t.now) a.trace.now) a.out.now p.put_line-end.result
+    (Behind (answer_of p.perform-told.result) p.perform-told.new.arena (kept_in p.perform-told.new.room p.perform-told.new.t) a.trace.now
     (p.loop-op.count + 1) p.in-Record.next)
     p.put_line-end.new.out)
 written p =
     let a = p.args in
-    let e = p.perform-p.ensures in
+    let e = p.perform-told.ensures in
     let i = p.loop-op.count in
-    let x = answer_of p.perform-p.result.told in
-    left_step 0 (played_text a.arena.now (kept_in a.room.now a.t) a.trace.now) a.out.now p.loop-op.end p.put_line-end.result
-    (Rest p.loop-op.arena (kept_in p.loop-op.room p.loop-op.kept) a.trace.now i p.loop-op.at) (line_text (line_of i x))
-    (Behind x p.perform-p.new.arena (kept_in p.perform-p.new.room p.perform-p.result.totals) a.trace.now (i + 1) p.in-Record.next)
+    let x = answer_of p.perform-told.result in
+    left_step 0 (played_text a.arena.now (kept_in a.room.now a.t.now) a.trace.now) a.out.now p.loop-op.end p.put_line-end.result
+    (Rest p.loop-op.arena (kept_in p.loop-op.room p.loop-op.t) a.trace.now i p.loop-op.at) (line_text (line_of i x))
+    (Behind x p.perform-told.new.arena (kept_in p.perform-told.new.room p.perform-told.new.t) a.trace.now (i + 1) p.in-Record.next)
     p.loop-op.out p.put_line-end.new.out
-    (turn p.loop-op.arena (kept_in p.loop-op.room p.loop-op.kept) a.trace.now i p.loop-op.at (omega arith) p.in-Record.op p.in-Record.next
-    (sym p.in-Record.is ∙ p.read.ensures) x p.perform-p.new.arena (kept_in p.perform-p.new.room p.perform-p.result.totals) e.totals_after)
+    (turn p.loop-op.arena (kept_in p.loop-op.room p.loop-op.t) a.trace.now i p.loop-op.at (omega arith) p.in-Record.op p.in-Record.next
+    (sym p.in-Record.is ∙ p.read.ensures) x p.perform-told.new.arena (kept_in p.perform-told.new.room p.perform-told.new.t) e.does)
     p.put_line-end.ensures.value p.put_line-end.ensures.out_after p.loop-op.invariant.6
 
 -- a bad record is the last
@@ -69,12 +69,12 @@ pub returns-then-is_bad : goal.returns-then-is_bad
 returns-then-is_bad c =
     let a = c.args in
     let n = promised (goal.at.returns-then-is_bad c).In-Record in
-    let x = answer_of c.perform-p.result.told in
+    let x = answer_of c.perform-told.result in
     let q = c.in-Record.next in
-    let z = last_one c.perform-p.new.arena (kept_in c.perform-p.new.room c.perform-p.result.totals) a.trace.now (c.loop-op.count + 1) q x
+    let z = last_one c.perform-told.new.arena (kept_in c.perform-told.new.room c.perform-told.new.t) a.trace.now (c.loop-op.count + 1) q x
     (sym c.is_bad.ensures ∙ c.if-is_bad.true) in
-    let w = left-none 0 (played_text a.arena.now (kept_in a.room.now a.t) a.trace.now) a.out.now c.put_line-end.result
-    (Behind x c.perform-p.new.arena (kept_in c.perform-p.new.room c.perform-p.result.totals) a.trace.now (c.loop-op.count + 1) q)
+    let w = left-none 0 (played_text a.arena.now (kept_in a.room.now a.t.now) a.trace.now) a.out.now c.put_line-end.result
+    (Behind x c.perform-told.new.arena (kept_in c.perform-told.new.room c.perform-told.new.t) a.trace.now (c.loop-op.count + 1) q)
     c.put_line-end.new.out z (written (goal.at.returns-then-is_bad c).After-is_bad) in
     record { value = omega (arith, w.0); out_after = w.1; small = omega (arith, c.put_line-end.ensures.small, n.0, n.1.0, c.loop-op.invariant.2, c.requires.1) }
 
@@ -92,9 +92,9 @@ pub loop-op-preserved : goal.loop-op-preserved
 loop-op-preserved c =
     let a = c.args in
     let n = promised (goal.at.loop-op-preserved c).In-Record in
-    let W = played_text a.arena.now (kept_in a.room.now a.t) a.trace.now in
-    let z = goes_on c.perform-p.new.arena (kept_in c.perform-p.new.room c.perform-p.result.totals) a.trace.now _ c.in-Record.next
-    (answer_of c.perform-p.result.told)
+    let W = played_text a.arena.now (kept_in a.room.now a.t.now) a.trace.now in
+    let z = goes_on c.perform-told.new.arena (kept_in c.perform-told.new.room c.perform-told.new.t) a.trace.now _ c.in-Record.next
+    (answer_of c.perform-told.result)
     (sym c.is_bad.ensures ∙ c.if-is_bad.false) in (
       omega (arith, n.0),
       n.1.0,
@@ -109,9 +109,9 @@ loop-op-preserved c =
 pub returns-in-Bad : goal.returns-in-Bad
 returns-in-Bad c =
     let a = c.args in
-    let W = played_text a.arena.now (kept_in a.room.now a.t) a.trace.now in
+    let W = played_text a.arena.now (kept_in a.room.now a.t.now) a.trace.now in
     let F = line_text (Line.bad c.loop-op.count) in
-    let t = turn_bad c.loop-op.arena (kept_in c.loop-op.room c.loop-op.kept) a.trace.now c.loop-op.count c.loop-op.at (omega arith)
+    let t = turn_bad c.loop-op.arena (kept_in c.loop-op.room c.loop-op.t) a.trace.now c.loop-op.count c.loop-op.at (omega arith)
     (sym c.in-Bad.is ∙ c.read.ensures) in
     let s = left_step 0 W a.out.now c.loop-op.end c.put_bad.result _ F [] c.loop-op.out c.put_bad.new.out (t ∙ sym (append-nil F))
     c.put_bad.ensures.value c.put_bad.ensures.out_after c.loop-op.invariant.6 in
@@ -121,9 +121,9 @@ returns-in-Bad c =
 pub returns-in-End : goal.returns-in-End
 returns-in-End c =
     let a = c.args in
-    let t = turn_end c.loop-op.arena (kept_in c.loop-op.room c.loop-op.kept) a.trace.now c.loop-op.count c.loop-op.at (omega arith)
+    let t = turn_end c.loop-op.arena (kept_in c.loop-op.room c.loop-op.t) a.trace.now c.loop-op.count c.loop-op.at (omega arith)
     (sym c.in-End.is ∙ c.read.ensures) in
-    let w = left-none 0 (played_text a.arena.now (kept_in a.room.now a.t) a.trace.now) a.out.now c.loop-op.end _ c.loop-op.out t
+    let w = left-none 0 (played_text a.arena.now (kept_in a.room.now a.t.now) a.trace.now) a.out.now c.loop-op.end _ c.loop-op.out t
     c.loop-op.invariant.6 in
     record { value = omega (arith, w.0); out_after = w.1; small = omega arith }
 

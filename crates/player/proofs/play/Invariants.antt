@@ -10,7 +10,7 @@ use Rattle.player.proofs.play.Given as goal
 abbrev pub invariant-loop-op : goal.invariant-loop-op
 invariant-loop-op l =
     (l.count ≤ l.at) × (l.at ≤ length l.trace) × (l.end ≤ 15 * l.at) × (length l.arena ≡ length l.initial.arena) × (length l.room ≡ length l.initial.room) × (length l.out ≡ length l.initial.out)
-    × Left 0 (played_text l.initial.arena (kept_in l.initial.room l.initial.kept) l.trace) l.initial.out l.end (Rest l.arena (kept_in l.room l.kept) l.trace l.count l.at) l.out
+    × Left 0 (played_text l.initial.arena (kept_in l.initial.room l.initial.t) l.trace) l.initial.out l.end (Rest l.arena (kept_in l.room l.t) l.trace l.count l.at) l.out
 
 abbrev pub decreases-loop-op : goal.decreases-loop-op
 decreases-loop-op l = length l.trace - l.at

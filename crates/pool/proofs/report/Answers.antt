@@ -13,5 +13,5 @@ pub returns : goal.returns
 unfolding row_bytes
 returns c =
     let a = c.args in
-    let r = checked a.arena.now (kept_in a.room.now a.t) c.sound.ensures (ap not c.if-not-sound.false) in
+    let r = checked a.arena.now (kept_in a.room.now a.t.now) c.sound.ensures (ap not c.if-not-sound.false) in
     reporting r.form (ap (λ z. done (listed z)) r.counts)

@@ -1,7 +1,6 @@
 -- The invariant: the sizes that are left to write make the plan. A size is at least 1, so that what is left falls.
 use Rattle.mem.proofs.Prelude.{◌<◌, arith}
 use Rattle.model.specs.Proposals.{entries}
-use Rattle.proposals.proofs.Checks.{plan_facts, cap_facts}
 use Rattle.proposals.proofs.Filling.{more-places, filled_more, filled_all, filled_none}
 use Rattle.proposals.proofs.full_caps.Goals as goal
 use Rattle.proposals.proofs.full_caps.Goals.{After-lesser-n}
@@ -19,15 +18,8 @@ loop-left-init c = filled_none c.args.total c.args.cap c.args.sizes.now c.requir
 pub offset_bounds-sizes-count : goal.offset_bounds-sizes-count
 offset_bounds-sizes-count c = omega (arith, place c)
 
-pub overflow_sub-left : goal.overflow_sub-left
-overflow_sub-left c = omega (arith, c.lesser-n.ensures)
-
 pub overflow_add-count : goal.overflow_add-count
 overflow_add-count c = omega (arith, place (goal.at.overflow_add-count c).After-lesser-n)
-
-pub loop-left-smaller : goal.loop-left-smaller
-loop-left-smaller c =
-    omega (arith, c.lesser-n.ensures, c.loop-left-test.true, cap_facts c.args.cap (plan_facts c.args.total c.args.cap c.requires).0)
 
 pub loop-left-preserved : goal.loop-left-preserved
 loop-left-preserved c =

@@ -60,19 +60,16 @@ made row i c n b p k v s s₁ s₂ s₃ e₁ en eb ev ep e₂ ek e₃ =
 
 pub write_row-requires : goal.write_row-requires
 write_row-requires c =
-    let a = c.args in (omega (arith, rows_pos a.row a.c (omega arith)), omega (arith, rows_pos a.row a.c (omega arith)))
-
-pub overflow_sub-bit_of : goal.overflow_sub-bit_of
-overflow_sub-bit_of c = omega (arith, c.bit_of.ensures, pow_pos c.slots.result)
+    let a = c.args in (omega (arith, rows_pos a.row.bytes a.c (omega arith)), omega (arith, rows_pos a.row.bytes a.c (omega arith)))
 
 pub copy_in-requires : goal.copy_in-requires
 copy_in-requires c =
     let a = c.args in
-    omega (arith, rows_pos a.row a.c (omega arith))
+    omega (arith, rows_pos a.row.bytes a.c (omega arith))
 
 pub returns : goal.returns
 returns c =
     let a = c.args in
-    made a.row a.i a.c c.slots.result c.bit_of.result c.row_at.result c.rows.result c.mask_bytes-sets.result a.room.now
+    made a.row.bytes a.i a.c c.slots.result c.bit_of.result c.row_at.result c.rows.result c.mask_bytes-sets.result a.room.now
     c.write_row.new.room c.copy_in.new.s c.write_later.new.room c.write_row.ensures c.slots.ensures.value c.bit_of.ensures
     c.mask_bytes-sets.ensures c.row_at.ensures c.copy_in.ensures c.rows.ensures.value c.write_later.ensures

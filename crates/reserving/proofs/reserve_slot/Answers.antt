@@ -17,4 +17,4 @@ class_of-c-requires c = omega (arith, c.requires.askable.small, c.enlarged.ensur
 pub reserve_in-requires : goal.reserve_in-requires
 reserve_in-requires c =
     let e = c.class_of-c.ensures.value ∙ ap class_of c.enlarged.ensures.value in
-    record { room_value = c.requires.room_value; askable = c.requires.askable; c_value = (e, c.class_of-c.ensures.small, open_start masks_layout c.args.row c.args.room.now c.class_of-c.result, c.requires.totals_value); lawful = c.requires.lawful }
+    record { room_value = c.requires.room_value; askable = c.requires.askable; c_value = (e, c.class_of-c.ensures.small, open_start masks_layout c.args.row.bytes c.args.room.now c.class_of-c.result, c.requires.totals_value) }

@@ -1,26 +1,26 @@
 -- By what the check says, and then by what is found for the size.
 use Rattle.mem.proofs.Tests.{choose-true}
-use Rattle.ops.proofs.Kit.{◌∙◌, ◌≡◌, sym, row_bytes, card_row, card_some, view, kept_in, engine, checked, refusing, size-asked, size-given, told}
+use Rattle.ops.proofs.Kit.{◌∙◌, ◌≡◌, sym, row_bytes, card_row, card_some, view, kept_in, engine, checked, refusing, size-asked, size-given}
 use Rattle.model.specs.Plans.{resizes_in_place}
 use Rattle.model.proofs.Kept.{engine_lawful}
 use Rattle.frames.specs.Blocks.{found_for}
 use Rattle.frames.proofs.Calls.{in_place-size, size-refused}
-use Rattle.mem.proofs.Prelude.{ap, not}
+use Rattle.mem.proofs.Prelude.{ap, not, Err, arith}
 use Rattle.resizing.proofs.resize_in_place.Goals as goal
 use Rattle.resizing.proofs.resize_in_place.Goals.{After-locate_for}
 
 pub returns-then-not-sound : goal.returns-then-not-sound
-returns-then-not-sound d = told d.refused.ensures ∙ refusing _ _ d.sound.ensures (resizes_in_place _ _) tt (ap not d.if-not-sound.true)
+returns-then-not-sound d = refusing _ _ d.sound.ensures (resizes_in_place _ _) tt (ap not d.if-not-sound.true)
 
 pub locate_for-requires : goal.locate_for-requires
 unfolding row_bytes
 locate_for-requires c =
     let a = c.args in
-    record { room_value = (checked a.arena.now (kept_in a.room.now a.t) c.sound.ensures (ap not c.if-not-sound.false)).room.sound; lawful = card_row }
+    record { room_value = (checked a.arena.now (kept_in a.room.now a.t.now) c.sound.ensures (ap not c.if-not-sound.false)).room.sound }
 
 -- the tables are sound, so what is located is what is found
 found : (c : After-locate_for) → (let a = c.args in
-    c.locate_for.result ≡ found_for row_bytes (engine row_bytes) a.arena.now (kept_in a.room.now a.t) a.handle a.n)
+    c.locate_for.result ≡ found_for row_bytes (engine row_bytes) a.arena.now (kept_in a.room.now a.t.now) a.handle a.n)
 unfolding row_bytes
 found c =
     c.locate_for.ensures ∙ sym (choose-true _ _ _ (sym c.sound.ensures ∙ c.if-not-sound.false))
@@ -28,20 +28,20 @@ found c =
 pub resize_in_place-requires : goal.resize_in_place-requires
 unfolding row_bytes
 resize_in_place-requires c =
-    let a = c.args in let told = size-asked card_row a.arena.now (kept_in a.room.now a.t) (in_place-size row_bytes (view row_bytes a.room.now) a.handle a.n)
-    (sym c.in-At.is ∙ found (goal.at.resize_in_place-requires c).After-locate_for) in record { room_value = told.0; holds = told.1.0; askable = told.1.1.0; lawful = told.1.1.1 }
+    let a = c.args in let told = size-asked card_row a.arena.now (kept_in a.room.now a.t.now) (in_place-size row_bytes (view row_bytes a.room.now) a.handle a.n)
+    (sym c.in_ok-b.was ∙ found (goal.at.resize_in_place-requires c).After-locate_for) in record { room_value = told.0; holds = told.1.0; askable = told.1.1.0 }
 
-pub returns-in-At : goal.returns-in-At
+pub returns : goal.returns
 unfolding row_bytes
-returns-in-At c =
+returns c =
     let a = c.args in
-    size-given card_row a.arena.now (kept_in a.room.now a.t) (in_place-size row_bytes (view row_bytes a.room.now) a.handle a.n)
-    (sym c.in-At.is ∙ found (goal.at.returns-in-At c).After-locate_for) c.resize_in_place.ensures
+    size-given card_row a.arena.now (kept_in a.room.now a.t.now) (in_place-size row_bytes (view row_bytes a.room.now) a.handle a.n)
+    (sym c.in_ok-b.was ∙ found (goal.at.returns c).After-locate_for) c.resize_in_place.ensures
 
-pub returns-in-Refused : goal.returns-in-Refused
-returns-in-Refused c =
+pub returns-in_err-b : goal.returns-in_err-b
+returns-in_err-b c =
     let a = c.args in
-    told c.refused-in-Refused.ensures
-    ∙ size-refused (engine row_bytes) a.arena.now (kept_in a.room.now a.t)
-    (in_place-size row_bytes (view row_bytes a.room.now) a.handle a.n) (engine_lawful row_bytes card_some) card_some c.in-Refused.r
-    (sym c.in-Refused.is ∙ found (goal.at.returns-in-Refused c).After-locate_for)
+    let e : c.from_residual.result ≡ Err c.in_err-b.field-0.0 = grind arith in
+    rw e (size-refused (engine row_bytes) a.arena.now (kept_in a.room.now a.t.now)
+    (in_place-size row_bytes (view row_bytes a.room.now) a.handle a.n) (engine_lawful row_bytes card_some) card_some c.in_err-b.field-0.0
+    (sym c.in_err-b.was ∙ found (goal.at.returns-in_err-b c).After-locate_for))

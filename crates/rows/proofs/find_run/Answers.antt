@@ -8,7 +8,7 @@ use Rattle.rows.proofs.find_run.Goals as goal
 use Rattle.rows.proofs.find_run.Goals.{After-next_run-run, In-loop-i}
 
 pub loop-i-init : goal.loop-i-init
-loop-i-init c L r = let a = c.args in run-start L a.row a.room.now a.c r.pos
+loop-i-init c L r = let a = c.args in run-start L a.row.bytes a.room.now a.c r.pos
 
 -- the row is one of the arena's
 inside : (c : In-loop-i)
@@ -21,25 +21,25 @@ step : (c : In-loop-i)
     → (let a = c.args in
     let t = a.room.now in
     let l = c.loop-i in
-    (L : Layout) → Lent L a.row a.len t
-    → RunStep L a.row t a.c l.i (next_run a.row (record { from = l.from; next = l.i }) (view_holder (drop (row_at l.i) t))))
+    (L : Layout) → Lent L a.row.bytes a.len t
+    → RunStep L a.row.bytes t a.c l.i (next_run a.row.bytes (record { from = l.from; next = l.i }) (view_holder (drop (row_at l.i) t))))
 step c L r =
     let l = c.loop-i in
     run_step r c.args.c l.from l.i (l.invariant L r) (row_below r l.i c.loop-i-test.true)
 
 next : (c : After-next_run-run)
     → (let a = c.args in
-    (L : Layout) → Lent L a.row a.len a.room.now → RunStep L a.row a.room.now a.c c.loop-i.i c.next_run-run.result)
+    (L : Layout) → Lent L a.row.bytes a.len a.room.now → RunStep L a.row.bytes a.room.now a.c c.loop-i.i c.next_run-run.result)
 next c L r = rw (c.next_run-run.ensures, c.holder_at.ensures) (step (goal.at.After-next_run-run c).In-loop-i L r)
 
 -- the same in the layout that the room is known to have
-known : (c : After-next_run-run) → (RunStep c.requires.lent.0 c.args.row c.args.room.now c.args.c c.loop-i.i c.next_run-run.result)
+known : (c : After-next_run-run) → (RunStep c.requires.lent.0 c.args.row.bytes c.args.room.now c.args.c c.loop-i.i c.next_run-run.result)
 known c = let p = c.requires.lent in next c p.0 p.1
 
 pub next_run-run-requires : goal.next_run-run-requires
 next_run-run-requires c =
     let p = c.requires.lent in
-    record { h_bound = (rw c.holder_at.ensures (step (goal.at.next_run-run-requires c).In-loop-i p.0 p.1).class, (inside (goal.at.next_run-run-requires c).In-loop-i).0); lawful = search rules }
+    record { h_bound = (rw c.holder_at.ensures (step (goal.at.next_run-run-requires c).In-loop-i p.0 p.1).class, (inside (goal.at.next_run-run-requires c).In-loop-i).0) }
 
 pub returns-then-i-from : goal.returns-then-i-from
 returns-then-i-from c L r = sym ((next (goal.at.returns-then-i-from c).After-next_run-run L r).hit (c.if-i-from.true ∙ c.rows-need.ensures.value))

@@ -12,11 +12,11 @@ use Rattle.rows.proofs.frame_at.Goals.{After-holder_at}
 -- the holder that was read
 held : (e : After-holder_at) (h : Holder) → (let a = e.args in
     let t = drop (row_at a.i) a.room.now in
-    e.holder_at.result ≡ h → frame_in a.row a.n t ≡ frame_held a.row a.n t h)
+    e.holder_at.result ≡ h → frame_in a.row.bytes a.n t ≡ frame_held a.row.bytes a.n t h)
 unfolding frame_in
 held e h q =
     let a = e.args in
-    ap (frame_held a.row a.n (drop (row_at a.i) a.room.now)) (sym e.holder_at.ensures ∙ q)
+    ap (frame_held a.row.bytes a.n (drop (row_at a.i) a.room.now)) (sym e.holder_at.ensures ∙ q)
 
 pub returns-then-zeros_at : goal.returns-then-zeros_at
 unfolding choose

@@ -1,5 +1,5 @@
 -- `laters_sound` meets its contract. The invariant: the test of all later rows is the test of those that are left.
-use Rattle.mem.proofs.Prelude.{◌∙◌, ◌≡◌, sym, ap₂, ◌&&◌, ◌+◌, ℕ, ◌-◌, arith, rules, drop}
+use Rattle.mem.proofs.Prelude.{◌∙◌, ◌≡◌, sym, ◌&&◌, ◌+◌, ◌-◌, arith, drop}
 use Rattle.mem.specs.Lists.{starts}
 use Rattle.model.specs.Tables.{row_at, later_records}
 use Rattle.rows.proofs.Checks.{laters_turn}
@@ -14,20 +14,13 @@ turn c =
     let a = c.args in
     let l = c.loop-k in
     let e : a.i + 1 + l.k + 1 ≡ a.i + 1 + (l.k + 1) = omega arith in
-    l.invariant.1 ∙ laters_turn a.room.now (a.i + 1 + l.k) a.m l.k (omega arith) ∙ rw (e, ← c.later_sound.ensures)
-
-pub loop-k-init : goal.loop-k-init
-loop-k-init c =
-    let a = c.args in
-    let e : a.i + 1 ≡ a.i + 1 + 0 = omega arith in
-    let f : a.m ≡ a.m - 0 = omega arith in
-    (search rules, ap₂ (λ (p k : ℕ). starts (drop (row_at p) a.room.now) (later_records k 1)) e f)
+    l.invariant ∙ laters_turn a.room.now (a.i + 1 + l.k) a.m l.k (omega arith) ∙ rw (e, ← c.later_sound.ensures)
 
 pub returns-then-not-later_sound : goal.returns-then-not-later_sound
 returns-then-not-later_sound c = sym (turn (goal.at.returns-then-not-later_sound c).After-later_sound ∙ simp c.if-not-later_sound.true)
 
 pub loop-k-preserved : goal.loop-k-preserved
-loop-k-preserved c = (omega arith, turn (goal.at.loop-k-preserved c).After-later_sound ∙ simp c.if-not-later_sound.false)
+loop-k-preserved c = turn (goal.at.loop-k-preserved c).After-later_sound ∙ simp c.if-not-later_sound.false
 
 pub returns : goal.returns
 unfolding later_records
@@ -35,4 +28,4 @@ returns c =
     let a = c.args in
     let l = c.loop-k in
     let z : a.m - l.k ≡ 0 = omega arith in
-    sym (l.invariant.1 ∙ rw z)
+    sym (l.invariant ∙ rw z)

@@ -8,16 +8,16 @@ use Rattle.rows.proofs.rows_in.Goals as goal
 
 pub returns-then-len-row : goal.returns-then-len-row
 unfolding arena_rows arena_right choose
-returns-then-len-row c = let a = c.args in record { value = sym (simp (eq-eqb (a.row % 16) 0 c.requires.2, lt-leb a.row a.len c.if-len-row.true)); small = search rules }
+returns-then-len-row c = let a = c.args in record { value = sym (simp (eq-eqb (a.row.bytes % 16) 0 c.args.row.lawful.2, lt-leb a.row.bytes a.len c.if-len-row.true)); small = search rules }
 
 pub returns-then-row-len : goal.returns-then-row-len
 unfolding arena_rows arena_right choose
 returns-then-row-len c =
     let a = c.args in record {
       value = sym (simp (
-        eq-eqb (a.row % 16) 0 c.requires.2,
-        le-leb a.row a.len c.if-len-row.false,
-        lt-leb a.len (512 * a.row)
+        eq-eqb (a.row.bytes % 16) 0 c.args.row.lawful.2,
+        le-leb a.row.bytes a.len c.if-len-row.false,
+        lt-leb a.len (512 * a.row.bytes)
             c.if-row-len.true,
       ));
       small = search rules;
@@ -28,10 +28,10 @@ unfolding arena_rows arena_right choose
 returns-then-len-row-ne0 c =
     let a = c.args in record {
       value = sym (simp (
-        eq-eqb (a.row % 16) 0 c.requires.2,
-        le-leb a.row a.len c.if-len-row.false,
-        le-leb a.len (512 * a.row) c.if-row-len.false,
-        ne_eqb (a.len % a.row) 0 c.if-len-row-ne0.true,
+        eq-eqb (a.row.bytes % 16) 0 c.args.row.lawful.2,
+        le-leb a.row.bytes a.len c.if-len-row.false,
+        le-leb a.len (512 * a.row.bytes) c.if-row-len.false,
+        ne_eqb (a.len % a.row.bytes) 0 c.if-len-row-ne0.true,
       ));
       small = search rules;
     }
@@ -41,10 +41,10 @@ unfolding arena_rows arena_right choose
 returns c =
     let a = c.args in record {
       value = sym (simp (
-        eq-eqb (a.row % 16) 0 c.requires.2,
-        le-leb a.row a.len c.if-len-row.false,
-        le-leb a.len (512 * a.row) c.if-row-len.false,
-        eq-eqb (a.len % a.row) 0 c.if-len-row-ne0.false,
+        eq-eqb (a.row.bytes % 16) 0 c.args.row.lawful.2,
+        le-leb a.row.bytes a.len c.if-len-row.false,
+        le-leb a.len (512 * a.row.bytes) c.if-row-len.false,
+        eq-eqb (a.len % a.row.bytes) 0 c.if-len-row-ne0.false,
       ));
-      small = div-le_of_le-mul a.row (omega (arith, mul_comm 512 a.row));
+      small = div-le_of_le-mul a.row.bytes (omega (arith, mul_comm 512 a.row.bytes));
     }

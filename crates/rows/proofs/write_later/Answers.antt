@@ -1,7 +1,7 @@
 -- `write_later` meets its contract. The invariant: writing what is left of the later rows makes all of them written.
-use Rattle.mem.proofs.Prelude.{◌∙◌, ◌≡◌, sym, ap, refl, List, [], ◌+◌, ℕ, ◌<◌, ◌-◌, suc, add-one, arith, rules, lit≤, length}
+use Rattle.mem.proofs.Prelude.{◌∙◌, ◌≡◌, sym, ap, List, [], ◌+◌, ℕ, ◌<◌, ◌-◌, suc, add-one, arith, lit≤, length}
 use Rattle.mem.specs.Bytes.{put}
-use Rattle.mem.proofs.Laws.{put-nil, put-append, put-length}
+use Rattle.mem.proofs.Laws.{put-nil, put-append}
 use Rattle.model.specs.declared.Holder.{Holder}
 use Rattle.model.specs.Tables.{row_at, row_record, later_records}
 use Rattle.model.proofs.Tables.{row_length}
@@ -19,19 +19,10 @@ turn i n k s h =
     ∙ put-append (row_at (i + k)) (row_record (Holder.Later k) []) (later_records (n - (k + 1)) (suc k)) s
     ∙ rw (← f, add-one k))
 
-pub loop-k-init : goal.loop-k-init
-loop-k-init c = (search rules, search rules, refl, refl)
-
 pub loop-k-preserved : goal.loop-k-preserved
 loop-k-preserved c =
     let l = c.loop-k in
-    let a = c.args in
-    let h = c.write_row.ensures in (
-      omega arith,
-      omega arith,
-      ap length h ∙ put-length (row_at (a.i + l.k)) (row_record (Holder.Later l.k) []) l.room ∙ l.invariant.2,
-      rw h (turn a.i a.n l.k l.room (omega arith)) ∙ l.invariant.3,
-    )
+    rw c.write_row.ensures (turn c.args.i c.args.n l.k l.room (omega arith)) ∙ l.invariant
 
 pub returns : goal.returns
 unfolding later_records
@@ -39,4 +30,4 @@ returns c =
     let l = c.loop-k in
     let a = c.args in
     let e : a.n - l.k ≡ 0 = omega arith in
-    sym (put-nil (row_at (a.i + l.k)) l.room) ∙ ap (λ m. put (row_at (a.i + l.k)) (later_records m l.k) l.room) (sym e) ∙ l.invariant.3
+    sym (put-nil (row_at (a.i + l.k)) l.room) ∙ ap (λ m. put (row_at (a.i + l.k)) (later_records m l.k) l.room) (sym e) ∙ l.invariant

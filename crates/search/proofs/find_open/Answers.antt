@@ -12,8 +12,8 @@ use Rattle.search.proofs.find_open.Goals.{In-loop-i, Start}
 pub loop-i-init : goal.loop-i-init
 loop-i-init c = c.requires.c_bound.1
 
-room : (s : Start) → Lent masks_layout s.args.row s.args.len s.args.room.now
-room s = by_masks s.requires.room_value s.requires.lawful
+room : (s : Start) → Lent masks_layout s.args.row.bytes s.args.len s.args.room.now
+room s = by_masks s.requires.room_value s.args.row.lawful
 
 -- the row is one of the arena's
 inside : (c : In-loop-i)
@@ -22,7 +22,7 @@ inside c =
     let r = room (goal.at.In-loop-i c).Start in
     row_inside r c.loop-i.i (row_below r c.loop-i.i c.loop-i-test.true)
 
-step : (c : In-loop-i) → (let a = c.args in OpenStep masks_layout a.row a.room.now a.c (opens_in a.c)
+step : (c : In-loop-i) → (let a = c.args in OpenStep masks_layout a.row.bytes a.room.now a.c (opens_in a.c)
     c.loop-i.i)
 step c =
     let r = room (goal.at.In-loop-i c).Start in
@@ -34,7 +34,7 @@ pub returns-then-opens_at : goal.returns-then-opens_at
 returns-then-opens_at c = sym ((step (goal.at.returns-then-opens_at c).In-loop-i).hit (sym c.opens_at.ensures ∙ c.if-opens_at.true))
 
 pub rows_held-i-requires : goal.rows_held-i-requires
-rows_held-i-requires c = record { h_bound = rw c.holder_at.ensures (step (goal.at.rows_held-i-requires c).In-loop-i).class; lawful = search rules }
+rows_held-i-requires c = record { h_bound = rw c.holder_at.ensures (step (goal.at.rows_held-i-requires c).In-loop-i).class }
 
 pub overflow_add-i : goal.overflow_add-i
 overflow_add-i c = omega (arith, (inside (goal.at.overflow_add-i c).In-loop-i).0)

@@ -21,7 +21,7 @@ pub returns-then-found : goal.returns-then-found
 returns-then-found c =
     let a = c.args in
     let t = drop a.at a.s.now in
-    let B : (i : ℕ) → get_or t i 0 < 256 = λ i. rw (get_or-drop a.at a.s.now i 0) (omega (arith, c.shared_slice_known-1.given (a.at + i))) in
+    let B : (i : ℕ) → get_or t i 0 < 256 = λ i. rw (get_or-drop a.at a.s.now i 0) (omega (arith, c.type_inv.s (a.at + i))) in
     let u : T (slots_checked (slot_bytes a.c - 4) (below2 a.c) a.n a.ready a.waiting t) = true-T _ (sym (quick (goal.at.returns-then-found c).After-slots_found-found) ∙ c.if-found.true) in record {
       sound_value = c.if-found.true ∙ sym (T_true (slots_exactly a.c a.begin a.n a.ready a.waiting t)
           (quick_exact a.c (omega arith) a.n a.begin a.ready a.waiting t B (omega arith) u));
@@ -43,10 +43,3 @@ slots_tested-requires c =
 pub slots_tested-requires-2 : goal.slots_tested-requires-2
 slots_tested-requires-2 c =
     let p = c.requires in record { n_le_most_slots = (p.0, p.1, p.2, p.3); bytes_value = by_class (goal.at.slots_tested-requires-2 c).After-slots_found-found }
-
-pub returns-then-waiting-eq0 : goal.returns-then-waiting-eq0
-returns-then-waiting-eq0 c =
-    record { sound_value = rw (c.if-ready-eq0.true, c.if-waiting-eq0.true) c.slots_tested.ensures; bytes_value = c.slots_found-found.ensures.bytes_value; small = c.slots_found-found.ensures.small }
-
-pub returns : goal.returns
-returns c = record { sound_value = c.slots_tested-2.ensures; bytes_value = c.slots_found-found.ensures.bytes_value; small = c.slots_found-found.ensures.small }

@@ -1,32 +1,12 @@
 -- `slots_sound` meets its contract. The invariant: the check of all slots is the check of those that are left.
-use Rattle.mem.proofs.Prelude.{◌∙◌, ◌≡◌, sym, ◌&&◌, ◌+◌, ℕ, ◌<◌, ◌≤◌, ◌*◌, ◌-◌, ◌/◌, ◌^◌, add-zero, sub-zero, arith, rules, eq-eqb, ne_eqb}
+use Rattle.mem.proofs.Prelude.{◌∙◌, ◌≡◌, sym, ◌&&◌, ◌+◌, ℕ, ◌<◌, ◌*◌, ◌-◌, ◌/◌, ◌^◌, arith, eq-eqb, ne_eqb}
 use Rattle.mem.proofs.Prelude.{eqb, drop, get_or}
-use native.Mathlib.Nat.{div-one, zero-mul, mul-le-mul_right}
 use Rattle.classes.specs.Classes.{slot_bytes}
 use Rattle.classes.proofs.Laws.{bytes-units}
 use Rattle.slot_walks.specs.Slots.{slots_exactly}
 use Rattle.slot_walks.proofs.Records.{exact_walk_turn, exact_walk_end}
 use Rattle.slot_walks.proofs.slots_sound.Goals as goal
 use Rattle.slot_walks.proofs.slots_sound.Goals.{After-loop-i, After-slot_sound}
-
-pub loop-i-init : goal.loop-i-init
-loop-i-init c = (search rules, simp (zero-mul, add-zero, sub-zero, div-one))
-
--- the bytes of the slots before one
-passed : (i b : ℕ) → i ≤ 31 → b < 131072 → i * b < 4194304
-passed i b h l = omega (arith, mul-le-mul_right {m = i} {n = 31} b h)
-
-pub overflow_mul-i-in-loop-i-2 : goal.overflow_mul-i-in-loop-i-2
-overflow_mul-i-in-loop-i-2 c =
-    omega (arith, passed c.loop-i.i (16 * c.units-bytes.result) (omega arith) (omega arith))
-
-pub overflow_add-begin : goal.overflow_add-begin
-overflow_add-begin c =
-    omega (arith, passed c.loop-i.i (16 * c.units-bytes.result) (omega arith) (omega arith))
-
-pub slot_sound-requires : goal.slot_sound-requires
-slot_sound-requires c =
-    (omega arith, omega (arith, passed c.loop-i.i (16 * c.units-bytes.result) (omega arith) (omega arith)))
 
 -- one turn
 turn : (e : After-slot_sound) → (let a = e.args in
@@ -37,9 +17,9 @@ turn : (e : After-slot_sound) → (let a = e.args in
 turn e =
     let a = e.args in
     let u = e.units-bytes in
-    let B : (j : ℕ) → get_or a.s.now j 0 < 256 = λ j. omega (arith, e.shared_slice_known-1.given j) in
+    let B : (j : ℕ) → get_or a.s.now j 0 < 256 = λ j. omega (arith, e.type_inv.s j) in
     let b : 16 * u.result ≡ slot_bytes a.c = omega (arith, u.ensures.value, bytes-units a.c) in
-    e.loop-i.invariant.1
+    e.loop-i.invariant
     ∙ exact_walk_turn a.s.now B a.c a.begin a.at a.n e.loop-i.i a.ready a.waiting (omega arith) (omega arith) (omega arith)
     ∙ rw (
       ← b,
@@ -55,7 +35,7 @@ pub returns-then-not-slot_sound : goal.returns-then-not-slot_sound
 returns-then-not-slot_sound c = sym (turn (goal.at.returns-then-not-slot_sound c).After-slot_sound ∙ rw c.if-not-slot_sound.true)
 
 pub loop-i-preserved : goal.loop-i-preserved
-loop-i-preserved c = (search rules, turn (goal.at.loop-i-preserved c).After-slot_sound ∙ rw c.if-not-slot_sound.false)
+loop-i-preserved c = turn (goal.at.loop-i-preserved c).After-slot_sound ∙ rw c.if-not-slot_sound.false
 
 -- past the loop the masks are left
 masks-left : (c : After-loop-i) → (let a = c.args in
@@ -64,7 +44,7 @@ masks-left : (c : After-loop-i) → (let a = c.args in
 masks-left c =
     let l = c.loop-i in
     let a = c.args in
-    l.invariant.1
+    l.invariant
     ∙ exact_walk_end a.c (a.begin + l.i * slot_bytes a.c) a.n l.i a.ready a.waiting (drop (a.at + 8 * l.i) a.s.now) (omega arith)
 
 pub returns-then-ready-n-ne0 : goal.returns-then-ready-n-ne0

@@ -8,10 +8,7 @@ use Rattle.slot_walks.proofs.slots_walk.Given as goal
 
 abbrev pub invariant-loop-i : goal.invariant-loop-i
 invariant-loop-i l =
-    (l.i ≤ l.n) × (l.bytes ≤ 16777216 * l.i)
+    (l.bytes ≤ 16777216 * l.i)
     × (slots_checked l.most l.least l.n l.ready l.waiting (drop l.at l.s)
     ≡ (l.sound && slots_checked l.most l.least (l.n - l.i) (l.ready / 2 ^ l.i) (l.waiting / 2 ^ l.i) (drop (l.at + 8 * l.i) l.s)))
     × (sizes_in l.n (drop l.at l.s) ≡ l.bytes + sizes_in (l.n - l.i) (drop (l.at + 8 * l.i) l.s))
-
-abbrev pub decreases-loop-i : goal.decreases-loop-i
-decreases-loop-i l = l.n - l.i

@@ -1,9 +1,8 @@
 -- `members_counted` meets its contract: the law of a group's slots, over what the calls give.
-use Rattle.mem.proofs.Prelude.{◌∙◌, ◌≡◌, sym, ap, true, ◌&&◌, not, eqb, ◌+◌, ◌-◌, arith, rules, not-true, not-false, drop}
+use Rattle.mem.proofs.Prelude.{◌∙◌, ◌≡◌, sym, ap, true, ◌&&◌, not, eqb, ◌+◌, ◌-◌, arith, rules, not-true, not-false, drop, Some, None}
 use Rattle.mem.proofs.Prelude.{eq-eqb, ne_eqb, ones}
 use Rattle.mem.proofs.Tests.{true-T, choose-true, choose-false}
 use Rattle.model.specs.Tables.{view_group}
-use Rattle.rows.specs.declared.Counted.TheVariants.{Sound, Unsound}
 use Rattle.soundness.specs.Checks.{members_checked}
 use Rattle.rows.specs.Counts.{group_totals}
 use Rattle.soundness.proofs.Groups.{members_law, slots_few}
@@ -26,7 +25,7 @@ pub returns-then-not-found : goal.returns-then-not-found
 returns-then-not-found c =
     let a = c.args in
     let t = drop a.at a.s.now in
-    sym (choose-false (members_checked a.c a.begin t) (Sound (group_totals a.k (view_group a.c t))) Unsound
+    sym (choose-false (members_checked a.c a.begin t) (Some (group_totals a.k (view_group a.c t))) None
     (law (goal.at.returns-then-not-found c).After-slots_right-found ∙ rw (not-true c.slots_right-found.result.sound c.if-not-found.true)))
 
 -- the slots passed
@@ -50,7 +49,7 @@ pub returns-then-t-eq0 : goal.returns-then-t-eq0
 returns-then-t-eq0 c =
     let a = c.args in
     let t = drop a.at a.s.now in
-    sym (choose-false (members_checked a.c a.begin t) (Sound (group_totals a.k (view_group a.c t))) Unsound
+    sym (choose-false (members_checked a.c a.begin t) (Some (group_totals a.k (view_group a.c t))) None
     (live_law (goal.at.returns-then-t-eq0 c).After-group_totals-t ∙ ap not (eq-eqb c.group_totals-t.result.blocks 0 (omega arith))))
 
 pub returns : goal.returns
@@ -60,7 +59,7 @@ returns c =
     let a = c.args in
     let t = drop a.at a.s.now in
     let right : members_checked a.c a.begin t ≡ true = live_law (goal.at.returns c).After-group_totals-t ∙ ap not (ne_eqb c.group_totals-t.result.blocks 0 (λ z. omega arith)) in
-    ap Sound (c.group_totals-t.ensures
+    ap Some (c.group_totals-t.ensures
     ∙ members_totals a.s.now a.at a.c a.begin a.n r.result w.result right c.requires.record_in_bounds.2 r.ensures w.ensures
     c.slots_right-found.result.bytes a.k c.slots_right-found.ensures.bytes_value)
-    ∙ sym (choose-true (members_checked a.c a.begin t) (Sound (group_totals a.k (view_group a.c t))) Unsound right)
+    ∙ sym (choose-true (members_checked a.c a.begin t) (Some (group_totals a.k (view_group a.c t))) None right)

@@ -1,6 +1,7 @@
 -- `span_counted` meets its contract, by what begins with its rows.
-use Rattle.mem.proofs.Prelude.{◌∙◌, ◌≡◌, sym, ◌*◌, rules, drop}
+use Rattle.mem.proofs.Prelude.{◌∙◌, ◌≡◌, sym, ap, Some, None, Option, ◌*◌, rules, arith, drop}
 use Rattle.model.specs.Tables.{row_at, masks_layout, view_group}
+use Rattle.model.proofs.SixTotals.{zero_totals}
 use Rattle.rows.specs.declared.Frame.{Frame}
 use Rattle.rows.specs.Checks.{group_checked}
 use Rattle.rows.specs.Counts.{count_if, group_totals, frame_counted, span_counted}
@@ -9,26 +10,30 @@ use Rattle.soundness.proofs.span_counted.Goals as goal
 use Rattle.soundness.proofs.span_counted.Goals.{After-frame_at}
 
 -- what was found of its rows
-framed : (e : After-frame_at) (f : Frame) → (let a = e.args in
+framed : (e : After-frame_at) (f : Option Frame) → (let a = e.args in
     let t = drop (row_at a.i) a.room.now in
-    e.frame_at.result ≡ f → span_counted masks_layout a.row (a.row * a.i) a.n t
-    ≡ frame_counted f (λ c k. count_if (group_checked masks_layout (a.row * a.i) c t) (group_totals k (view_group c t))))
+    e.frame_at.result ≡ f → span_counted masks_layout a.row.bytes (a.row.bytes * a.i) a.n t
+    ≡ frame_counted f (λ c k. count_if (group_checked masks_layout (a.row.bytes * a.i) c t) (group_totals k (view_group c t))))
 framed e f q =
     let a = e.args in
-    frame_counted_lem masks_layout a.row (a.row * a.i) a.n (drop (row_at a.i) a.room.now) f (sym e.frame_at.ensures ∙ q)
+    frame_counted_lem masks_layout a.row.bytes (a.row.bytes * a.i) a.n (drop (row_at a.i) a.room.now) f (sym e.frame_at.ensures ∙ q)
 
 pub group_counted-requires : goal.group_counted-requires
 group_counted-requires c =
-    let g = frame-group c.args.row c.args.n c.in-Group.class c.in-Group.rows (drop (row_at c.args.i) c.args.room.now)
-    (sym c.frame_at.ensures ∙ c.in-Group.is) in
-    record { i_lt_most_rows = search rules; c_bound = g; lawful = c.requires.lawful }
+    let g = frame-group c.args.row.bytes c.args.n c.in-Group.class c.in-Group.rows (drop (row_at c.args.i) c.args.room.now)
+    (sym c.frame_at.ensures ∙ c.in_ok-frame_at.was ∙ ap Some c.in-Group.is) in
+    record { i_lt_most_rows = search rules; c_bound = g }
 
 pub returns-in-Free : goal.returns-in-Free
-returns-in-Free c = sym (framed (goal.at.returns-in-Free c).After-frame_at Frame.Free c.in-Free.is)
+returns-in-Free c =
+    rw (zero_totals c.default.result c.default.ensures)
+    (sym (framed (goal.at.returns-in-Free c).After-frame_at (Some Frame.Free) (c.in_ok-frame_at.was ∙ ap Some c.in-Free.is)))
 
 pub returns-in-Group : goal.returns-in-Group
 returns-in-Group c =
-    c.group_counted.ensures ∙ sym (framed (goal.at.returns-in-Group c).After-frame_at (Frame.Group c.in-Group.class c.in-Group.rows) c.in-Group.is)
+    c.group_counted.ensures ∙ sym (framed (goal.at.returns-in-Group c).After-frame_at (Some (Frame.Group c.in-Group.class c.in-Group.rows)) (c.in_ok-frame_at.was ∙ ap Some c.in-Group.is))
 
-pub returns-in-Unsound : goal.returns-in-Unsound
-returns-in-Unsound c = sym (framed (goal.at.returns-in-Unsound c).After-frame_at Frame.Unsound c.in-Unsound.is)
+pub returns-in_err-frame_at : goal.returns-in_err-frame_at
+returns-in_err-frame_at c =
+    let e : c.from_residual.result ≡ None = grind arith in
+    e ∙ sym (framed (goal.at.returns-in_err-frame_at c).After-frame_at None c.in_err-frame_at.was)

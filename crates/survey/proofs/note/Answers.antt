@@ -10,21 +10,21 @@ use Rattle.survey.proofs.note.Goals.{After-note_span-i, Start}
 
 pub loop-i-init : goal.loop-i-init
 loop-i-init c =
-    begin masks_layout c.args.row c.args.len c.args.room.now c.args.spare.now c.args.gaps.now c.requires.spare_value.0 c.requires.spare_value.1
+    begin masks_layout c.args.row.bytes c.args.len c.args.room.now c.args.spare.now c.args.gaps.now c.requires.spare_value.0 c.requires.spare_value.1
 
 -- the room as its laws take it
-lent : (s : Start) → Lent masks_layout s.args.row s.args.len s.args.room.now
-lent s = by_masks s.requires.room_value s.requires.lawful
+lent : (s : Start) → Lent masks_layout s.args.row.bytes s.args.len s.args.room.now
+lent s = by_masks s.requires.room_value s.args.row.lawful
 
 pub note_span-i-requires : goal.note_span-i-requires
 note_span-i-requires c =
     let a = ahead (lent (goal.at.note_span-i-requires c).Start) c.loop-i.invariant c.loop-i-test.true in
-    record { next_span = (c.args.len, a.0, a.1, a.2, a.3, a.4); lawful = search rules }
+    record { next_span = (c.args.len, a.0, a.1, a.2, a.3, a.4) }
 
 turn : (c : After-note_span-i)
     → let a = c.args in
     let x = c.note_span-i in
-    Further masks_layout a.row a.len a.room.now c.loop-i.i x.result x.new.spare x.new.gaps
+    Further masks_layout a.row.bytes a.len a.room.now c.loop-i.i x.result x.new.spare x.new.gaps
 turn c =
     further (lent (goal.at.After-note_span-i c).Start) c.loop-i.invariant c.loop-i-test.true c.note_span-i.ensures
 
@@ -46,4 +46,4 @@ shape_of-spare c =
 
 pub shape_of-gaps : goal.shape_of-gaps
 shape_of-gaps c =
-    whole_map (lent (goal.at.shape_of-gaps c).Start) (returns c) ∙ sym (ap length c.requires.spare_value.1 ∙ zeros-length (c.args.len / c.args.row))
+    whole_map (lent (goal.at.shape_of-gaps c).Start) (returns c) ∙ sym (ap length c.requires.spare_value.1 ∙ zeros-length (c.args.len / c.args.row.bytes))

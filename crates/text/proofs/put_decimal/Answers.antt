@@ -4,17 +4,6 @@ use Rattle.mem.specs.Bytes.{put}
 use Rattle.text.proofs.Laws.{digits_are, most}
 use Rattle.text.proofs.put_decimal.Goals as goal
 
-pub copy_in-requires : goal.copy_in-requires
-copy_in-requires c =
-    let a = c.args in
-    let e = c.decimal-k.ensures in
-    omega (arith, most a.n c.decimal-k.result (omega arith) e.len, e.in_bounds.1)
-
-pub overflow_add-result : goal.overflow_add-result
-overflow_add-result c =
-    let a = c.args in
-    omega (arith, most a.n c.decimal-k.result (omega arith) c.decimal-k.ensures.len)
-
 pub returns : goal.returns
 returns c =
     let a = c.args in

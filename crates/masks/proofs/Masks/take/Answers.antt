@@ -4,9 +4,6 @@ use Rattle.masks.specs.Sets.{taken}
 use Rattle.mem.proofs.Masks.{lowest-fits}
 use Rattle.masks.proofs.Masks.take.Goals as goal
 
-pub bit_of-requires : goal.bit_of-requires
-bit_of-requires c = (lowest-fits c.args.self.ready (search rules) (search rules)).0
-
 pub overflow_sub-result : goal.overflow_sub-result
 overflow_sub-result c = omega (arith, (lowest-fits c.args.self.ready (search rules) (search rules)).1)
 

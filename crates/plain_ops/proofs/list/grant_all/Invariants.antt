@@ -1,5 +1,5 @@
 -- The invariant: from here on the sizes that are left make what all of them make from the start.
-use Rattle.mem.proofs.Prelude.{◌≡◌, map, ◌≤◌, ◌-◌, length}
+use Rattle.mem.proofs.Prelude.{map}
 use Rattle.mem.specs.Bytes.{put}
 use Rattle.model.specs.State.{handle}
 use Rattle.model.specs.Plans.{enframe, reserve_all, pool_after}
@@ -12,10 +12,6 @@ use Rattle.plain_ops.proofs.list.grant_all.Given as goal
 
 abbrev pub invariant-loop-i : goal.invariant-loop-i
 invariant-loop-i l =
-    let qs = granted (reserve_all l.row (view_by slots_layout l.row l.initial.room) l.sizes) in
-    (l.i ≤ length l.sizes) × (length l.arena ≡ length l.initial.arena) × (length l.room ≡ length l.initial.room) × (length l.handles ≡ length l.initial.handles)
-    × ToGo slots_layout l.row l.sizes (written l.initial.arena (map (enframe l.row) qs)) (pool_after (view_by slots_layout l.row l.initial.room) qs) (put 0 (map (handle l.row) qs) l.initial.handles) l.i
+    let qs = granted (reserve_all l.row.bytes (view_by slots_layout l.row.bytes l.initial.room) l.sizes) in
+    ToGo slots_layout l.row.bytes l.sizes (written l.initial.arena (map (enframe l.row.bytes) qs)) (pool_after (view_by slots_layout l.row.bytes l.initial.room) qs) (put 0 (map (handle l.row.bytes) qs) l.initial.handles) l.i
     l.arena l.room l.handles
-
-abbrev pub decreases-loop-i : goal.decreases-loop-i
-decreases-loop-i l = length l.sizes - l.i

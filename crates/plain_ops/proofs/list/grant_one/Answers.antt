@@ -1,5 +1,5 @@
 -- By what is reserved.
-use Rattle.mem.proofs.Prelude.{◌∙◌, ◌≡◌, sym, ap, subst, some, length}
+use Rattle.mem.proofs.Prelude.{◌∙◌, ◌≡◌, sym, ap, subst, Some, length}
 use Rattle.classes.specs.Alignments.{ordinary}
 use Rattle.model.specs.State.{Place}
 use Rattle.model.specs.Plans.{reserve, enframe}
@@ -11,48 +11,37 @@ use Rattle.rows.specs.Rows.{block_of, handle_at, owned_at}
 use Rattle.model.specs.Blocks.{frame}
 use Rattle.mem.specs.Bytes.{put}
 use Rattle.frames.specs.Blocks.{Standing}
-use Rattle.frames.specs.Grants.{handle_or, next_arena}
+use Rattle.frames.specs.Grants.{handle_of, next_arena}
 use Rattle.frames.proofs.Places.{reserved_stands}
 use Rattle.plain_tables.proofs.Opens.{by_slots}
-use Rattle.plain_ops.proofs.Reserves.{reserved_place, reserved-none}
+use Rattle.frames.proofs.Reserved.{reserved_place}
 use Rattle.plain_ops.proofs.list.grant_one.Goals as goal
-use Rattle.plain_ops.proofs.list.grant_one.Goals.{In-Taken}
-
-pub returns-in_default : goal.returns-in_default
-returns-in_default c =
-    let a = c.args in
-    let r = reserved-none a.row (reserve a.row (view_by slots_layout a.row a.room.now) ordinary a.n)
-    (sym c.reserve_slot.ensures.value ∙ c.in_default.is) in
-    record { value = sym (ap (handle_or a.row) r); arena_after = sym (ap (next_arena a.row a.arena.now) r); room_after = c.reserve_slot.ensures.room_after }
+use Rattle.plain_ops.proofs.list.grant_one.Goals.{In_ok-b}
 
 -- the place that is reserved
-place : (c : In-Taken) → (let a = c.args in
-    (q : Place) × (reserve a.row (view_by slots_layout a.row a.room.now) ordinary a.n ≡ some q) × (block_of a.row q ≡ c.in-Taken.b))
+place : (c : In_ok-b) → (let a = c.args in
+    (q : Place) × (reserve a.row.bytes (view_by slots_layout a.row.bytes a.room.now) ordinary a.n ≡ Some q) × (block_of a.row.bytes q ≡ c.in_ok-b.b))
 place c =
     let a = c.args in
-    reserved_place a.row (reserve a.row (view_by slots_layout a.row a.room.now) ordinary a.n) c.in-Taken.b
-    (sym c.reserve_slot.ensures.value ∙ c.in-Taken.is)
+    reserved_place a.row.bytes (reserve a.row.bytes (view_by slots_layout a.row.bytes a.room.now) ordinary a.n) c.in_ok-b.b
+    (sym c.reserve_slot.ensures.value ∙ c.in_ok-b.was)
 
 pub lay_out-requires : goal.lay_out-requires
 lay_out-requires c =
     let a = c.args in
-    let (q, f, e) = place (goal.at.lay_out-requires c).In-Taken in record {
-      standing = subst (Standing a.row (length a.arena.now)) e
-          (reserved_stands (by_slots c.requires.room_value c.requires.lawful) ordinary a.n (plain c.requires.n_lt_limit) q f);
-      lawful = c.requires.lawful;
+    let (q, f, e) = place (goal.at.lay_out-requires c).In_ok-b in record {
+      standing = subst (Standing a.row.bytes (length a.arena.now)) e
+          (reserved_stands (by_slots c.requires.room_value c.args.row.lawful) ordinary a.n (plain c.requires.n_lt_limit) q f);
     }
 
 pub returns : goal.returns
 unfolding enframe
 returns c =
     let a = c.args in
-    let (q, f, e) = place (goal.at.returns c).In-Taken in
+    let (q, f, e) = place (goal.at.returns c).In_ok-b in
     let l = c.lay_out.ensures in record {
-      value = l.value ∙ ap (handle_at a.row) (sym e) ∙ sym (ap (handle_or a.row) f);
-      arena_after = l.arena_after ∙ ap (λ (b : Block). put (owned_at a.row b) (frame b.class b.slot b.alloc.disp b.alloc.size) a.arena.now) (sym e)
-          ∙ sym (ap (next_arena a.row a.arena.now) f);
+      value = ap Some (l.value ∙ ap (handle_at a.row.bytes) (sym e)) ∙ sym (ap (handle_of a.row.bytes) f);
+      arena_after = l.arena_after ∙ ap (λ (b : Block). put (owned_at a.row.bytes b) (frame b.class b.slot b.alloc.disp b.alloc.size) a.arena.now) (sym e)
+          ∙ sym (ap (next_arena a.row.bytes a.arena.now) f);
       room_after = c.reserve_slot.ensures.room_after;
     }
-
-pub reserve_slot-requires : goal.reserve_slot-requires
-reserve_slot-requires c = record { room_value = c.requires.room_value; askable = plain c.requires.n_lt_limit; lawful = c.requires.lawful }

@@ -1,7 +1,0 @@
--- `grant_aligned_by` meets its contract.
-use Rattle.model.specs.Answers.{reply_answer}
-use Rattle.answers.proofs.Gives.{gives}
-use Rattle.slotpool.proofs.grant_aligned_by.Goals as goal
-
-pub returns : goal.returns
-returns c = let k = c.grant_aligned-r in gives (reply_answer k.result.reply) c.number_of.ensures c.value_of.ensures k.ensures

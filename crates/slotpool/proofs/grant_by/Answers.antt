@@ -1,7 +1,0 @@
--- `grant_by` meets its contract.
-use Rattle.model.specs.Answers.{reply_answer}
-use Rattle.answers.proofs.Gives.{gives}
-use Rattle.slotpool.proofs.grant_by.Goals as goal
-
-pub returns : goal.returns
-returns c = let k = c.grant-r in gives (reply_answer k.result.reply) c.number_of.ensures c.value_of.ensures k.ensures
