@@ -2,22 +2,18 @@
 #![tactic(auto)]
 
 ghost use Rattle.std.specs.Prelude.{◌≡◌, get_or};
-ghost use Rattle.model.specs.Answers.{number_of, listed, reply_answer, report_answer};
+ghost use Rattle.model.specs.Answers.{listed, reply_answer, report_answer};
+ghost use Rattle.answers.specs.Numbers.{number_in};
 
 use model::{Refusal, Totals};
 
-fn refusal_number(r: Refusal) -> u32
-    ensures { result ≡ number_of r }
-{
-    r as u32
-}
-
-pub fn number_of(r: Result<usize, Refusal>) -> u32
-    ensures { result ≡ (reply_answer r).number }
+// 0, done, or the number of the refusal, whatever the answer's values are.
+pub fn number_of<T: Copy>(r: Result<T, Refusal>) -> u32
+    ensures { result ≡ number_in r }
 {
     match r {
         Ok(_) => 0,
-        Err(x) => refusal_number(x),
+        Err(x) => x as u32,
     }
 }
 
@@ -25,15 +21,6 @@ pub fn value_of(r: Result<usize, Refusal>) -> usize
     ensures { result ≡ get_or (reply_answer r).values 0 0 }
 {
     r.unwrap_or(0)
-}
-
-pub fn report_number(r: Result<Totals, Refusal>) -> u32
-    ensures { result ≡ (report_answer r).number }
-{
-    match r {
-        Ok(_) => 0,
-        Err(x) => refusal_number(x),
-    }
 }
 
 pub fn report_values(r: Result<Totals, Refusal>) -> [usize; 6]

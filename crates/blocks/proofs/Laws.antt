@@ -1,28 +1,14 @@
 -- Laws of guards and frames: the writes that make them.
-use Rattle.mem.proofs.Prelude.{◌∙◌, ◌≡◌, sym, ap, List, ◌∷◌, ◌++◌, append-nil, ◌+◌, ℕ, ◌<◌, ◌≤◌, ◌*◌, ◌-◌, ◌/◌, sub-zero, min, arith, length}
-use Rattle.mem.specs.Bytes.{zeros, low, put}
+use Rattle.mem.proofs.Prelude.{◌∙◌, ◌≡◌, sym, ap, List, ◌++◌, ◌+◌, ℕ, ◌<◌, ◌≤◌, ◌*◌, ◌-◌, arith, length}
+use Rattle.mem.specs.Bytes.{zeros, put}
 use Rattle.mem.proofs.Laws.{zeros-length, zeros-add, put-append, put_cover, put_at, put_back, put_all}
-use Rattle.classes.specs.Classes.{units_of, slot_bytes}
+use Rattle.classes.specs.Classes.{slot_bytes}
 use Rattle.classes.proofs.Laws.{bytes-units, units_small}
 use Rattle.model.specs.Blocks.{reserved, header, guard, spare, frame}
-use Rattle.model.proofs.Blocks.{header-length, guard_none, guard-length, spare-length}
+use Rattle.model.proofs.Blocks.{header-length, guard-length, spare-length}
 
 pub bytes_small : (c : ℕ) → slot_bytes c < 131072
 bytes_small c = omega (arith, bytes-units c, units_small c)
-
--- a slot's units, by its bytes
-pub units_in : (c : ℕ) → slot_bytes c / 16 ≡ units_of c
-units_in c = omega (arith, bytes-units c)
-
--- the header, by the reserved count
-pub header_by : (c i d n r : ℕ) → r ≡ reserved c d n → 0 ∷ (i + 32 * min 5 r) ∷ low 2 (i * units_of c + d) ≡ header c i d n
-unfolding header
-header_by c i d n r e = rw e
-
--- too few reserved bytes for a guard are zeros
-pub spare-short : (r : ℕ) → r < 5 → spare r ≡ zeros r
-unfolding spare
-spare-short r h = rw (guard_none r h, sub-zero) (append-nil (zeros r))
 
 -- zeros, and the guard over their end
 pub spare-put : (p r : ℕ) (s : List ℕ) → 5 ≤ r → put (p + (r - 5)) (guard r) (put p (zeros r) s) ≡ put p (spare r) s
@@ -40,13 +26,13 @@ spare-put p r s h =
 
 -- zeros, the header, and the reserved bytes at the end
 pub frame-put : (c i d n : ℕ) → 16 * d + n + 4 ≤ slot_bytes c
-    → put (slot_bytes c - reserved c d n) (spare (reserved c d n)) (put (16 * d) (header c i d n) (zeros (slot_bytes c))) ≡ frame c i d n
+    → put (16 * d + 4 + n) (spare (reserved c d n)) (put (16 * d) (header c i d n) (zeros (slot_bytes c))) ≡ frame c i d n
 unfolding frame
 frame-put c i d n h =
     let r = reserved c d n in
     let z : zeros (slot_bytes c) ≡ zeros (16 * d) ++ (zeros 4 ++ (zeros n ++ zeros r)) =
     ap zeros (omega arith) ∙ zeros-add (16 * d) (4 + (n + r)) ∙ rw (zeros-add 4 (n + r), zeros-add n r) in
-    let q : slot_bytes c - r ≡ length (zeros (16 * d)) + (length (header c i d n) + (length (zeros n) + 0)) =
+    let q : 16 * d + 4 + n ≡ length (zeros (16 * d)) + (length (header c i d n) + (length (zeros n) + 0)) =
     omega (arith, zeros-length (16 * d), header-length c i d n, zeros-length n) in
     rw (
       z,

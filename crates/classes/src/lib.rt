@@ -1,7 +1,8 @@
 // The 48 size classes: units of a slot, slots and rows of a group, and the class of a size. Alignments, by their codes.
 #![tactic(auto)]
 
-ghost use Rattle.std.specs.Prelude.{◌≡◌, ◌-◌, ◌/◌, ◌≤◌, ◌<◌, max, leb};
+ghost use Rattle.std.specs.Prelude.{◌≡◌, ◌-◌, ◌/◌, ◌≤◌, ◌<◌, max, leb, IfSome};
+ghost use Rattle.mem.specs.Lists.{nonzero};
 ghost use Rattle.classes.specs.Classes.{units_of, slots_of, rows_of, class_of, size_limit, Lawful};
 ghost use Rattle.classes.specs.Alignments.{ordinary, align_of, code_of, enlarged, round_up};
 
@@ -104,19 +105,22 @@ pub fn class_of(n: usize) -> usize
 pub struct Sized {
     pub size: usize,
     pub class: usize,
+    pub ghost class_is: { class ≡ class_of size },
+    pub ghost small: { class < 48 },
 }
 
-// A size with its class, where that of another size is at hand: the sizes of a list are often the same.
-pub fn with_class(n: usize, known: Sized) -> Sized
-    requires n_lt_limit { n < size_limit }
-    requires class_value { (known.class ≡ class_of known.size) × (known.class < 48) }
-    ensures { (result.size ≡ n) × (result.class ≡ class_of n) × (result.class < 48) }
+// A size with its class, where that of another size may be at hand: the sizes of a list are often the same.
+pub fn with_class(n: usize, known: Option<Sized>) -> Sized
+    requires { n < size_limit }
+    ensures { result.size ≡ n }
 {
-    if n == known.size {
-        return known;
+    match known {
+        Some(s) if n == s.size => s,
+        _ => Sized {
+            size: n,
+            class: class_of(n),
+        },
     }
-    let c = class_of(n);
-    Sized { size: n, class: c }
 }
 
 // The alignments that can be asked for.
@@ -136,17 +140,17 @@ fn code_at(i: usize) -> u8
     (i - 3) as u8
 }
 
-// The code of an alignment in bytes, or 0 where it is none that can be asked for.
-pub fn code_of(align: usize) -> u8
-    ensures value { result ≡ code_of align }
-    ensures small { result ≤ 9 }
+// The code of an alignment in bytes, if it is one that can be asked for.
+pub fn code_of(align: usize) -> Option<u8>
+    ensures value { result ≡ nonzero (code_of align) }
+    ensures small { IfSome result (λ k. (1 ≤ k) × (k ≤ 9)) }
 {
     for (i, p) in POWERS.iter().enumerate() {
         if usize::from(*p) == align {
-            return code_at(i);
+            return Some(code_at(i));
         }
     }
-    0
+    None
 }
 
 // The bytes of an alignment.

@@ -36,22 +36,23 @@ module _ {L : Layout} {row : ℕ} {t : List ℕ} {b : Block} {p : Place} (h : Ho
   dropped-writes e =
       rw e (ap (λ c. put (row * c.first) (zeros (row * rows_of row c.class)) a) h.block)
 
-  -- a resize in place, at being the slot's first owned byte
-  pub in_place-writes : (n at kept : ℕ) (u : List ℕ) → at ≡ owned_at row b → kept ≡ min b.alloc.size n
-      → u ≡ put (at + (16 * b.alloc.disp + 4 + kept)) (zeros (n - kept) ++ spare (reserved b.class b.alloc.disp n))
-      (put (at + 16 * b.alloc.disp) (header b.class b.slot b.alloc.disp n) a)
+  -- a resize in place
+  pub in_place-writes : (n kept : ℕ) (u : List ℕ) → kept ≡ min b.alloc.size n
+      → u ≡ put (owned_at row b + (16 * b.alloc.disp + 4 + kept)) (zeros (n - kept) ++ spare (reserved b.class b.alloc.disp n))
+      (put (owned_at row b + 16 * b.alloc.disp) (header b.class b.slot b.alloc.disp n) a)
       → u ≡ written a (resize_at row p n).changes
   unfolding resize_at
-  in_place-writes n at kept u ea ek eu =
+  in_place-writes n kept u ek eu =
       let c : Block = block_of row p in
+      let at : ℕ = owned_at row c in
       let d : ℕ = disp p.state in
       let k : ℕ = min (size p.state) n in
-      let f : at ≡ owned_at row c = ea ∙ ap (owned_at row) h.block in
       let g : kept ≡ k = ek ∙ ap (λ b. min b.alloc.size n) h.block in
       let y : at + 16 * d ≡ start row p - 4 = omega arith in
       let z : at + (16 * d + 4 + k) ≡ start row p + k = omega arith in
-      eu ∙ ap (λ b. put (at + (16 * b.alloc.disp + 4 + kept)) (zeros (n - kept) ++ spare (reserved b.class b.alloc.disp n))
-      (put (at + 16 * b.alloc.disp) (header b.class b.slot b.alloc.disp n) a)) h.block
+      eu
+      ∙ ap (λ b. put (owned_at row b + (16 * b.alloc.disp + 4 + kept)) (zeros (n - kept) ++ spare (reserved b.class b.alloc.disp n))
+      (put (owned_at row b + 16 * b.alloc.disp) (header b.class b.slot b.alloc.disp n) a)) h.block
       ∙ ap (λ j. put (at + (16 * d + 4 + j)) (zeros (n - j) ++ spare (reserved p.cls d n)) (put (at + 16 * d) (header p.cls (slot_number p) d n) a)) g
       ∙ ap₂ (λ i j. put j (zeros (n - k) ++ spare (reserved p.cls d n)) (put i (header p.cls (slot_number p) d n) a)) y z
 

@@ -1,16 +1,17 @@
 // A block in the arena, whatever tables it is in: where it lies and its handle, laid out, cleared, judged by what was found at its start.
 #![tactic(auto)]
 
-ghost use Rattle.std.specs.Prelude.{◌≡◌, ◌+◌, ◌*◌, ◌≤◌, ◌<◌, min, length};
+ghost use Rattle.std.specs.Prelude.{◌≡◌, ◌++◌, ◌+◌, ◌*◌, ◌-◌, ◌≤◌, ◌<◌, length};
 ghost use Rattle.mem.specs.Bytes.{zeros, put, part};
 ghost use Rattle.classes.specs.Classes.{slot_bytes, rows_of};
 ghost use Rattle.classes.specs.Alignments.{Askable};
 ghost use Rattle.model.specs.State.{use_bits, start_of};
-ghost use Rattle.model.specs.Blocks.{damage_in, frame};
+ghost use Rattle.model.specs.Blocks.{reserved, header, spare, damage_in, frame};
 ghost use Rattle.model.specs.Tables.{most_rows};
 ghost use Rattle.rows.specs.Rows.{owned_at, start_at, handle_at};
 ghost use Rattle.frames.specs.Blocks.{Standing, Lies, code_found, bits_found, judged, judged_for, stays_in};
 
+use blocks::Framed;
 use classes::Row;
 use model::Refusal;
 use rows::{Block, Looked};
@@ -66,20 +67,27 @@ pub fn handle_of(row: Row, b: Block) -> usize
     start_of(row, b) + use_bits(b.alloc.count)
 }
 
+// How a block is framed that has n bytes where a block stands.
+fn framed(b: Block, n: usize) -> Framed
+    requires class_bound { (b.class < 48) × (b.slot < 31) }
+    requires fits { 16 * b.alloc.disp + n + 4 ≤ slot_bytes b.class }
+    ensures { (result.class ≡ b.class) × (result.slot ≡ b.slot) × (result.disp ≡ b.alloc.disp) × (result.size ≡ n) }
+{
+    Framed {
+        class: b.class,
+        slot: b.slot,
+        disp: b.alloc.disp,
+        size: n,
+    }
+}
+
 // Whether the header and the guard of a block are those due.
 fn inspect(row: Row, arena: &[u8], b: Block) -> Result<(), Refusal>
     requires standing { Standing row.bytes (length arena.now) b }
     ensures { result ≡ damage_in b.class b.slot b.alloc.disp b.alloc.size
         (part (owned_at row.bytes b) (slot_bytes b.class) arena.now) }
 {
-    blocks::inspect_at(
-        arena,
-        owned_of(row, b),
-        b.class,
-        b.slot,
-        b.alloc.disp,
-        b.alloc.size,
-    )
+    framed(b, b.alloc.size).inspect_at(arena, owned_of(row, b))
 }
 
 // Writes zero over a block's slot, then its header and guard (mallocng's enframe). Gives the block's handle.
@@ -88,18 +96,23 @@ pub fn lay_out(row: Row, arena: &mut [u8], b: Block) -> usize
     ensures value { result ≡ handle_at row.bytes b }
     ensures arena_after { arena.new ≡ put (owned_at row.bytes b) (frame b.class b.slot b.alloc.disp b.alloc.size) arena.old }
 {
-    let bytes = 16 * classes::units(b.class);
+    let frame = framed(b, b.alloc.size);
+    let bytes = frame.bytes();
     let at = owned_in(row, b, bytes);
-    blocks::enframe_at(
-        arena,
-        at,
-        at + bytes,
-        b.class,
-        b.slot,
-        b.alloc.disp,
-        b.alloc.size,
-    );
+    frame.enframe_at(arena, at, at + bytes);
     at + 4 + 16 * b.alloc.disp + use_bits(b.alloc.count)
+}
+
+// Lays a block out with n bytes where it stands: the first bytes stay, as many as the lesser of both sizes.
+pub fn reframe(row: Row, arena: &mut [u8], b: Block, kept: usize, n: usize)
+    requires standing { Standing row.bytes (length arena.old) b }
+    requires fits { 16 * b.alloc.disp + n + 4 ≤ slot_bytes b.class }
+    requires kept_le_n { kept ≤ n }
+    ensures { arena.new ≡ put (owned_at row.bytes b + (16 * b.alloc.disp + 4 + kept))
+        (zeros (n - kept) ++ spare (reserved b.class b.alloc.disp n))
+        (put (owned_at row.bytes b + 16 * b.alloc.disp) (header b.class b.slot b.alloc.disp n) arena.old) }
+{
+    framed(b, n).reframe_at(arena, owned_of(row, b), kept);
 }
 
 // Writes zero over a block's slot.
@@ -179,12 +192,6 @@ pub fn judge_for(
         return Err(Refusal::TooLarge);
     }
     judge(row, arena, found, handle)
-}
-
-pub fn lesser(a: usize, b: usize) -> usize
-    ensures { result ≡ min a b }
-{
-    if a < b { a } else { b }
 }
 
 // Whether a block of n bytes can stay in its slot: it fits, and its class is that of the enlarged size or the next one up.

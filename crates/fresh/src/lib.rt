@@ -10,11 +10,7 @@ ghost use Rattle.model.specs.Tables.{room_for};
 pub fn room_len(arena_len: usize) -> usize
     ensures { result ≡ room_for row_bytes arena_len }
 {
-    let n = rows::rows_in(classes::ROW, arena_len);
-    if n == 0 {
-        return 0;
-    }
-    rows::row_at(n)
+    rows::rows_in(classes::ROW, arena_len).map_or(0, rows::row_at)
 }
 
 // Writes tables with no groups, for an arena of len bytes.

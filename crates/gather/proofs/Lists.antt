@@ -1,5 +1,5 @@
 -- The planner, by whether a list can be planned: what it answers, and what it leaves in the array s.
-use Rattle.mem.proofs.Prelude.{◌∙◌, ◌≡◌, sym, ap, subst, true, false, List, [], ◌∷◌, ℕ, arith, length, Ok, Err}
+use Rattle.mem.proofs.Prelude.{◌∙◌, ◌≡◌, sym, ap, true, false, List, [], ◌∷◌, ℕ, arith, length, Ok, Err}
 use Rattle.mem.specs.Bytes.{put}
 use Rattle.mem.proofs.Tests.{choose-true, choose-false, T_true, true-T}
 use Rattle.mem.proofs.Laws.{put-nil}

@@ -12,6 +12,7 @@ ghost use Rattle.frames.specs.Listed.{Listed};
 ghost use Rattle.gather.specs.Planned.{Planned};
 
 use model::{Refusal, Totals};
+use soundness::ByMasks;
 
 // Check list: whether a proposal for a list of total bytes is accepted.
 pub fn check_list(total: usize, cap: usize, sizes: &[usize]) -> bool
@@ -58,7 +59,7 @@ pub fn grant_list(
     if !proposals::accepts(total, cap, sizes) {
         return Err(Refusal::BadProposal);
     }
-    if !survey::fits(classes::ROW, len, room, sizes) {
+    if !walks::fits::<ByMasks>(classes::ROW, len, room, sizes) {
         return Err(Refusal::NoRoom);
     }
     lists::grant_all(classes::ROW, arena, room, t, sizes, handles);

@@ -76,14 +76,8 @@ pub fn put_line(out: &mut [u8], at: usize, count: usize, told: Said) -> usize
     ensures small { result ≤ at + 45 }
 {
     match told {
-        Said::One(r) => {
-            let values = [answers::value_of(r)];
-            put_answer(out, at, answers::number_of(r), &values)
-        }
-        Said::Six(r) => {
-            let values = answers::report_values(r);
-            put_answer(out, at, answers::report_number(r), &values)
-        }
+        Said::One(r) => put_answer(out, at, answers::number_of(r), &[answers::value_of(r)]),
+        Said::Six(r) => put_answer(out, at, answers::number_of(r), &answers::report_values(r)),
         Said::Bad => put_bad(out, at, count),
     }
 }

@@ -1,5 +1,6 @@
 -- One grant of a list, and what the search and the totals go on with.
 use Rattle.mem.proofs.Prelude.{◌∙◌, ◌≡◌, sym, ap, subst, Option, Some, None, List, [], ◌∷◌, ◌++◌, ℕ, ◌<◌, arith, eqb, eqb-true, get_or}
+use Rattle.std.specs.Prelude.{IfSome, MatchOption}
 use Rattle.mem.specs.Lists.{choose}
 use Rattle.mem.specs.Bytes.{put}
 use Rattle.mem.proofs.Tests.{choose_case}
@@ -59,6 +60,12 @@ pub begins : {row : ℕ} {t : List ℕ} (c last from : ℕ) → NoneOpen masks_l
 begins {row} {t} c last from p =
     choose_case (NoneOpen masks_layout row t c) (eqb c last) from 0 (λ e. subst (λ k. NoneOpen masks_layout row t k from) (sym (eqb-true c last e)) p)
     (λ e. open_start masks_layout row t c)
+
+-- where it begins by what was asked for last, if anything
+pub begins_by : {S : Type 0} {row : ℕ} {t : List ℕ} (class : S → ℕ) (o : Option S) (c from r : ℕ) → IfSome o (λ s. NoneOpen masks_layout row t (class s) from)
+    → MatchOption o (r ≡ 0) (λ s. r ≡ choose (eqb c (class s)) from 0) → NoneOpen masks_layout row t c r
+begins_by {row = row} {t = t} class None c from r i m = subst (NoneOpen masks_layout row t c) (sym m) (open_start masks_layout row t c)
+begins_by {row = row} {t = t} class (Some s) c from r i m = subst (NoneOpen masks_layout row t c) (sym m) (begins c (class s) from i)
 
 -- after one grant further the search for its class goes on where its group is, and the totals are those of the pool
 module _ {row : ℕ} {ns A : List ℕ} {Q : Pool} {M : List ℕ} {i : ℕ} {t b u l : List ℕ} (x : Further masks_layout row ns A Q M i t b u l) where

@@ -1,7 +1,7 @@
 // The grants of a list that fits, one after the other.
 #![tactic(auto)]
 
-ghost use Rattle.std.specs.Prelude.{◌≡◌, true, map, ◌≤◌, ◌<◌, eqb, ltb, length, is_some};
+ghost use Rattle.std.specs.Prelude.{◌≡◌, true, map, ◌≤◌, ◌<◌, eqb, ltb, length, is_some, MatchOption};
 ghost use Rattle.mem.specs.Lists.{choose, every};
 ghost use Rattle.mem.specs.Bytes.{put};
 ghost use Rattle.classes.specs.Classes.{class_of, size_limit};
@@ -35,7 +35,7 @@ fn grant_one(
     from: usize,
 ) -> Option<Placed>
     requires room_value { sound row.bytes (length arena.old) room.old ≡ true }
-    requires size_known { (s.size < size_limit) × (s.class ≡ class_of s.size) × (s.class < 48) × NoneOpen masks_layout row.bytes room.old s.class from
+    requires size_known { (s.size < size_limit) × NoneOpen masks_layout row.bytes room.old s.class from
         × (t.old ≡ totals row.bytes (view row.bytes room.old)) }
     ensures value { result ≡ placed_as row.bytes (reserve row.bytes (view row.bytes room.old) ordinary s.size) }
     ensures arena_after { arena.new ≡ next_arena row.bytes arena.old (reserve row.bytes (view row.bytes room.old) ordinary s.size) }
@@ -52,10 +52,13 @@ fn grant_one(
 }
 
 // Where the search for a class begins: where the last one ended, if it was for the same class.
-fn begin(c: usize, last: usize, from: usize) -> usize
-    ensures { result ≡ choose (eqb c last) from 0 }
+fn begin(c: usize, last: Option<Sized>, from: usize) -> usize
+    ensures { MatchOption last (result ≡ 0) (λ s. result ≡ choose (eqb c s.class) from 0) }
 {
-    if c == last { from } else { 0 }
+    match last {
+        Some(s) if c == s.class => from,
+        _ => 0,
+    }
 }
 
 // Grants sizes that fit, and writes the handles to the front of a list.
@@ -79,13 +82,13 @@ pub fn grant_all(
     ensures totals_after { t.new
         ≡ totals row.bytes (pool_after (view row.bytes room.old) (granted (reserve_all row.bytes (view row.bytes room.old) sizes.now))) }
 {
-    let mut last = Sized { size: 0, class: 0 };
+    let mut last = None;
     let mut from = 0;
     for (i, n) in sizes.iter().enumerate() {
         let s = classes::with_class(*n, last);
-        let p = grant_one(row, arena, room, t, s, begin(s.class, last.class, from)).unwrap();
+        let p = grant_one(row, arena, room, t, s, begin(s.class, last, from)).unwrap();
         handles[i] = p.handle;
         from = p.first;
-        last = s;
+        last = Some(s);
     }
 }

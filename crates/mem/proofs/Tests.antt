@@ -1,11 +1,11 @@
 -- Laws of tests: conjunctions as facts, tests over a list, choices.
-use Rattle.mem.proofs.Prelude.{◌≡◌, ap, refl, subst, true, Bool, false, ◌&&◌, not, ◌||◌, true≢false, List, [], ◌∷◌, ◌++◌, map, ℕ, ◌<◌, suc, zero, arith}
+use Rattle.mem.proofs.Prelude.{◌≡◌, ap, refl, subst, Some, None, true, Bool, false, ◌&&◌, not, ◌||◌, true≢false, List, [], ◌∷◌, ◌++◌, map, ℕ, ◌<◌, suc, zero, arith}
 use Rattle.mem.proofs.Prelude.{T, eqb, eqb→eq, eqb_refl, length, get_or}
 use Prim.Native.Nat.{suc-le-suc}
 use native.Mathlib.Nat.{not-suc-le-zero, le_of_suc-le-suc, zero-lt-suc}
 use mathlib.Core.Bool.{false≢true}
 use lib.Bits.{bit_or, or_add_and, and_le_l, and_le_r}
-use Rattle.mem.specs.Lists.{every, any, choose}
+use Rattle.mem.specs.Lists.{every, any, choose, nonzero}
 
 pub and_left : (a b : Bool) → T (a && b) → T a
 and_left true b t = tt
@@ -132,3 +132,17 @@ or-none a b =
     let x = eqb→eq a 0 (and_left (eqb a 0) (eqb b 0) t) in
     let y = eqb→eq b 0 (and_right (eqb a 0) (eqb b 0) t) in
     eq→eqb (bit_or a b) 0 (omega arith))
+
+-- numbers that are not 0
+pub nonzero_some : (n k : ℕ) → nonzero n ≡ Some k → (n ≡ k) × (0 < k)
+nonzero_some zero k e = cc
+nonzero_some (suc n) k e = let f : suc n ≡ k = cc in (f, omega (arith, f))
+
+pub nonzero_none : (n : ℕ) → nonzero n ≡ None → n ≡ 0
+nonzero_none zero e = refl
+nonzero_none (suc n) e = cc
+
+pub nonzero_of : (n k : ℕ) → 0 < k → k ≡ n → Some k ≡ nonzero n
+nonzero_of n zero h e = absurd (not-suc-le-zero h)
+nonzero_of zero (suc k) h e = cc
+nonzero_of (suc n) (suc k) h e = ap Some e

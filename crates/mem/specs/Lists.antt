@@ -29,6 +29,11 @@ module _ {ℓ} {A : Type ℓ} where
   join f [] = []
   join f (x ∷ xs) = f x ++ join f xs
 
+-- a number that is not 0, as an option
+abbrev pub nonzero : ℕ → Option ℕ
+nonzero zero = None
+nonzero (suc n) = Some (suc n)
+
 -- the first element that passes the test
 abbrev pub find : {A : Type 0} → (A → Bool) → List A → Option A
 find f [] = None

@@ -1,53 +1,20 @@
-// What the calls do with a block, over arena and tables: locate it, give it back, resize it in place, move it; a slot is reserved in `reserving`. What changes
-// the tables is lent their totals too, and keeps them those of the tables.
+// What the calls do with a block, over arena and tables: give it back, resize it in place, move it; it is located in `walks`, and a slot is reserved
+// in `reserving`. What changes the tables is lent their totals too, and keeps them those of the tables.
 #![tactic(auto)]
 
 ghost use Rattle.std.specs.Prelude.{◌≡◌, true, length};
 ghost use Rattle.classes.specs.Alignments.{Askable};
-ghost use Rattle.model.specs.State.{Place, start_of, pool_of};
-ghost use Rattle.model.specs.Plans.{lookup, release_at, in_place_at, move_at, totals};
+ghost use Rattle.model.specs.State.{Place, pool_of};
+ghost use Rattle.model.specs.Plans.{release_at, in_place_at, move_at, totals};
 ghost use Rattle.model.specs.Tables.{masks_layout, sound, view, encode};
 ghost use Rattle.model.specs.Calls.{kept_in, engine, written};
 ghost use Rattle.rows.specs.Rows.{Holds};
-ghost use Rattle.frames.specs.Blocks.{located, located_for, CarriedOutBy};
+ghost use Rattle.frames.specs.Blocks.{CarriedOutBy};
 
 use changes::Left;
 use classes::Row;
 use model::{Refusal, Totals};
 use rows::Block;
-
-// The block of a handle, if it is live, the handle its present one, and undamaged.
-pub fn locate(row: Row, arena: &[u8], room: &[u8], handle: usize) -> Result<Block, Refusal>
-    requires room_value { sound row.bytes (length arena.now) room.now ≡ true }
-    ensures { result ≡ located row.bytes arena.now handle (lookup row.bytes (view row.bytes room.now) (start_of handle)) }
-{
-    frames::judge(
-        row,
-        arena,
-        search::find_block(row, arena.len(), room, frames::start_in(handle)),
-        handle,
-    )
-}
-
-// The same for a block that is to have n bytes.
-pub fn locate_for(
-    row: Row,
-    arena: &[u8],
-    room: &[u8],
-    handle: usize,
-    n: usize,
-) -> Result<Block, Refusal>
-    requires room_value { sound row.bytes (length arena.now) room.now ≡ true }
-    ensures { result ≡ located_for row.bytes arena.now handle n (lookup row.bytes (view row.bytes room.now) (start_of handle)) }
-{
-    frames::judge_for(
-        row,
-        arena,
-        search::find_block(row, arena.len(), room, frames::start_in(handle)),
-        handle,
-        n,
-    )
-}
 
 // Gives a live block back: its slot waits and its bytes become zero, or the group goes with its last live slot.
 pub fn discard(row: Row, arena: &mut [u8], room: &mut [u8], t: &mut Totals, b: Block)
@@ -88,16 +55,8 @@ pub fn resize_in_place(
     if !frames::stays_in(b, n) {
         return Err(Refusal::NotInPlace);
     }
-    let kept = frames::lesser(b.alloc.size, n);
-    blocks::reframe_at(
-        arena,
-        frames::owned_of(row, b),
-        b.class,
-        b.slot,
-        b.alloc.disp,
-        kept,
-        n,
-    );
+    let kept = b.alloc.size.min(n);
+    frames::reframe(row, arena, b, kept, n);
     changes::resize_slot(room, b, n);
     totals::sized(t, b.alloc.size, n);
     Ok(frames::handle_of(row, b))
@@ -127,7 +86,7 @@ pub fn move_block(
         arena,
         frames::start_of(row, b),
         frames::start_of(row, q),
-        frames::lesser(b.alloc.size, n),
+        b.alloc.size.min(n),
     );
     discard(row, arena, room, t, b);
     Ok(handle)

@@ -8,7 +8,7 @@ pub use Rattle.model.specs.Tables.{view_by}
 pub use Rattle.model.specs.Plain.{slots_layout, plain_form, plain_call}
 pub use Rattle.frames.specs.Blocks.{found_for, CarriedOutBy}
 pub use Rattle.frames.proofs.Calls.{Called, called_at, called_refused, called, carried_as, whole}
-pub use Rattle.plain_tables.proofs.Opens.{by_slots}
+pub use Rattle.plain_tables.proofs.Rooms.{by_slots}
 pub use Rattle.plain_ops.proofs.Calls.{Sound, by_check, checked, refusing}
 use Rattle.mem.proofs.Prelude.{List, ℕ, true}
 use Rattle.classes.specs.Classes.{Lawful}

@@ -12,6 +12,7 @@ ghost use Rattle.model.specs.Calls.{left};
 ghost use Rattle.frames.specs.Blocks.{found_for, CarriedOutBy};
 
 use model::{Refusal, Totals};
+use plain_sound::BySlots;
 use rows::Block;
 
 // "Set up writes zero over the whole arena and makes tables with no groups."
@@ -57,10 +58,7 @@ pub fn grant_aligned(
     if !plain_sound::sound(classes::ROW, arena.len(), room) {
         return Err(Refusal::Unsound);
     }
-    let code = classes::code_of(align);
-    if code == 0 {
-        return Err(Refusal::BadAlignment);
-    }
+    let code = classes::code_of(align).ok_or(Refusal::BadAlignment)?;
     grant_as(arena, room, code, n)
 }
 
@@ -88,7 +86,7 @@ pub fn release(arena: &mut [u8], room: &mut [u8], handle: usize) -> Result<usize
     if !plain_sound::sound(classes::ROW, arena.len(), room) {
         return Err(Refusal::Unsound);
     }
-    let b = plain_ops::locate(classes::ROW, arena, room, handle)?;
+    let b = walks::locate::<BySlots>(classes::ROW, arena, room, handle)?;
     plain_ops::discard(classes::ROW, arena, room, b);
     Ok(0)
 }
@@ -128,7 +126,7 @@ fn find(arena: &[u8], room: &[u8], handle: usize, n: usize) -> Result<Block, Ref
     if !plain_sound::sound(classes::ROW, arena.len(), room) {
         return Err(Refusal::Unsound);
     }
-    plain_ops::locate_for(classes::ROW, arena, room, handle, n)
+    walks::locate_for::<BySlots>(classes::ROW, arena, room, handle, n)
 }
 
 // "Measure gives n."
@@ -139,7 +137,7 @@ pub fn measure(arena: &[u8], room: &[u8], handle: usize) -> Result<usize, Refusa
     if !plain_sound::sound(classes::ROW, arena.len(), room) {
         return Err(Refusal::Unsound);
     }
-    let b = plain_ops::locate(classes::ROW, arena, room, handle)?;
+    let b = walks::locate::<BySlots>(classes::ROW, arena, room, handle)?;
     Ok(b.alloc.size)
 }
 
@@ -148,5 +146,5 @@ pub fn report(arena: &[u8], room: &[u8]) -> Result<Totals, Refusal>
     ensures { left (report_answer result) arena.now room.now
         ≡ plain_call row_bytes arena.now room.now reports }
 {
-    plain_sound::counted(classes::ROW, arena.len(), room).ok_or(Refusal::Unsound)
+    walks::counted::<BySlots>(classes::ROW, arena.len(), room).ok_or(Refusal::Unsound)
 }

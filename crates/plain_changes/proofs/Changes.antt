@@ -1,6 +1,7 @@
 -- What the changes of a group are to the pool's state.
 use Rattle.mem.proofs.Prelude.{◌∙◌, ◌≡◌, sym, ap, refl, ap₂, subst, true, Bool, false, not, ◌||◌, List, [], ◌∷◌, ◌++◌, map, ◌+◌, ℕ, ◌<◌, ◌≤◌, ◌*◌, suc}
-use Rattle.mem.proofs.Prelude.{arith, eq-eqb, ne_eqb, not-false, not-true, T, eqb, length, drop, length-append}
+use Rattle.mem.proofs.Prelude.{arith, eq-eqb, ne_eqb, not-false, not-true, T, eqb, length, drop, length-append, Option, Some, None}
+use Rattle.std.specs.Prelude.{MatchOption, IsSome}
 use Rattle.mem.specs.Lists.{choose, every, any, first}
 use Rattle.mem.specs.Bytes.{zeros, put}
 use Rattle.mem.proofs.Tests.{every_append, and_both}
@@ -23,11 +24,15 @@ use Rattle.rows.specs.Rows.{block_of, resized, Holds, Offers}
 use Rattle.rows.proofs.Spans.{dropped-encode}
 use Rattle.rows.proofs.Held.{held_fits, held_first, held_class, held_slot, taken_begins, block_taken}
 use Rattle.plain_slots.specs.Slots.{slot_in, stored}
-use Rattle.plain_tables.specs.Found.{live_in}
+use Rattle.plain_slots.specs.Slots.{live_in}
 use Rattle.plain_changes.specs.Changes.{turned}
 use Rattle.plain_changes.proofs.Groups.{room_of, read-group, read_slot, write_slot, turned-group}
 
 -- ---- the lowest ready slot
+
+pub some_found : {A : Type 0} (P : ℕ → Type 0) (o : Option ℕ) → MatchOption o A P → (A → ⊥) → IsSome o
+some_found P None m n = absurd (n m)
+some_found P (Some k) m n = refl
 
 some_ready : (ss : List Slot) → first is_ready ss < length ss → any is_ready ss ≡ true
 unfolding choose
@@ -52,10 +57,13 @@ module _ {row i c : ℕ} {t : List ℕ} {g : Site} (o : Offers slots_layout row 
   offered ss = room_of row o.pos g.before c g.after o.before ss
 
   -- the number is one of a group's
-  pub ready_number : (j : ℕ) → j ≡ first is_ready (refill g.slots) → j < 31
-  ready_number j e =
+  pub ready_inside : (j : ℕ) → j ≡ first is_ready (refill g.slots) → j < slots_of c
+  ready_inside j e =
       let h = (reserve.first_ready (refill g.slots) (reserve.refill_ready g.slots o.spare)).0 in
-      omega (arith, e, h, reserve.refill-length g.slots, o.slots, slots_small c)
+      omega (arith, e, h, reserve.refill-length g.slots, o.slots)
+
+  pub ready_number : (j : ℕ) → j ≡ first is_ready (refill g.slots) → j < 31
+  ready_number j e = omega (arith, ready_inside j e, slots_small c)
 
   read_in : (ss : List Slot) (u : List ℕ) → u ≡ offered ss → length ss ≡ slots_of c → T (every (slot_sound c) ss) → plain_group c (drop (row_at i) u) ≡ ss
   read_in ss u e l s =

@@ -1,8 +1,8 @@
 // Changes of one group of plain tables: take a slot, make a group, give a slot back, change a live one's size.
-// Read next: plain_survey.
+// Read next: plain_ops.
 #![tactic(auto)]
 
-ghost use Rattle.std.specs.Prelude.{◌≡◌, ◌∷◌, ◌++◌, ℕ, ◌+◌, ◌≤◌, ◌<◌, length, drop, replicate};
+ghost use Rattle.std.specs.Prelude.{◌≡◌, ◌∷◌, ◌++◌, ℕ, ◌+◌, ◌≤◌, ◌<◌, length, drop, replicate, MatchOption};
 ghost use Rattle.mem.specs.Lists.{any, first};
 ghost use Rattle.mem.specs.Bytes.{put};
 ghost use Rattle.classes.specs.Classes.{slot_bytes, slots_of, rows_of};
@@ -45,27 +45,27 @@ fn ready_slot(room: &mut [u8], i: usize, c: usize) -> usize
         → (result ≡ first is_ready (refill g.slots))
         × (room.new ≡ encode_by slots_layout row (g.before ++ (group c (refill g.slots) ∷ g.after))) }
 {
-    let j = first_ready(room, i, c);
-    if j < classes::slots(c) {
+    if let Some(j) = first_ready(room, i, c) {
         return j;
     }
     turn_all(room, i, c);
-    first_ready(room, i, c)
+    first_ready(room, i, c).unwrap()
 }
 
-// "Take its lowest ready slot." If none is ready: the number of slots.
-fn first_ready(room: &[u8], i: usize, c: usize) -> usize
+// "Take its lowest ready slot", if one is ready.
+fn first_ready(room: &[u8], i: usize, c: usize) -> Option<usize>
     requires i_lt_most_rows { (i < most_rows) × (row_at i + row_record_bytes ≤ length room.now) }
     requires c_bound { c < 48 }
-    ensures { result ≡ first is_ready (plain_group c (drop (row_at i) room.now)) }
+    ensures { MatchOption result (first is_ready (plain_group c (drop (row_at i) room.now)) ≡ slots_of c)
+        (λ j. (j ≡ first is_ready (plain_group c (drop (row_at i) room.now))) × (j < slots_of c)) }
 {
     let n = classes::slots(c);
     for j in 0..n {
         if is_ready(plain_slots::slot_at(room, i, j)) {
-            return j;
+            return Some(j);
         }
     }
-    n
+    None
 }
 
 // "a slot never granted is ready"
@@ -130,7 +130,7 @@ pub fn give_slot(row: Row, room: &mut [u8], b: Block) -> bool
         disp: b.alloc.disp,
     };
     plain_slots::store(room, i, b.slot, waiting);
-    if plain_tables::live_in(room, i, c) == 0 {
+    if plain_slots::live_in(room, i, c) == 0 {
         rows::drop_rows(room, i, classes::rows(row, c));
         return false;
     }

@@ -10,6 +10,7 @@ ghost use Rattle.model.specs.Plain.{plain_call};
 ghost use Rattle.frames.specs.Listed.{Listed};
 
 use model::Refusal;
+use plain_sound::BySlots;
 
 // 02 §3: "The list call takes a proposal, grants its sizes in order, writes the starts to the front of a lent list, keeps its later places and gives
 // the number of entries"; "Order: 2, 9, 17, 8. A refused list leaves arena, tables and lent list unchanged, use counts included."
@@ -38,7 +39,7 @@ pub fn grant_list(
     if !proposals::accepts(total, cap, sizes) {
         return Err(Refusal::BadProposal);
     }
-    if !plain_survey::fits(classes::ROW, len, room, sizes) {
+    if !walks::fits::<BySlots>(classes::ROW, len, room, sizes) {
         return Err(Refusal::NoRoom);
     }
     plain_ops::grant_all(classes::ROW, arena, room, sizes, handles);

@@ -1,22 +1,23 @@
-// What the calls do with a block, over arena and plain tables: reserve a slot, locate a block, give it back, resize it in place, move it; then, in
-// list.rt, the grants of a list. What reads no table of either engine, as header and guard of a block, is in frames and blocks. Read next: plain.
+// What the calls do with a block, over arena and plain tables: reserve a slot, give a block back, resize it in place, move it; then, in list.rt,
+// the grants of a list. A block is located in walks. What reads no table of either engine, as header and guard of a block, is in frames and blocks. Read next: plain.
 #![tactic(auto)]
 
 mod list;
 
 ghost use Rattle.std.specs.Prelude.{◌≡◌, true, ◌<◌, length};
 ghost use Rattle.classes.specs.Alignments.{Askable};
-ghost use Rattle.model.specs.State.{Place, start_of, pool_of};
-ghost use Rattle.model.specs.Plans.{site, reserve, lookup, release_at, in_place_at, move_at};
+ghost use Rattle.model.specs.State.{Place, pool_of};
+ghost use Rattle.model.specs.Plans.{site, reserve, release_at, in_place_at, move_at};
 ghost use Rattle.model.specs.Tables.{sound_by, view_by, encode_by};
 ghost use Rattle.model.specs.Plain.{slots_layout, plain_form};
 ghost use Rattle.model.specs.Calls.{written};
 ghost use Rattle.rows.specs.Rows.{site_found, Holds};
-ghost use Rattle.frames.specs.Blocks.{located, located_for, reserved_as, site_room_by, next_room_by, CarriedOutBy};
+ghost use Rattle.frames.specs.Blocks.{reserved_as, site_room_by, next_room_by, CarriedOutBy};
 
 use classes::Row;
 pub use list::grant_all;
 use model::Refusal;
+use plain_sound::BySlots;
 use rows::Block;
 
 // 02 §6: "the class and slot are those of n + align − 16"; for an ordinary block, those of n. "Larger classes are not tried."
@@ -39,46 +40,12 @@ fn site_for(row: Row, len: usize, room: &mut [u8], c: usize) -> Option<usize>
     ensures value { result ≡ site_found row.bytes (site row.bytes (view_by slots_layout row.bytes room.old) c) }
     ensures room_after { room.new ≡ site_room_by slots_layout row.bytes c room.old (site row.bytes (view_by slots_layout row.bytes room.old) c) }
 {
-    if let Some(i) = plain_tables::find_open(row, len, room, c) {
+    if let Some(i) = walks::find_open::<BySlots>(row, len, room, c, 0) {
         return Some(i);
     }
     let i = rows::find_run(row, len, room, c)?;
     plain_changes::make_group(row, room, i, c);
     Some(i)
-}
-
-// The live block of a handle, undamaged, or else why not, in the order 4, 5, 10, 6, 7. 02 §7: "starts are handles with the low four bits cleared"
-pub fn locate(row: Row, arena: &[u8], room: &[u8], handle: usize) -> Result<Block, Refusal>
-    requires room_value { sound_by slots_layout row.bytes (length arena.now) room.now ≡ true }
-    ensures { result ≡ located row.bytes arena.now handle (lookup row.bytes (view_by slots_layout row.bytes room.now) (start_of handle)) }
-{
-    frames::judge(
-        row,
-        arena,
-        plain_tables::find_block(row, arena.len(), room, frames::start_in(handle)),
-        handle,
-    )
-}
-
-// The same for a block that is to have n bytes, with 3 before 4. 02 §6: "answer 3 reads the enlarged new size where the offset starts such a live
-// block"; 02 §7: "whatever the bits"
-pub fn locate_for(
-    row: Row,
-    arena: &[u8],
-    room: &[u8],
-    handle: usize,
-    n: usize,
-) -> Result<Block, Refusal>
-    requires room_value { sound_by slots_layout row.bytes (length arena.now) room.now ≡ true }
-    ensures { result ≡ located_for row.bytes arena.now handle n (lookup row.bytes (view_by slots_layout row.bytes room.now) (start_of handle)) }
-{
-    frames::judge_for(
-        row,
-        arena,
-        plain_tables::find_block(row, arena.len(), room, frames::start_in(handle)),
-        handle,
-        n,
-    )
 }
 
 // "The slot becomes waiting and its s owned bytes zero. If no slot of the group is live, the group goes, all its rows become zero and free."
@@ -114,16 +81,8 @@ pub fn resize_in_place(
     if !frames::stays_in(b, n) {
         return Err(Refusal::NotInPlace);
     }
-    let kept = frames::lesser(b.alloc.size, n);
-    blocks::reframe_at(
-        arena,
-        frames::owned_of(row, b),
-        b.class,
-        b.slot,
-        b.alloc.disp,
-        kept,
-        n,
-    );
+    let kept = b.alloc.size.min(n);
+    frames::reframe(row, arena, b, kept, n);
     plain_changes::resize_slot(room, b, n);
     Ok(frames::handle_of(row, b))
 }
@@ -149,7 +108,7 @@ pub fn move_block(
         arena,
         frames::start_of(row, b),
         frames::start_of(row, q),
-        frames::lesser(b.alloc.size, n),
+        b.alloc.size.min(n),
     );
     discard(row, arena, room, b);
     Ok(handle)

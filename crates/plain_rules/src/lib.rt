@@ -1,4 +1,4 @@
-// Whether the record of a slot is sound, rule by rule: each rule is one test. Read next: plain_sound.
+// Whether the record of a slot is sound, rule by rule: each rule is one test. Read next: plain_tables.
 #![tactic(auto)]
 
 ghost use Rattle.std.specs.Prelude.{◌≡◌, ◌&&◌, ◌+◌, ◌*◌, ◌≤◌, ◌<◌, length, drop};

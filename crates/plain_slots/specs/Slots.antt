@@ -1,8 +1,9 @@
 -- A group's plain slot records as the code reads and writes them: t is the room from the first row's record on.
 use Rattle.std.specs.Prelude.{ℕ, ◌+◌, ◌*◌, ◌<◌, List}
-use Rattle.mem.specs.Bytes.{part, put}
+use Rattle.mem.specs.Lists.{sum}
+use Rattle.mem.specs.Bytes.{part, put, bit}
 use Rattle.model.specs.declared.Slot.{Slot}
-use Rattle.model.specs.State.{disp, size}
+use Rattle.model.specs.State.{disp, size, is_live}
 use Rattle.model.specs.Tables.{slots_at, slot_record_bytes}
 use Rattle.model.specs.Plain.{condition, plain_record, plain_in}
 
@@ -17,3 +18,7 @@ stored at j x t = put (at + (slots_at + slot_record_bytes * j)) (plain_record x)
 -- what a record has room for
 abbrev pub Small : Slot → Type 0
 Small x = (condition x < 256) × (disp x < 65536) × (size x < 16777216)
+
+-- how many slots are live
+abbrev pub live_in : List Slot → ℕ
+live_in ss = sum (λ x. bit (is_live x)) ss

@@ -5,9 +5,11 @@
 
 ghost use Rattle.std.specs.Prelude.{◌≡◌, ◌+◌, ◌*◌, ◌≤◌, ◌<◌, length, drop};
 ghost use Rattle.mem.specs.Lists.{choose};
+ghost use Rattle.mem.specs.Bytes.{bit};
+ghost use Rattle.model.specs.State.{is_live};
 ghost use Rattle.model.specs.Tables.{row_at, row_record_bytes, slots_at, slot_record_bytes, most_slots, most_rows};
-ghost use Rattle.model.specs.Plain.{plain_record, plain_slot, condition};
-ghost use Rattle.plain_slots.specs.Slots.{slot_in, stored, Small};
+ghost use Rattle.model.specs.Plain.{plain_record, plain_slot, plain_group, condition};
+ghost use Rattle.plain_slots.specs.Slots.{slot_in, stored, live_in, Small};
 
 use model::{Alloc, Slot};
 
@@ -26,6 +28,27 @@ pub fn slot_at(room: &[u8], i: usize, j: usize) -> Slot
         mem::get2(room, at + model::DISP),
         mem::get3(room, at + model::SIZE),
     )
+}
+
+// How many slots are live in the group of class c whose first row is row i.
+pub fn live_in(room: &[u8], i: usize, c: usize) -> usize
+    requires i_lt_most_rows { (i < most_rows) × (row_at i + row_record_bytes ≤ length room.now) }
+    requires c_bound { c < 48 }
+    ensures { result ≡ live_in (plain_group c (drop (row_at i) room.now)) }
+{
+    let n = classes::slots(c);
+    let mut live = 0;
+    for j in 0..n {
+        live += one_if_live(slot_at(room, i, j));
+    }
+    live
+}
+
+fn one_if_live(x: Slot) -> usize
+    ensures value { result ≡ bit (is_live x) }
+    ensures small { result ≤ 1 }
+{
+    usize::from(matches!(x, Slot::Live(_)))
 }
 
 // Where the record of slot j stands, in the group whose first row is row i.

@@ -15,7 +15,7 @@ use Rattle.rows.specs.Rows.{Lent, Passed, class_held, rows_held, looked, block_o
 use Rattle.rows.proofs.Rooms.{span_holder}
 use Rattle.rows.proofs.Walks.{Ahead, ahead, ahead_class, further, all_passed}
 use Rattle.plain_tables.specs.Found.{or_else, is_absent, slot_looked, slots_looked, row_looked}
-use Rattle.plain_tables.proofs.Opens.{group-read}
+use Rattle.plain_tables.proofs.Rooms.{group-read}
 
 or_assoc : (a b c : Looked) → or_else a (or_else b c) ≡ or_else (or_else a b) c
 or_assoc Absent b c = refl

@@ -1,3 +1,2 @@
-pub mod Walks
-pub mod Opens
+pub mod Rooms
 pub mod Blocks

@@ -1,30 +1,15 @@
 -- What the plain searches make of a group's first row and of its slots: t is the room from that row's record on.
-use Rattle.std.specs.Prelude.{ℕ, suc, ◌+◌, ◌*◌, Bool, true, false, ◌&&◌, not, List, [], ◌∷◌, eqb}
-use Rattle.mem.specs.Lists.{choose, any, sum}
-use Rattle.mem.specs.Bytes.{bit}
+use Rattle.std.specs.Prelude.{ℕ, suc, ◌+◌, ◌*◌, Bool, true, false, List, [], ◌∷◌, eqb}
+use Rattle.mem.specs.Lists.{choose}
 use Rattle.classes.specs.Classes.{slot_bytes}
 use Rattle.model.specs.declared.Holder.{Holder}
 use Rattle.model.specs.declared.Holder.TheVariants.{Free, First, Later}
 use Rattle.model.specs.declared.Slot.{Slot}
 use Rattle.model.specs.declared.Slot.TheVariants.{Fresh, Idle, Live}
-use Rattle.model.specs.State.{is_live}
 use Rattle.model.specs.Tables.{view_holder}
 use Rattle.model.specs.Plain.{plain_group}
 use Rattle.rows.specs.declared.Looked.{Looked}
 use Rattle.rows.specs.declared.Looked.TheVariants.{Present, Freed, Absent}
-
--- how many slots are live
-abbrev pub live_in : List Slot → ℕ
-live_in ss = sum (λ x. bit (is_live x)) ss
-
--- the first row of a group of class c with a slot that is not live, ss being its slots
-abbrev pub holder_opens : ℕ → List Slot → Holder → Bool
-holder_opens c ss Free = false
-holder_opens c ss (First k) = eqb k c && any (λ x. not (is_live x)) ss
-holder_opens c ss (Later k) = false
-
-unfoldable pub opens_in : ℕ → List ℕ → Bool
-opens_in c t = holder_opens c (plain_group c t) (view_holder t)
 
 -- what slot j of the group of class c with that first row is to an offset, the slot beginning at that byte of the arena
 abbrev pub slot_looked : (first c j begin offset : ℕ) → Slot → Looked

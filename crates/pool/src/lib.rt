@@ -13,6 +13,7 @@ ghost use Rattle.model.specs.Calls.{kept_in, engine, sound_kept, left, call};
 ghost use Rattle.frames.specs.Blocks.{CarriedOutBy};
 
 use model::{Refusal, Totals};
+use soundness::ByMasks;
 
 // The exact size of the table room for an arena, or 0 where the arena's length is outside the rule.
 pub fn room_len(arena_len: usize) -> usize
@@ -89,10 +90,7 @@ pub fn grant_aligned(
     if !soundness::sound(classes::ROW, arena.len(), room, t) {
         return Err(Refusal::Unsound);
     }
-    let code = classes::code_of(align);
-    if code == 0 {
-        return Err(Refusal::BadAlignment);
-    }
+    let code = classes::code_of(align).ok_or(Refusal::BadAlignment)?;
     grant_as(arena, room, t, code, n)
 }
 
@@ -109,7 +107,7 @@ pub fn release(
     if !soundness::sound(classes::ROW, arena.len(), room, t) {
         return Err(Refusal::Unsound);
     }
-    let b = ops::locate(classes::ROW, arena, room, handle)?;
+    let b = walks::locate::<ByMasks>(classes::ROW, arena, room, handle)?;
     ops::discard(classes::ROW, arena, room, t, b);
     Ok(0)
 }
@@ -122,7 +120,7 @@ pub fn measure(arena: &[u8], room: &[u8], t: &Totals, handle: usize) -> Result<u
     if !soundness::sound(classes::ROW, arena.len(), room, t) {
         return Err(Refusal::Unsound);
     }
-    let b = ops::locate(classes::ROW, arena, room, handle)?;
+    let b = walks::locate::<ByMasks>(classes::ROW, arena, room, handle)?;
     Ok(b.alloc.size)
 }
 

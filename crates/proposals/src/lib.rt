@@ -1,7 +1,7 @@
 // Gather lists: the check of a proposal, and the planner.
 #![tactic(auto)]
 
-ghost use Rattle.std.specs.Prelude.{◌≡◌, true, ◌&&◌, ◌≤◌, ◌<◌, min, eqb, length};
+ghost use Rattle.std.specs.Prelude.{◌≡◌, true, ◌&&◌, ◌≤◌, ◌<◌, eqb, length};
 ghost use Rattle.mem.specs.Lists.{every, sum};
 ghost use Rattle.mem.specs.Bytes.{put};
 ghost use Rattle.classes.specs.Classes.{size_limit};
@@ -61,12 +61,6 @@ pub fn plannable(total: usize, cap: usize) -> bool
     total <= ENTRIES * cap
 }
 
-fn lesser(a: usize, b: usize) -> usize
-    ensures { result ≡ min a b }
-{
-    a.min(b)
-}
-
 // The planner: full caps, then the rest, to the front of an array; how many they are.
 pub fn full_caps(total: usize, cap: usize, sizes: &mut [usize; 17]) -> usize
     requires { plannable «total» cap ≡ true }
@@ -76,7 +70,7 @@ pub fn full_caps(total: usize, cap: usize, sizes: &mut [usize; 17]) -> usize
     let mut left = total;
     let mut count = 0;
     while 0 < left {
-        let n = lesser(left, cap);
+        let n = left.min(cap);
         sizes[count] = n;
         left -= n;
         count += 1;

@@ -1,5 +1,5 @@
 -- A slot reserved in the first engine's tables, with the totals: the steps are those of any layout.
-use Rattle.mem.proofs.Prelude.{◌∙◌, ◌≡◌, sym, ap, refl, ap₂, subst, not, Some, None, Option, List, [], ◌∷◌, ◌++◌, ℕ, ◌<◌, arith, T, length}
+use Rattle.mem.proofs.Prelude.{◌∙◌, ◌≡◌, sym, ap, subst, not, Some, None, List, [], ◌∷◌, ◌++◌, ℕ, ◌<◌, arith, T, length}
 use Rattle.mem.proofs.Prelude.{replicate}
 use Rattle.mem.specs.Lists.{any}
 use Rattle.mem.specs.Bytes.{put}
@@ -8,7 +8,7 @@ use Rattle.classes.specs.Alignments.{enlarged, Askable}
 use Rattle.classes.proofs.Laws.{slots_small}
 use Rattle.model.specs.declared.Slot.TheVariants.{Fresh}
 use Rattle.model.specs.declared.Totals.{Totals}
-use Rattle.model.specs.State.{group, is_live, pool_of, rows}
+use Rattle.model.specs.State.{group, is_live, pool_of}
 use Rattle.model.specs.Plans.{Site, open_from, run_from, site_or, site, reserve_in, reserve, grant_in, totals}
 use Rattle.model.specs.Tables.{row_at, masks_layout, encode, view, span_records}
 use Rattle.model.proofs.Reserve.{open_found, New, run_found_lem, reserve_formed}

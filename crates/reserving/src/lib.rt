@@ -14,6 +14,7 @@ ghost use Rattle.reserving.specs.Reserves.{site_room, site_totals, next_room, ne
 use classes::Row;
 use model::Totals;
 use rows::Block;
+use soundness::ByMasks;
 
 // The group in which a slot of class c is taken: the lowest with a slot that is not live, or a new one at the lowest run of free rows. No
 // group before row `from` serves.
@@ -31,7 +32,7 @@ fn site_for(
     ensures room_after { room.new ≡ site_room row.bytes c room.old (site row.bytes (view row.bytes room.old) c) }
     ensures totals_after { t.new ≡ site_totals row.bytes c t.old (site row.bytes (view row.bytes room.old) c) }
 {
-    if let Some(i) = search::find_open(row, len, room, c, from) {
+    if let Some(i) = walks::find_open::<ByMasks>(row, len, room, c, from) {
         return Some(i);
     }
     let i = rows::find_run(row, len, room, c)?;

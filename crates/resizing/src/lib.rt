@@ -9,6 +9,7 @@ ghost use Rattle.model.specs.Plans.{resizes_in_place, moves};
 ghost use Rattle.model.specs.Calls.{kept_in, left, call};
 
 use model::{Refusal, Totals};
+use soundness::ByMasks;
 
 // Resize in place: refused where the block's slot does not serve the new size.
 pub fn resize_in_place(
@@ -24,7 +25,7 @@ pub fn resize_in_place(
     if !soundness::sound(classes::ROW, arena.len(), room, t) {
         return Err(Refusal::Unsound);
     }
-    let b = ops::locate_for(classes::ROW, arena, room, handle, n)?;
+    let b = walks::locate_for::<ByMasks>(classes::ROW, arena, room, handle, n)?;
     ops::resize_in_place(classes::ROW, arena, room, t, b, n)
 }
 
@@ -42,6 +43,6 @@ pub fn move_block(
     if !soundness::sound(classes::ROW, arena.len(), room, t) {
         return Err(Refusal::Unsound);
     }
-    let b = ops::locate_for(classes::ROW, arena, room, handle, n)?;
+    let b = walks::locate_for::<ByMasks>(classes::ROW, arena, room, handle, n)?;
     ops::move_block(classes::ROW, arena, room, t, b, n)
 }

@@ -49,9 +49,13 @@ records_holder {L} law row Y (group c ss) = ap view_holder (group-first L row c 
 
 -- ---- sound tables
 
--- by masks, as the code knows them
+-- as the code knows them
+pub lent_by : {L : Layout} → LayoutLaws L → {row n : ℕ} {t : List ℕ} → sound_by L row n t ≡ true → Lawful row → Lent L row n t
+lent_by law e h = record { laws = law; pos = omega arith; sound = e }
+
+-- those by masks
 pub by_masks : {row n : ℕ} {t : List ℕ} → sound row n t ≡ true → Lawful row → Lent masks_layout row n t
-by_masks e h = record { laws = masks_laws; pos = omega arith; sound = e }
+by_masks = lent_by masks_laws
 
 module _ {L : Layout} {row n : ℕ} {t : List ℕ} (r : Lent L row n t) where
   pub facts : Sound L row n t

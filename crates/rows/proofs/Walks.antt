@@ -58,29 +58,25 @@ module _ {A : Type 0} {L : Layout} {row n : ℕ} {t : List ℕ} (r : Lent L row 
 
 -- ---- the search for a group that can serve
 
--- what the span that begins at row i says, by a test of its first row
-pub record OpenStep (L : Layout) (row : ℕ) (t : List ℕ) (c : ℕ) (test : List ℕ → Bool) (i : ℕ) : Type 0 where
+-- what the span that begins at row i says, b being whether it can serve
+pub record OpenStep (L : Layout) (row : ℕ) (t : List ℕ) (c : ℕ) (b : Bool) (i : ℕ) : Type 0 where
   pub class : class_held (view_holder (drop (row_at i) t)) < 48
-  pub hit : test (drop (row_at i) t) ≡ true → site_found row (open_from [] c (view_by L row t)) ≡ Some i
-  pub miss : test (drop (row_at i) t) ≡ false → NoneOpen L row t c (i + rows_held row (view_holder (drop (row_at i) t)))
-
--- the test says whether the span can serve
-abbrev pub Opens : (L : Layout) (row : ℕ) (t : List ℕ) (c : ℕ) (test : List ℕ → Bool) → Type 0
-Opens L row t c test = (X : Pool) (s : Span) (Y : Pool) → view_by L row t ≡ X ++ (s ∷ Y) → test (drop (row_at (rows row X)) t) ≡ opens c s
+  pub hit : b ≡ true → site_found row (open_from [] c (view_by L row t)) ≡ Some i
+  pub miss : b ≡ false → NoneOpen L row t c (i + rows_held row (view_holder (drop (row_at i) t)))
 
 pub open_start : (L : Layout) (row : ℕ) (t : List ℕ) (c : ℕ) → NoneOpen L row t c 0
 open_start L row t c = none_passed L row t (λ X Y. open_from X c Y)
 
 module _ {L : Layout} {row n : ℕ} {t : List ℕ} (r : Lent L row n t) (c i : ℕ) (p : NoneOpen L row t c i) where
-  pub open_step : (test : List ℕ → Bool) → Opens L row t c test → i < rows row (view_by L row t) → OpenStep L row t c test i
-  open_step test tested h =
+  pub open_step : (b : Bool) → ((X : Pool) (s : Span) (Y : Pool) → view_by L row t ≡ X ++ (s ∷ Y) → i ≡ rows row X → b ≡ opens c s)
+      → i < rows row (view_by L row t) → OpenStep L row t c b i
+  open_step b told h =
       let a : Ahead L row t (λ X Y. open_from X c Y) i = ahead r (λ X Y. open_from X c Y) i p h in
-      let o : test (drop (row_at i) t) ≡ opens c a.span =
-      subst (λ k. test (drop (row_at k) t) ≡ opens c a.span) a.count (tested a.before a.span a.after a.split) in
+      let o : b ≡ opens c a.span = told a.before a.span a.after a.split (sym a.count) in
       record {
         class = ahead_class r (λ X Y. open_from X c Y) i a;
-        hit = λ b. ap (site_found row) (a.same ∙ choose-true (opens c a.span) _ _ (sym o ∙ b)) ∙ ap Some a.count;
-        miss = λ b. further r (λ X Y. open_from X c Y) i a (choose-false (opens c a.span) _ _ (sym o ∙ b));
+        hit = λ e. ap (site_found row) (a.same ∙ choose-true (opens c a.span) _ _ (sym o ∙ e)) ∙ ap Some a.count;
+        miss = λ e. further r (λ X Y. open_from X c Y) i a (choose-false (opens c a.span) _ _ (sym o ∙ e));
       }
 
   pub open_end : rows row (view_by L row t) ≤ i → site_found row (open_from [] c (view_by L row t)) ≡ None

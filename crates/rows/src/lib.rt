@@ -2,8 +2,8 @@
 // keeps its slots.
 #![tactic(auto)]
 
-ghost use Rattle.std.specs.Prelude.{◌≡◌, true, [], ◌+◌, ◌*◌, ◌-◌, ◌≤◌, ◌<◌, length, drop};
-ghost use Rattle.mem.specs.Lists.{starts};
+ghost use Rattle.std.specs.Prelude.{◌≡◌, true, [], ◌+◌, ◌*◌, ◌-◌, ◌≤◌, ◌<◌, length, drop, IfSome};
+ghost use Rattle.mem.specs.Lists.{starts, nonzero};
 ghost use Rattle.mem.specs.Bytes.{zeros, put};
 ghost use Rattle.model.specs.declared.Holder.TheVariants.{First, Later};
 ghost use Rattle.model.specs.Plans.{run_from};
@@ -63,21 +63,21 @@ pub fn plus(a: Totals, b: Totals) -> Totals
     }
 }
 
-// The rows of an arena, or 0 where its length is outside the rule.
-pub fn rows_in(row: Row, len: usize) -> usize
-    ensures value { result ≡ arena_rows row.bytes len }
-    ensures small { result ≤ most_rows }
+// The rows of an arena, if its length is inside the rule.
+pub fn rows_in(row: Row, len: usize) -> Option<usize>
+    ensures value { result ≡ nonzero (arena_rows row.bytes len) }
+    ensures small { IfSome result (λ n. (1 ≤ n) × (n ≤ most_rows)) }
 {
     if len < row.bytes {
-        return 0;
+        return None;
     }
     if model::MOST_ROWS * row.bytes < len {
-        return 0;
+        return None;
     }
     if len % row.bytes != 0 {
-        return 0;
+        return None;
     }
-    len / row.bytes
+    Some(len / row.bytes)
 }
 
 // Where the record of a row stands.
@@ -88,22 +88,22 @@ pub fn row_at(i: usize) -> usize
     model::HEAD + model::ROW_RECORD * i
 }
 
-// The rows of a room whose head is right under an arena of len bytes, or 0.
-pub fn rows_under(row: Row, len: usize, room: &[u8]) -> usize
-    ensures value { result ≡ room_rows row.bytes len room.now }
-    ensures small { result ≤ most_rows }
+// The rows of a room, if its head is right under an arena of len bytes.
+pub fn rows_under(row: Row, len: usize, room: &[u8]) -> Option<usize>
+    ensures value { result ≡ nonzero (room_rows row.bytes len room.now) }
+    ensures small { IfSome result (λ n. (1 ≤ n) × (n ≤ most_rows)) }
 {
-    let n = rows_in(row, len);
+    let n = rows_in(row, len)?;
     if room.len() != row_at(n) {
-        return 0;
+        return None;
     }
     if mem::quad(room, 0) as usize != len {
-        return 0;
+        return None;
     }
     if !mem::zeros_at(room, 4, model::HEAD - 4) {
-        return 0;
+        return None;
     }
-    n
+    Some(n)
 }
 
 // Who holds a row.

@@ -1,3 +1,2 @@
-pub mod Steps
 pub mod Blocks
 pub mod Offsets

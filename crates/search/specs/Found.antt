@@ -1,26 +1,12 @@
 -- What the searches make of a group's first row.
-use Rattle.std.specs.Prelude.{ℕ, ◌*◌, ◌-◌, ◌/◌, ◌%◌, Bool, false, ◌&&◌, ◌||◌, not, List, ltb, leb, eqb}
+use Rattle.std.specs.Prelude.{ℕ, ◌*◌, ◌-◌, ◌/◌, ◌%◌, Bool, ltb, leb, eqb}
 use Rattle.mem.specs.Lists.{choose}
 use Rattle.classes.specs.Classes.{slot_bytes, slots_of}
-use Rattle.masks.specs.declared.Masks.{Masks}
-use Rattle.model.specs.declared.Holder.{Holder}
-use Rattle.model.specs.declared.Holder.TheVariants.{Free, First, Later}
 use Rattle.model.specs.declared.Slot.{Slot}
 use Rattle.model.specs.declared.Slot.TheVariants.{Fresh, Idle, Live}
 use Rattle.model.specs.State.{disp}
-use Rattle.model.specs.Tables.{view_holder}
-use Rattle.records.specs.Records.{masks_in}
 use Rattle.rows.specs.declared.Looked.{Looked}
 use Rattle.rows.specs.declared.Looked.TheVariants.{Present, Freed, Absent}
-
--- the first row of a group of class c with a slot that is not live
-abbrev pub holder_opens : ℕ → Masks → Holder → Bool
-holder_opens c m Free = false
-holder_opens c m (First k) = eqb k c && (not (eqb m.ready 0) || not (eqb m.waiting 0))
-holder_opens c m (Later k) = false
-
-unfoldable pub opens_in : ℕ → List ℕ → Bool
-opens_in c t = holder_opens c (masks_in t) (view_holder t)
 
 -- a displacement of two bytes
 abbrev pub disp_small : Slot → Bool

@@ -1,52 +1,16 @@
-// Searches over sound tables by masks: a group that can serve a class, and the block at an offset.
+// The block at an offset of sound tables by masks.
 #![tactic(auto)]
 
-ghost use Rattle.std.specs.Prelude.{◌≡◌, true, [], ◌+◌, ◌≤◌, ◌<◌, length, drop};
-ghost use Rattle.model.specs.Tables.{row_at, row_record_bytes, masks_layout, sound, view, most_rows};
-ghost use Rattle.model.specs.Plans.{open_from, lookup};
-ghost use Rattle.rows.specs.Rows.{site_found, looked, NoneOpen};
+ghost use Rattle.std.specs.Prelude.{◌≡◌, true, ◌+◌, ◌≤◌, ◌<◌, length, drop};
+ghost use Rattle.model.specs.Tables.{row_at, row_record_bytes, sound, view, most_rows};
+ghost use Rattle.model.specs.Plans.{lookup};
+ghost use Rattle.rows.specs.Rows.{looked};
 ghost use Rattle.records.specs.Records.{slots_here};
-ghost use Rattle.search.specs.Found.{opens_in, slot_looked, group_looked, disp_small};
+ghost use Rattle.search.specs.Found.{slot_looked, group_looked, disp_small};
 
 use classes::Row;
 use model::{Holder, Slot};
 use rows::{Block, Looked};
-
-// Whether the group whose first row it is has class c and a slot that is not live.
-fn opens_at(room: &[u8], i: usize, c: usize) -> bool
-    requires { (i < most_rows) × (row_at i + row_record_bytes ≤ length room.now) }
-    ensures { result ≡ opens_in c (drop (row_at i) room.now) }
-{
-    let h = rows::holder_at(room, i);
-    let Holder::First(k) = h else {
-        return false;
-    };
-    if mem::wide(k) != c {
-        return false;
-    }
-    let m = records::masks_at(room, i);
-    if m.ready != 0 {
-        return true;
-    }
-    m.waiting != 0
-}
-
-// The lowest group of a class with a slot that is not live, looked for from a row on before which there is none.
-pub fn find_open(row: Row, len: usize, room: &[u8], c: usize, from: usize) -> Option<usize>
-    requires room_value { sound row.bytes len room.now ≡ true }
-    requires c_bound { (c < 48) × NoneOpen masks_layout row.bytes room.now c from }
-    ensures { result ≡ site_found row.bytes (open_from [] c (view row.bytes room.now)) }
-{
-    let n = len / row.bytes;
-    let mut i = from;
-    while i < n {
-        if opens_at(room, i, c) {
-            return Some(i);
-        }
-        i += rows::rows_held(row, rows::holder_at(room, i));
-    }
-    None
-}
 
 // A slot as what stands some bytes after its beginning.
 fn look_slot(first: usize, c: usize, i: usize, after: usize, x: Slot) -> Looked
@@ -54,30 +18,14 @@ fn look_slot(first: usize, c: usize, i: usize, after: usize, x: Slot) -> Looked
     ensures { result ≡ slot_looked first c i after x }
 {
     match x {
-        Slot::Fresh => Looked::Absent,
-        Slot::Idle {
-            ready: _,
-            count: _,
-            disp,
-        } => {
-            if 16 * disp == after {
-                Looked::Freed
-            } else {
-                Looked::Absent
-            }
-        }
-        Slot::Live(a) => {
-            if 16 * a.disp == after {
-                Looked::Present(Block {
-                    first: first,
-                    class: c,
-                    slot: i,
-                    alloc: a,
-                })
-            } else {
-                Looked::Absent
-            }
-        }
+        Slot::Idle { disp, .. } if 16 * disp == after => Looked::Freed,
+        Slot::Live(a) if 16 * a.disp == after => Looked::Present(Block {
+            first,
+            class: c,
+            slot: i,
+            alloc: a,
+        }),
+        _ => Looked::Absent,
     }
 }
 

@@ -1,5 +1,5 @@
 -- The lowest run in a map, from the front: j free rows have been passed since p, fewer than are looked for.
-use Rattle.mem.proofs.Prelude.{◌∙◌, ◌≡◌, ap, refl, subst, true, false, Bool, Some, None, Option, List, [], ◌∷◌, ◌++◌, append-nil, ◌+◌, ℕ, ◌<◌, ◌≤◌, ◌-◌}
+use Rattle.mem.proofs.Prelude.{◌∙◌, ◌≡◌, ap, refl, subst, true, false, Bool, Some, None, List, [], ◌∷◌, ◌++◌, append-nil, ◌+◌, ℕ, ◌<◌, ◌≤◌, ◌-◌}
 use Rattle.mem.proofs.Prelude.{suc, zero, add-one, arith, T, eqb, ne_eqb, length, drop, get_or, replicate, drop-cons}
 use lib.ListN.{drop_of_length-le}
 use Rattle.mem.specs.Lists.{choose, starts}

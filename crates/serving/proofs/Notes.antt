@@ -165,13 +165,10 @@ module _ {L : Layout} {row len : ℕ} {t : List ℕ} {i : ℕ} {X Y : Pool} {spa
     }
 
 -- by who holds the row
-module _ {L : Layout} {row len : ℕ} {t : List ℕ} {i : ℕ} {X : Pool} {s : Span} {Y : Pool} {spare gaps : List ℕ} (x : Next L row len t i X s Y)
-    (n : Noted row (len / row) X spare gaps) (h : Holder) (e : h ≡ view_holder (drop (row_at i) t)) where
-  pub free-next : ((c : ℕ) → h ≡ First c → ⊥) → (1 ≡ rows_in row s) × Noted row (len / row) (X ++ (s ∷ [])) spare (set gaps i 1)
-  free-next o =
-      let f : s ≡ free = free_held s h (e ∙ holder x) o in
-      subst (λ s. (1 ≡ rows_in row s) × Noted row (len / row) (X ++ (s ∷ [])) spare (set gaps i 1)) (sym f)
-      (refl, free_noted n (subst (λ s. Next L row len t i X s Y) f x))
+module _ {L : Layout} {row len : ℕ} {t : List ℕ} {i : ℕ} {X : Pool} {s : Span} {Y : Pool} (x : Next L row len t i X s Y) (h : Holder)
+    (e : h ≡ view_holder (drop (row_at i) t)) where
+  pub free_here : ((c : ℕ) → h ≡ First c → ⊥) → s ≡ free
+  free_here o = free_held s h (e ∙ holder x) o
 
   module _ (k : ℕ) (g : h ≡ First k) where
     pub the_group : (ss : List Slot) × (s ≡ group k ss)
@@ -180,17 +177,25 @@ module _ {L : Layout} {row len : ℕ} {t : List ℕ} {i : ℕ} {X : Pool} {s : S
     pub group_here : Next L row len t i X (group k the_group.0) Y
     group_here = subst (λ s. Next L row len t i X s Y) the_group.1 x
 
-    pub countable : Countable k spare
-    countable = group_countable n group_here
-
     pub idle_slots : sum (λ x. bit (not (is_live x))) the_group.0 ≤ 31
     idle_slots = omega (arith, idle_few the_group.0, group_few k the_group.0 (span_sound_lem x.lent X (group k the_group.0) Y group_here.split))
 
-    pub group-next : (v : ℕ) → v ≡ sum (λ x. bit (not (is_live x))) the_group.0
-        → (rows_of row k ≡ rows_in row s) × Noted row (len / row) (X ++ (s ∷ [])) (set spare k (get_or spare k 0 + v)) gaps
-    group-next v f =
-        subst (λ s. (rows_of row k ≡ rows_in row s) × Noted row (len / row) (X ++ (s ∷ [])) (set spare k (get_or spare k 0 + v)) gaps) (sym the_group.1)
-        (refl, group_noted n group_here v f)
+  module _ {spare gaps : List ℕ} (n : Noted row (len / row) X spare gaps) where
+    pub free-next : ((c : ℕ) → h ≡ First c → ⊥) → (1 ≡ rows_in row s) × Noted row (len / row) (X ++ (s ∷ [])) spare (set gaps i 1)
+    free-next o =
+        let f : s ≡ free = free_here o in
+        subst (λ s. (1 ≡ rows_in row s) × Noted row (len / row) (X ++ (s ∷ [])) spare (set gaps i 1)) (sym f)
+        (refl, free_noted n (subst (λ s. Next L row len t i X s Y) f x))
+
+    module _ (k : ℕ) (g : h ≡ First k) where
+      pub countable : Countable k spare
+      countable = group_countable n (group_here k g)
+
+      pub group-next : (v : ℕ) → v ≡ sum (λ x. bit (not (is_live x))) (the_group k g).0
+          → (rows_of row k ≡ rows_in row s) × Noted row (len / row) (X ++ (s ∷ [])) (set spare k (get_or spare k 0 + v)) gaps
+      group-next v f =
+          subst (λ s. (rows_of row k ≡ rows_in row s) × Noted row (len / row) (X ++ (s ∷ [])) (set spare k (get_or spare k 0 + v)) gaps)
+          (sym (the_group k g).1) (refl, group_noted n (group_here k g) v f)
 
 -- ---- the walk
 

@@ -9,7 +9,7 @@ ghost use Rattle.model.specs.State.{Pool};
 ghost use Rattle.model.specs.Plans.{reserve_all};
 ghost use Rattle.serving.specs.Survey.{lowest_run, NotesOf, Serves};
 
-use classes::{Row, Sized};
+use classes::Row;
 
 // The lowest run of free rows in a map, where 1 stands for a free row.
 fn lowest_run(gaps: &[u8], need: usize) -> Option<usize>
@@ -55,12 +55,13 @@ pub fn serve_all(row: Row, sizes: &[usize], spare: &mut [usize], gaps: &mut [u8]
     requires small_sizes { every (λ n. ltb n size_limit) sizes.now ≡ true }
     ensures { (P : Pool) → NotesOf row.bytes P spare.old gaps.old → result ≡ is_some (reserve_all row.bytes P sizes.now) }
 {
-    let mut last = Sized { size: 0, class: 0 };
+    let mut last = None;
     for size in sizes {
-        last = classes::with_class(*size, last);
-        if !serve(row, last.class, spare, gaps) {
+        let s = classes::with_class(*size, last);
+        if !serve(row, s.class, spare, gaps) {
             return false;
         }
+        last = Some(s);
     }
     true
 }

@@ -2,10 +2,26 @@
 // blocks and of one alignment, an exact one for others.
 #![tactic(auto)]
 
-ghost use Rattle.std.specs.Prelude.{◌≡◌, true, ◌+◌, ◌*◌, ◌/◌, ◌%◌, ◌^◌, ◌≤◌, ◌<◌, length, drop, eqb};
-ghost use Rattle.classes.specs.Classes.{slot_bytes, below2};
+ghost use Rattle.std.specs.Prelude.{◌≡◌, true, Bool, ◌&&◌, ◌+◌, ◌*◌, ◌/◌, ◌%◌, ◌^◌, ◌≤◌, ◌<◌, length, drop, eqb, Some, None};
+ghost use Rattle.mem.specs.Lists.{choose};
+ghost use Rattle.mem.specs.Bytes.{number, part};
 ghost use Rattle.model.specs.Tables.{most_slots, slot_record_bytes, sizes_in};
 ghost use Rattle.slot_walks.specs.Slots.{slots_checked, slots_exactly};
+
+use masks::Masks;
+use slot_rules::{Alignment, Bounds, Record};
+
+// The slots of a group: where their records stand in the room, how many they are, their bits of the two masks, and the byte of the arena at
+// which the first begins.
+#[derive(Clone, Copy)]
+pub struct Slots {
+    pub at: usize,
+    pub n: usize,
+    pub masks: Masks,
+    pub begin: usize,
+    pub ghost few: { n ≤ most_slots },
+    pub ghost on_unit: { (begin < 8388608) × (begin % 16 ≡ 0) },
+}
 
 // Whether bit i of a mask is set.
 fn has(m: u32, i: usize) -> bool
@@ -15,255 +31,203 @@ fn has(m: u32, i: usize) -> bool
     (m >> i as u32) % 2 == 1
 }
 
-// What is found of the slots of a group: whether they are sound, and the sum of their requested sizes.
-#[derive(Clone, Copy)]
-pub struct Slots {
-    pub sound: bool,
-    pub bytes: u32,
+impl Slots {
+    // The record of slot i.
+    fn record_at(self, s: &[u8], i: usize) -> Record
+        requires { (i < self.n) × (self.at + slot_record_bytes * self.n ≤ length s.now) }
+        ensures lo { result.lo ≡ number (part (self.at + slot_record_bytes * i) 4 s.now) }
+        ensures hi { result.hi ≡ number (part (self.at + slot_record_bytes * i + 4) 4 s.now) }
+    {
+        let at = self.at + model::SLOT_RECORD * i;
+        Record {
+            lo: mem::quad(s, at),
+            hi: mem::quad(s, at + model::SIZE),
+        }
+    }
+
+    // Whether slot i is ready, and whether it waits.
+    fn ready(self, i: usize) -> bool
+        requires { i < self.n }
+        ensures { result ≡ eqb (self.masks.ready / 2 ^ i % 2) 1 }
+    {
+        has(self.masks.ready, i)
+    }
+
+    fn waiting(self, i: usize) -> bool
+        requires { i < self.n }
+        ensures { result ≡ eqb (self.masks.waiting / 2 ^ i % 2) 1 }
+    {
+        has(self.masks.waiting, i)
+    }
+
+    // Whether the masks have no bits past the slots.
+    fn none_past(self) -> bool
+        ensures { result ≡ (eqb (self.masks.ready / 2 ^ self.n) 0 && eqb (self.masks.waiting / 2 ^ self.n) 0) }
+    {
+        (self.masks.ready >> self.n as u32 == 0) & (self.masks.waiting >> self.n as u32 == 0)
+    }
+
+    // The same, with its masks as the caller has tested them: where those are constants, their tests fall away from the walk.
+    fn with_masks(self, m: Masks) -> Slots
+        requires { (m.ready ≡ self.masks.ready) × (m.waiting ≡ self.masks.waiting) }
+        ensures { result ≡ self }
+    {
+        Slots {
+            at: self.at,
+            n: self.n,
+            masks: m,
+            begin: self.begin,
+        }
+    }
 }
 
-// The records of n slots; the masks have no bits past them.
-fn slots_walk(
-    s: &[u8],
-    at: usize,
-    n: usize,
-    ready: u32,
-    waiting: u32,
-    most: u32,
-    least: u32,
-) -> Slots
-    requires { (n ≤ most_slots) × (at + slot_record_bytes * n ≤ length s.now) }
-    ensures sound_value { result.sound ≡ slots_checked most least n ready waiting (drop at s.now) }
-    ensures bytes_value { result.bytes ≡ sizes_in n (drop at s.now) }
-    ensures small { result.bytes ≤ 16777216 * n }
+// What the quick walk finds: whether the slots are sound and their blocks ordinary, and the sum of their requested sizes in any case. Where the quick
+// rules fail and the exact ones pass, the sum is used all the same.
+#[derive(Clone, Copy)]
+struct Found {
+    sound: bool,
+    bytes: u32,
+}
+
+fn slots_walk(s: &[u8], g: Slots, b: Bounds) -> Found
+    requires { g.at + slot_record_bytes * g.n ≤ length s.now }
+    ensures sound_value { result.sound ≡ slots_checked b.most b.least g.n g.masks.ready g.masks.waiting (drop g.at s.now) }
+    ensures bytes_value { result.bytes ≡ sizes_in g.n (drop g.at s.now) }
 {
     let mut sound = true;
     let mut bytes = 0;
-    for i in 0..n {
-        let lo = mem::quad(s, at + model::SLOT_RECORD * i);
-        let hi = mem::quad(s, at + model::SLOT_RECORD * i + model::SIZE);
-        sound = sound
-            & slot_rules::record_sound(lo, hi, has(ready, i), has(waiting, i), most, least);
-        bytes += hi % 16777216;
+    for i in 0..g.n {
+        let r = g.record_at(s, i);
+        sound = sound & slot_rules::record_sound(r, g.ready(i), g.waiting(i), b);
+        bytes += r.hi % 16777216;
     }
-    Slots {
-        sound: sound & (ready >> n as u32 == 0) & (waiting >> n as u32 == 0),
+    Found {
+        sound: sound & g.none_past(),
         bytes: bytes,
     }
 }
 
-// The same, with a path of its own for a group whose slots are all live: there the tests of the masks fall away.
-fn slots_found(
-    s: &[u8],
-    at: usize,
-    n: usize,
-    ready: u32,
-    waiting: u32,
-    most: u32,
-    least: u32,
-) -> Slots
-    requires { (n ≤ most_slots) × (at + slot_record_bytes * n ≤ length s.now) }
-    ensures sound_value { result.sound ≡ slots_checked most least n ready waiting (drop at s.now) }
-    ensures bytes_value { result.bytes ≡ sizes_in n (drop at s.now) }
-    ensures small { result.bytes ≤ 16777216 * n }
+// The same, with loops of their own where all slots are live and where some wait and none is ready: without the latter such groups took a
+// fifth more instructions.
+fn slots_found(s: &[u8], g: Slots, b: Bounds) -> Found
+    requires { g.at + slot_record_bytes * g.n ≤ length s.now }
+    ensures sound_value { result.sound ≡ slots_checked b.most b.least g.n g.masks.ready g.masks.waiting (drop g.at s.now) }
+    ensures bytes_value { result.bytes ≡ sizes_in g.n (drop g.at s.now) }
 {
-    if ready == 0 {
-        if waiting == 0 {
-            return slots_walk(s, at, n, 0, 0, most, least);
+    if g.masks.ready == 0 {
+        if g.masks.waiting == 0 {
+            return slots_walk(
+                s,
+                g.with_masks(Masks {
+                    ready: 0,
+                    waiting: 0,
+                }),
+                b,
+            );
         }
+        return slots_walk(
+            s,
+            g.with_masks(Masks {
+                ready: 0,
+                ..g.masks
+            }),
+            b,
+        );
     }
-    slots_walk(s, at, n, ready, waiting, most, least)
+    slots_walk(s, g, b)
 }
 
-// The records of n slots of class c, of which the first begins at a byte of the arena: every rule, one slot after the other.
-fn slots_sound(
-    s: &[u8],
-    at: usize,
-    n: usize,
-    ready: u32,
-    waiting: u32,
-    c: usize,
-    begin: usize,
-) -> bool
-    requires { (n ≤ most_slots) × (at + slot_record_bytes * n ≤ length s.now) × (c < 48) × (begin < 8388608) }
-    ensures { result ≡ slots_exactly c begin n ready waiting (drop at s.now) }
+// Every rule, one slot after the other.
+#[inline(never)]
+fn slots_sound(s: &[u8], g: Slots, b: Bounds) -> bool
+    requires { g.at + slot_record_bytes * g.n ≤ length s.now }
+    ensures { result ≡ slots_exactly b.class g.begin g.n g.masks.ready g.masks.waiting (drop g.at s.now) }
 {
-    let bytes = 16 * classes::units(c);
-    let most = (bytes - 4) as u32;
-    let least = below(c) as u32;
-    for i in 0..n {
-        let lo = mem::quad(s, at + model::SLOT_RECORD * i);
-        let hi = mem::quad(s, at + model::SLOT_RECORD * i + model::SIZE);
+    let bytes = b.most as usize + 4;
+    for i in 0..g.n {
         if !slot_rules::slot_sound(
-            lo,
-            hi,
-            has(ready, i),
-            has(waiting, i),
-            most,
-            least,
-            begin + i * bytes,
+            g.record_at(s, i),
+            g.ready(i),
+            g.waiting(i),
+            b,
+            g.begin + i * bytes,
         ) {
             return false;
         }
     }
-    if ready >> n as u32 != 0 {
-        return false;
-    }
-    waiting >> n as u32 == 0
+    g.none_past()
 }
 
-// The bytes of the class two below c, or 0: a request that fits them is of neither class c nor the one below.
-fn below(c: usize) -> usize
-    requires { c < 48 }
-    ensures value { result ≡ below2 c }
-    ensures small { result < 131072 }
+// The slots of a group whose live blocks all have one alignment.
+fn slots_aligned(s: &[u8], g: Slots, b: Bounds, align: Alignment) -> bool
+    requires { g.at + slot_record_bytes * g.n ≤ length s.now }
+    ensures { result ≡ true → slots_exactly b.class g.begin g.n g.masks.ready g.masks.waiting (drop g.at s.now) ≡ true }
 {
-    if c < 2 {
-        return 0;
-    }
-    16 * classes::units(c - 2)
-}
-
-// The records of n slots of class c, of so many bytes, whose live blocks all have one alignment; the first begins at a byte of the arena.
-fn slots_aligned(
-    s: &[u8],
-    at: usize,
-    n: usize,
-    ready: u32,
-    waiting: u32,
-    c: usize,
-    begin: usize,
-    bytes: u32,
-    least: u32,
-    code: u8,
-) -> bool
-    requires n_le_most_slots { (n ≤ most_slots) × (at + slot_record_bytes * n ≤ length s.now) × (c < 48) × (begin < 8388608) × (1 < code) × (code ≤ 9) }
-    requires bytes_value { (bytes ≡ slot_bytes c) × (least ≡ below2 c) }
-    ensures { result ≡ true → slots_exactly c begin n ready waiting (drop at s.now) ≡ true }
-{
-    let most = bytes - 4;
-    let align = classes::align_of(code) as u32;
-    let tag = mem::wide32(code);
-    let mut place = begin as u32;
+    let bytes = b.most + 4;
+    let mut place = g.begin as u32;
     let mut sound = true;
-    for i in 0..n {
-        let lo = mem::quad(s, at + model::SLOT_RECORD * i);
-        let hi = mem::quad(s, at + model::SLOT_RECORD * i + model::SIZE);
+    for i in 0..g.n {
         sound = sound
             & slot_rules::record_alike(
-                lo,
-                hi,
-                has(ready, i),
-                has(waiting, i),
-                most,
-                least,
+                g.record_at(s, i),
+                g.ready(i),
+                g.waiting(i),
+                b,
                 place,
-                tag,
                 align,
             );
         place += bytes;
     }
-    sound & (ready >> n as u32 == 0) & (waiting >> n as u32 == 0)
-}
-
-// The first of n slots that is in neither set, or n.
-fn first_live(idle: u32, n: usize) -> usize
-    requires { n ≤ most_slots }
-    ensures { result ≤ n }
-{
-    for i in 0..n {
-        if !has(idle, i) {
-            return i;
-        }
-    }
-    n
+    sound & g.none_past()
 }
 
 // Whether the slots of a group are sound because its live blocks all have the alignment of the first: most aligned blocks of a class do.
-fn slots_alike(
-    s: &[u8],
-    at: usize,
-    n: usize,
-    ready: u32,
-    waiting: u32,
-    c: usize,
-    begin: usize,
-    bytes: u32,
-    least: u32,
-) -> bool
-    requires n_le_most_slots { (n ≤ most_slots) × (at + slot_record_bytes * n ≤ length s.now) × (c < 48) × (begin < 8388608) }
-    requires bytes_value { (bytes ≡ slot_bytes c) × (least ≡ below2 c) }
-    ensures { result ≡ true → slots_exactly c begin n ready waiting (drop at s.now) ≡ true }
+fn slots_alike(s: &[u8], g: Slots, b: Bounds) -> bool
+    requires { g.at + slot_record_bytes * g.n ≤ length s.now }
+    ensures { result ≡ true → slots_exactly b.class g.begin g.n g.masks.ready g.masks.waiting (drop g.at s.now) ≡ true }
 {
-    let i = first_live(ready | waiting, n);
-    if i == n {
+    let i = u32::trailing_zeros(!(g.masks.ready | g.masks.waiting)) as usize;
+    if g.n <= i {
         return false;
     }
-    let code = s[at + model::SLOT_RECORD * i + model::KIND];
+    let code = s[g.at + model::SLOT_RECORD * i + model::KIND];
     if code < 2 {
         return false;
     }
     if 9 < code {
         return false;
     }
-    slots_aligned(s, at, n, ready, waiting, c, begin, bytes, least, code)
+    slots_aligned(s, g, b, Alignment::of(code))
 }
 
-// The records of n slots of class c, whatever their blocks: the quick way for one alignment, and every rule slot by slot for several.
-fn slots_tested(
-    s: &[u8],
-    at: usize,
-    n: usize,
-    ready: u32,
-    waiting: u32,
-    c: usize,
-    begin: usize,
-    bytes: u32,
-    least: u32,
-) -> bool
-    requires n_le_most_slots { (n ≤ most_slots) × (at + slot_record_bytes * n ≤ length s.now) × (c < 48) × (begin < 8388608) }
-    requires bytes_value { (bytes ≡ slot_bytes c) × (least ≡ below2 c) }
-    ensures { result ≡ slots_exactly c begin n ready waiting (drop at s.now) }
+// Whatever the blocks: the quick way for one alignment, and every rule slot by slot for several. It stays a function of its own: compiled into
+// the check, it would slow it where no block is aligned.
+#[inline(never)]
+fn slots_tested(s: &[u8], g: Slots, b: Bounds) -> bool
+    requires { g.at + slot_record_bytes * g.n ≤ length s.now }
+    ensures { result ≡ slots_exactly b.class g.begin g.n g.masks.ready g.masks.waiting (drop g.at s.now) }
 {
-    if slots_alike(s, at, n, ready, waiting, c, begin, bytes, least) {
+    if slots_alike(s, g, b) {
         return true;
     }
-    slots_sound(s, at, n, ready, waiting, c, begin)
+    slots_sound(s, g, b)
 }
 
-// What is found of the n slots of a group of class c, whatever their blocks, where the first begins at a byte of the arena. A group of
-// ordinary blocks takes the quickest way; only where that finds anything else are alignments looked at.
-pub fn slots_right(
-    s: &[u8],
-    at: usize,
-    n: usize,
-    ready: u32,
-    waiting: u32,
-    c: usize,
-    begin: usize,
-) -> Slots
-    requires { (n ≤ most_slots) × (at + slot_record_bytes * n ≤ length s.now) × (c < 48) × (begin < 8388608) × (begin % 16 ≡ 0) }
-    ensures sound_value { result.sound ≡ slots_exactly c begin n ready waiting (drop at s.now) }
-    ensures bytes_value { result.bytes ≡ sizes_in n (drop at s.now) }
-    ensures small { result.bytes ≤ 16777216 * n }
+// The sum of the requested sizes of the slots of a group of class c, if they are sound. A group of ordinary blocks takes the quickest way; only
+// where that finds anything else are alignments looked at.
+pub fn slots_right(s: &[u8], g: Slots, c: usize) -> Option<u32>
+    requires { (c < 48) × (g.at + slot_record_bytes * g.n ≤ length s.now) }
+    ensures { result ≡ choose (slots_exactly c g.begin g.n g.masks.ready g.masks.waiting (drop g.at s.now))
+        (Some (sizes_in g.n (drop g.at s.now))) None }
 {
-    let bytes = (16 * classes::units(c)) as u32;
-    let least = below(c) as u32;
-    let found = slots_found(s, at, n, ready, waiting, bytes - 4, least);
+    let b = Bounds::of(c);
+    let found = slots_found(s, g, b);
     if found.sound {
-        return found;
+        return Some(found.bytes);
     }
-    // Two calls, so that the tests of alignments stay a function of their own: compiled into the check, they would slow it where there are none.
-    if ready == 0 {
-        if waiting == 0 {
-            return Slots {
-                sound: slots_tested(s, at, n, 0, 0, c, begin, bytes, least),
-                bytes: found.bytes,
-            };
-        }
+    // A copy, so that it is laid down in memory for this call alone.
+    if slots_tested(s, g.with_masks(g.masks), b) {
+        return Some(found.bytes);
     }
-    Slots {
-        sound: slots_tested(s, at, n, ready, waiting, c, begin, bytes, least),
-        bytes: found.bytes,
-    }
+    None
 }

@@ -140,7 +140,7 @@ pub extern "C" fn slotpool_report(
 {
     let r = pool::report(arena, room, totals);
     *out = answers::report_totals(r);
-    answers::report_number(r)
+    answers::number_of(r)
 }
 
 #[unsafe(no_mangle)]

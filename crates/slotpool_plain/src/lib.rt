@@ -116,7 +116,7 @@ pub extern "C" fn slotpool_plain_report(arena: &[u8], room: &[u8], out: &mut [us
 {
     let r = plain::report(arena, room);
     *out = answers::report_values(r);
-    answers::report_number(r)
+    answers::number_of(r)
 }
 
 #[unsafe(no_mangle)]

@@ -1,4 +1,3 @@
--- `guard` meets its contract: its digits are those of `low`.
 use Rattle.mem.proofs.Prelude.{◌≡◌, ◌/◌, arith}
 use Rattle.model.proofs.Blocks.{guard-bytes}
 use Rattle.blocks.proofs.guard.Goals as goal
@@ -8,4 +7,4 @@ returns c =
     let r = c.args.r in
     let e : r / 65536 ≡ r / 256 / 256 = omega arith in
     let f : r / 16777216 ≡ r / 256 / 256 / 256 = omega arith in
-    rw (e, f, guard-bytes r c.requires.0)
+    rw (c.to_le_bytes.ensures, e, f, guard-bytes r c.requires.0)

@@ -2,8 +2,8 @@
 use Rattle.mem.proofs.Prelude.{◌∙◌, ◌≡◌, sym, ap, ℕ, ◌<◌, ◌≤◌, ◌-◌, arith, eqb, ltb, get_or, eq-eqb, eqb-true, Bool, true, List, [], ◌∷◌, suc}
 use Rattle.mem.proofs.Prelude.{length, true≢false, le-ltb, lt-ltb}
 use Prim.Native.Nat.{max}
-use Rattle.mem.specs.Lists.{first}
-use Rattle.mem.proofs.Tests.{choose-true, choose-false, choose_case}
+use Rattle.mem.specs.Lists.{first, nonzero}
+use Rattle.mem.proofs.Tests.{choose-true, choose-false, choose_case, nonzero_of}
 use Rattle.classes.specs.Alignments.{powers, code_of}
 use Rattle.classes.proofs.Laws.{first-before}
 use Rattle.classes.proofs.code_of.Invariants.{place}
@@ -36,13 +36,6 @@ not_yet a i l h n =
     λ e. n (ap (λ j. get_or powers j 0) e ∙ eqb-true (get_or powers (place a) 0) a (first-true (λ p. eqb p a) powers (omega (arith, e)))) in
     omega arith
 
-pub returns-then-from-align-clause-value : goal.returns-then-from-align-clause-value
-unfolding powers
-returns-then-from-align-clause-value c =
-    let a = c.args.align in
-    let i = c.loop-i.i in
-    omega (arith, found a i (omega arith) (omega (arith, not-past a i (omega arith))))
-
 pub loop-i-preserved : goal.loop-i-preserved
 unfolding powers
 loop-i-preserved c =
@@ -50,5 +43,12 @@ loop-i-preserved c =
     let i = c.loop-i.i in
     omega (arith, not_yet a i (omega arith) (omega arith) (λ e. omega (arith, e)))
 
+pub returns-then-from-align-clause-value : goal.returns-then-from-align-clause-value
+unfolding powers
+returns-then-from-align-clause-value c =
+    let a = c.args.align in
+    let i = c.loop-i.i in
+    nonzero_of (code_of a) c.code_at.result (omega arith) (omega (arith, found a i (omega arith) (omega (arith, not-past a i (omega arith)))))
+
 pub returns-clause-value : goal.returns-clause-value
-returns-clause-value c = absent c.args.align (omega arith)
+returns-clause-value c = ap nonzero (absent c.args.align (omega arith))

@@ -1,5 +1,5 @@
 -- `clear_group` meets its contract.
-use Rattle.mem.proofs.Prelude.{◌∙◌, ◌≡◌, ap, ◌+◌, ◌*◌, ◌-◌, ◌≤◌, mul-add, arith, rules, length}
+use Rattle.mem.proofs.Prelude.{◌∙◌, ◌≡◌, ap, ◌+◌, ◌*◌, ◌-◌, ◌≤◌, mul-add, arith, length}
 use Rattle.mem.specs.Bytes.{zeros, put}
 use Rattle.classes.specs.Classes.{rows_of}
 use Rattle.classes.proofs.Laws.{few_bytes}

@@ -1,5 +1,5 @@
 -- `clear_slot` meets its contract.
-use Rattle.mem.proofs.Prelude.{◌∙◌, ◌≡◌, ap₂, ◌+◌, ◌*◌, ◌-◌, arith, rules}
+use Rattle.mem.proofs.Prelude.{◌∙◌, ◌≡◌, ap₂, ◌+◌, ◌*◌, ◌-◌, arith}
 use Rattle.mem.specs.Bytes.{zeros, put}
 use Rattle.classes.specs.Classes.{slot_bytes}
 use Rattle.classes.proofs.Laws.{bytes-units}

@@ -18,8 +18,8 @@ lent s = by_masks s.requires.room_value s.args.row.lawful
 
 pub reserve_in-requires : goal.reserve_in-requires
 reserve_in-requires c =
-    let (h, e, l, p, q) = c.requires.size_known in
-    record { room_value = c.requires.room_value; askable = plain h; c_value = (e, l, p, q) }
+    let (h, p, q) = c.requires.size_known in
+    record { room_value = c.requires.room_value; askable = plain h; c_value = (c.args.s.class_is, c.args.s.small, p, q) }
 
 pub returns-in_err-b : goal.returns-in_err-b
 returns-in_err-b c =

@@ -1,5 +1,5 @@
 -- The slot's bytes or the group's rows are cleared, as what is left of the group says.
-use Rattle.mem.proofs.Prelude.{◌∙◌, ◌≡◌, sym, rules, length}
+use Rattle.mem.proofs.Prelude.{◌∙◌, ◌≡◌, sym, length}
 use Rattle.model.specs.State.{Place}
 use Rattle.model.specs.Plans.{release_at, totals}
 use Rattle.model.specs.Tables.{masks_layout}

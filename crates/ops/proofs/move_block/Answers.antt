@@ -81,7 +81,7 @@ copy_within-requires c =
     let to = at ∙ ap (start_at a.row.bytes) (sym e) in
     let z = taken-size (room (goal.at.copy_within-requires c).Start) a.b.alloc.align a.n c.requires.askable q f c.requires.holds.1 in
     let zb = ap (λ b. b.alloc.size) e in
-    let m = c.lesser.ensures in record {
+    let m = c.min.ensures in record {
       n_in_bounds = (
         omega (arith, l, from, m, o.owned, o.bytes),
         omega (arith, l, at, m, h.owned, h.bytes, z, zb),
@@ -124,7 +124,7 @@ returns c p h =
     let d = c.discard in
     let from = c.start_of in
     let to = c.start_of-2 in
-    let m = c.lesser in
+    let m = c.min in
     let b = c.in_ok-q.q in
     let g = d.ensures _ (still (goal.at.returns c).In_ok-q p h) in
     let copied : y.new.s ≡ put (start_at a.row.bytes b) (part (start_at a.row.bytes a.b) (min a.b.alloc.size a.n) x.new.arena) x.new.arena =

@@ -32,26 +32,23 @@ small s = let h = s.requires.askable in omega (arith, h.small, enlarged_least s.
 stayed : (c : Else-not-stays_in) → (let a = c.args in stays_in a.b a.n ≡ true)
 stayed c = sym c.stays_in.ensures ∙ c.if-not-stays_in.false
 
-pub stays_in-requires : goal.stays_in-requires
-stays_in-requires c = let h = stands (goal.at.stays_in-requires c).Start in record { class_bound = (h.class, omega (arith, h.bytes)); askable = c.requires.askable }
+pub stays_in-requires-clause-class_bound : goal.stays_in-requires-clause-class_bound
+stays_in-requires-clause-class_bound c =
+    let h = stands (goal.at.stays_in-requires-clause-class_bound c).Start in
+    (h.class, omega (arith, h.bytes))
 
 pub returns-then-not-stays_in : goal.returns-then-not-stays_in
 returns-then-not-stays_in c p h =
     rw (refused-plan h (pool_of p) c.args.n (sym c.stays_in.ensures ∙ c.if-not-stays_in.true))
     (refused_on_lem (room (goal.at.returns-then-not-stays_in c).Start) h c.args.arena.now c.args.t.now c.requires.room_value.1 NotInPlace)
 
-pub owned_of-requires : goal.owned_of-requires
-owned_of-requires c =
-    let h = stands (goal.at.owned_of-requires c).Start in
-    record { class_bound = (h.class, h.slot, omega (arith, h.few)) }
+pub reframe-requires-clause-standing : goal.reframe-requires-clause-standing
+reframe-requires-clause-standing c = stands (goal.at.reframe-requires-clause-standing c).Start
 
-pub reframe_at-requires : goal.reframe_at-requires
-reframe_at-requires c =
-    let h = stands (goal.at.reframe_at-requires c).Start in record { c_bound = (h.class, stays_fits c.args.b c.args.n (stayed (goal.at.reframe_at-requires c).Else-not-stays_in) (omega (arith, h.bytes))); i_bound = (omega (arith, h.slot), omega (arith, h.owned, c.owned_of.ensures.value)); kept_le_n = omega (arith, c.lesser-kept.ensures) }
-
-pub resize_slot-requires : goal.resize_slot-requires
-resize_slot-requires c =
-    (c.args.row.bytes, c.requires.holds.0, c.requires.holds.1)
+pub reframe-requires-clause-fits : goal.reframe-requires-clause-fits
+reframe-requires-clause-fits c =
+    let here = goal.at.reframe-requires-clause-fits c in
+    stays_fits c.args.b c.args.n (stayed here.Else-not-stays_in) (omega (arith, (stands here.Start).bytes))
 
 pub handle_of-requires : goal.handle_of-requires
 handle_of-requires c =
@@ -67,12 +64,11 @@ pub returns : goal.returns
 unfolding resize_at
 returns c p h =
     let w = c.resize_slot in
-    let kept = c.lesser-kept in
+    let kept = c.min-kept in
     let a = c.args in
     rw (stays_plan h (pool_of p) a.n (stayed (goal.at.returns c).Else-not-stays_in)) (record {
       answer = ap (λ v. done (v ∷ [])) (c.handle_of.ensures ∙ ap (handle_at a.row.bytes) h.block);
-      arena = in_place-writes h a.arena.now a.n c.owned_of.result kept.result c.reframe_at.new.arena c.owned_of.ensures.value
-          kept.ensures c.reframe_at.ensures;
+      arena = in_place-writes h a.arena.now a.n kept.result c.reframe.new.arena kept.ensures c.reframe.ensures;
       kept = ap₂ kept_in (w.ensures a.row.bytes p h ∙ ap (encode a.row.bytes) (in_place_pool a.row.bytes p a.n))
           (c.sized.ensures _ (sized_counts h a.t.now c.requires.room_value.1 a.n (small (goal.at.returns c).Start)).0);
     })

@@ -1,5 +1,5 @@
 -- By what the check says, and then by what is located for the size.
-use Rattle.plain.proofs.Kit.{◌∙◌, sym, row_bytes, card_row, checked}
+use Rattle.plain.proofs.Kit.{◌∙◌, sym, row_bytes, checked}
 use Rattle.mem.proofs.Tests.{choose-true, choose-false}
 use Rattle.mem.proofs.Prelude.{ap, not}
 use Rattle.plain.proofs.find.Goals as goal

@@ -1,5 +1,5 @@
 -- By what is located.
-use Rattle.plain.proofs.Kit.{◌∙◌, ◌≡◌, sym, Err, arith, row_bytes, card_row, Sound, checked, refusing, Called, called_at, called_refused, holds, whole}
+use Rattle.plain.proofs.Kit.{◌∙◌, ◌≡◌, sym, Err, arith, row_bytes, Sound, checked, refusing, Called, called_at, called_refused, holds, whole}
 use Rattle.model.specs.Plans.{releases, release_at}
 use Rattle.frames.proofs.Calls.{releasing, release_names, release-done}
 use Rattle.mem.proofs.Prelude.{ap, not}

@@ -5,7 +5,7 @@ use Rattle.mem.proofs.Tests.{choose-true, choose-false}
 use Rattle.model.specs.State.{is_ready}
 use Rattle.model.specs.Tables.{row_at}
 use Rattle.plain_slots.specs.Slots.{slot_in}
-use Rattle.plain_tables.proofs.Walks.{slots_from, slots-begin, slots_turn, slots_end}
+use Rattle.plain_slots.proofs.Walks.{slots_from, slots-begin, slots_turn, slots_end}
 use Rattle.plain_changes.proofs.first_ready.Goals as goal
 
 -- the next slot is ready, or not
@@ -26,12 +26,8 @@ returns-then-is_ready c =
     let l = c.loop-j in
     let k = c.slots-n in
     let a = c.args in
-    omega (
-      arith,
-      l.invariant,
-      hit k.result a.i l.j a.room.now c.loop-j-test.true
-          (ap is_ready (sym c.slot_at.ensures.value) ∙ sym c.is_ready.ensures ∙ c.if-is_ready.true),
-    )
+    let h = hit k.result a.i l.j a.room.now c.loop-j-test.true (ap is_ready (sym c.slot_at.ensures.value) ∙ sym c.is_ready.ensures ∙ c.if-is_ready.true) in
+    (omega (arith, l.invariant, h), omega (arith, c.loop-j-test.true, k.ensures.value))
 
 pub loop-j-preserved : goal.loop-j-preserved
 loop-j-preserved c =
@@ -50,4 +46,4 @@ returns c =
     let l = c.loop-j in
     let k = c.slots-n in
     let a = c.args in
-    omega (arith, l.invariant, ap (first is_ready) (slots_end k.result a.i a.room.now l.j c.loop-j-test.false))
+    omega (arith, l.invariant, k.ensures.value, ap (first is_ready) (slots_end k.result a.i a.room.now l.j c.loop-j-test.false))

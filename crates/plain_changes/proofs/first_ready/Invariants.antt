@@ -4,7 +4,7 @@ use Rattle.mem.specs.Lists.{first}
 use Rattle.model.specs.State.{is_ready}
 use Rattle.model.specs.Tables.{row_at}
 use Rattle.model.specs.Plain.{plain_group}
-use Rattle.plain_tables.proofs.Walks.{slots_from}
+use Rattle.plain_slots.proofs.Walks.{slots_from}
 use Rattle.plain_changes.proofs.first_ready.Given as goal
 
 abbrev pub invariant-loop-j : goal.invariant-loop-j

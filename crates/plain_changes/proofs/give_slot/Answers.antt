@@ -1,5 +1,5 @@
 -- `give_slot` meets its contract.
-use Rattle.mem.proofs.Prelude.{lit≤, ◌+◌, ◌<◌, ◌≤◌, arith, rules, length}
+use Rattle.mem.proofs.Prelude.{lit≤, ◌+◌, ◌<◌, ◌≤◌, arith, length}
 use Rattle.mem.specs.Lists.{choose}
 use Rattle.classes.specs.Classes.{rows_of}
 use Rattle.rows.proofs.Held.{held_rows, held_inside}

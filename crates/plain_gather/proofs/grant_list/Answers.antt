@@ -1,7 +1,6 @@
 -- Test by test, in the order of the answers; then all sizes are granted.
 use Rattle.mem.proofs.Prelude.{sym}
 use Rattle.classes.specs.Classes.{row_bytes}
-use Rattle.classes.proofs.Laws.{card_row}
 use Rattle.plain_ops.proofs.Calls.{Sound, checked, refusing}
 use Rattle.model.specs.declared.Refusal.TheVariants.{Unsound}
 use Rattle.model.specs.Proposals.{entries}

@@ -3,7 +3,7 @@ use Rattle.mem.proofs.Prelude.{◌∙◌, sym, length}
 use Rattle.frames.specs.Blocks.{Standing}
 use Rattle.frames.proofs.Places.{held_stands}
 use Rattle.frames.proofs.Plans.{kept_writes, dropped-writes}
-use Rattle.plain_tables.proofs.Opens.{by_slots}
+use Rattle.plain_tables.proofs.Rooms.{by_slots}
 use Rattle.plain_ops.proofs.discard.Goals as goal
 use Rattle.plain_ops.proofs.discard.Goals.{Start}
 

@@ -10,7 +10,7 @@ use Rattle.model.specs.Plain.{slots_layout}
 use Rattle.rows.specs.Rows.{Lent, Offers}
 use Rattle.frames.specs.Blocks.{reserved_as, next_room_by}
 use Rattle.frames.proofs.Sites.{site_offers, reserved_nothing, reserved_at}
-use Rattle.plain_tables.proofs.Opens.{by_slots}
+use Rattle.plain_tables.proofs.Rooms.{by_slots}
 use Rattle.plain_ops.proofs.reserve_slot.Goals as goal
 use Rattle.plain_ops.proofs.reserve_slot.Goals.{After-class_of-c, In_ok-i, Start}
 

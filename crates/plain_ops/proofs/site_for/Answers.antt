@@ -1,16 +1,21 @@
 -- A group that can serve, or a new one at a run of free rows.
-use Rattle.mem.proofs.Prelude.{◌∙◌, ◌≡◌, sym, [], rules, arith, Some, None}
+use Rattle.mem.proofs.Prelude.{◌∙◌, ◌≡◌, sym, [], arith, Some, None}
 use Rattle.model.specs.Plans.{open_from, run_from}
 use Rattle.model.specs.Tables.{view_by}
 use Rattle.model.specs.Plain.{slots_layout}
 use Rattle.rows.specs.Rows.{Lent, site_found}
+use Rattle.rows.proofs.Walks.{open_start}
 use Rattle.frames.proofs.Sites.{site_open, site-none, run_inside, site-made}
-use Rattle.plain_tables.proofs.Opens.{by_slots}
+use Rattle.plain_tables.proofs.Rooms.{by_slots}
 use Rattle.plain_ops.proofs.site_for.Goals as goal
 use Rattle.plain_ops.proofs.site_for.Goals.{In_ok-i, In_default, Start}
 
 room : (s : Start) → Lent slots_layout s.args.row.bytes s.args.len s.args.room.now
 room s = by_slots s.requires.room_value s.args.row.lawful
+
+pub find_open-requires : goal.find_open-requires
+find_open-requires c =
+    let a = c.args in record { room_value = c.requires.room_value; c_bound = (c.requires.c_bound, open_start slots_layout a.row.bytes a.room.now a.c) }
 
 pub returns-in-Some : goal.returns-in-Some
 returns-in-Some c =

@@ -1,12 +1,12 @@
 -- `find_block` meets its contract. The invariant: what is looked up in the whole is looked up in what is left.
-use Rattle.mem.proofs.Prelude.{◌∙◌, sym, ap, ◌+◌, ◌<◌, ◌≤◌, arith, rules, length, not-true}
+use Rattle.mem.proofs.Prelude.{◌∙◌, sym, ap, ◌+◌, ◌<◌, ◌≤◌, arith, length, not-true}
 use Rattle.model.specs.Tables.{row_at, row_record_bytes}
 use Rattle.model.specs.Plain.{slots_layout}
 use Rattle.rows.specs.Rows.{Lent}
 use Rattle.rows.proofs.Rooms.{row_inside, row_below, row_past}
 use Rattle.rows.proofs.Walks.{none_passed}
 use Rattle.plain_tables.specs.Found.{is_absent}
-use Rattle.plain_tables.proofs.Opens.{by_slots}
+use Rattle.plain_tables.proofs.Rooms.{by_slots}
 use Rattle.plain_tables.proofs.Blocks.{Left, BlockStep, block_step, block_end}
 use Rattle.mem.proofs.Prelude.{not}
 use Rattle.plain_tables.proofs.find_block.Goals as goal

@@ -6,7 +6,7 @@ use Rattle.model.specs.Tables.{row_at}
 use Rattle.rows.specs.declared.Looked.{Looked}
 use Rattle.plain_slots.specs.Slots.{slot_in}
 use Rattle.plain_tables.specs.Found.{or_else, is_absent, slot_looked, slots_looked}
-use Rattle.plain_tables.proofs.Walks.{slots_from, slots-begin, slots_turn, slots_end}
+use Rattle.plain_slots.proofs.Walks.{slots_from, slots-begin, slots_turn, slots_end}
 use Rattle.plain_tables.proofs.Blocks.{or-absent, or_found}
 use Rattle.plain_tables.proofs.look_group.Goals as goal
 use Rattle.plain_tables.proofs.look_group.Goals.{After-absent, After-units-bytes}

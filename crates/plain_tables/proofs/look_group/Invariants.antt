@@ -3,7 +3,7 @@ use Rattle.mem.proofs.Prelude.{◌≡◌, ◌+◌, ◌*◌, ◌≤◌, drop}
 use Rattle.model.specs.Tables.{row_at}
 use Rattle.model.specs.Plain.{plain_group}
 use Rattle.plain_tables.specs.Found.{slots_looked}
-use Rattle.plain_tables.proofs.Walks.{slots_from}
+use Rattle.plain_slots.proofs.Walks.{slots_from}
 use Rattle.plain_tables.proofs.look_group.Given as goal
 
 abbrev pub invariant-loop-j : goal.invariant-loop-j

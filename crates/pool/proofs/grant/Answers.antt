@@ -1,5 +1,5 @@
 -- An ordinary grant.
-use Rattle.ops.proofs.Kit.{◌∙◌, lit≤, row_bytes, kept_in, Checked, called, carried_as, checked, refusing}
+use Rattle.ops.proofs.Kit.{lit≤, row_bytes, kept_in, Checked, called, carried_as, checked, refusing}
 use Rattle.model.specs.Plans.{grants}
 use Rattle.frames.proofs.Calls.{grant-does}
 use Rattle.mem.proofs.Prelude.{ap, not}

@@ -1,5 +1,5 @@
 -- By what is located.
-use Rattle.ops.proofs.Kit.{◌∙◌, sym, ap, refl, [], ◌∷◌, row_bytes, card_row, done, view, kept_in, Checked}
+use Rattle.ops.proofs.Kit.{◌∙◌, sym, ap, refl, [], ◌∷◌, row_bytes, done, view, kept_in, Checked}
 use Rattle.ops.proofs.Kit.{called_at, called_refused, checked, refusing}
 use Rattle.model.specs.Plans.{measures, measure_at}
 use Rattle.frames.proofs.Calls.{measuring, kept_as}

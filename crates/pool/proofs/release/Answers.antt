@@ -1,5 +1,5 @@
 -- By what is located.
-use Rattle.ops.proofs.Kit.{◌∙◌, sym, ap₂, row_bytes, card_row, kept_in, Checked, Called, called_at, called_refused}
+use Rattle.ops.proofs.Kit.{◌∙◌, sym, ap₂, row_bytes, kept_in, Checked, Called, called_at, called_refused}
 use Rattle.ops.proofs.Kit.{holds, whole, checked, refusing}
 use Rattle.model.specs.Plans.{releases, release_at}
 use Rattle.frames.proofs.Calls.{releasing, release_names, release-done}

@@ -3,9 +3,9 @@ use Rattle.mem.proofs.Prelude.{◌<◌, arith}
 use Rattle.model.specs.Proposals.{entries}
 use Rattle.proposals.proofs.Filling.{more-places, filled_more, filled_all, filled_none}
 use Rattle.proposals.proofs.full_caps.Goals as goal
-use Rattle.proposals.proofs.full_caps.Goals.{After-lesser-n}
+use Rattle.proposals.proofs.full_caps.Goals.{After-min-n}
 
-place : (c : After-lesser-n) → c.loop-left.count < 17
+place : (c : After-min-n) → c.loop-left.count < 17
 unfolding entries
 place c =
     let a = c.args in
@@ -19,14 +19,14 @@ pub offset_bounds-sizes-count : goal.offset_bounds-sizes-count
 offset_bounds-sizes-count c = omega (arith, place c)
 
 pub overflow_add-count : goal.overflow_add-count
-overflow_add-count c = omega (arith, place (goal.at.overflow_add-count c).After-lesser-n)
+overflow_add-count c = omega (arith, place (goal.at.overflow_add-count c).After-min-n)
 
 pub loop-left-preserved : goal.loop-left-preserved
 loop-left-preserved c =
     let a = c.args in
     let l = c.loop-left in
-    filled_more a.total a.cap a.sizes.now l.sizes l.left l.count l.invariant c.loop-left-test.true c.lesser-n.result
-    c.lesser-n.ensures
+    filled_more a.total a.cap a.sizes.now l.sizes l.left l.count l.invariant c.loop-left-test.true c.min-n.result
+    c.min-n.ensures
 
 pub returns : goal.returns
 returns c =
@@ -34,4 +34,4 @@ returns c =
     let l = c.loop-left in let told = filled_all a.total a.cap a.sizes.now l.sizes l.left l.count l.invariant c.loop-left-test.false in record { value = told.0; sizes_after = told.1 }
 
 pub bounds-sizes-count : goal.bounds-sizes-count
-bounds-sizes-count c = place (goal.at.bounds-sizes-count c).After-lesser-n
+bounds-sizes-count c = place (goal.at.bounds-sizes-count c).After-min-n

@@ -1,5 +1,5 @@
 -- A group that can serve, or a new one at a run of free rows.
-use Rattle.mem.proofs.Prelude.{◌∙◌, ◌≡◌, sym, ap, [], rules, arith, Some, None}
+use Rattle.mem.proofs.Prelude.{◌∙◌, ◌≡◌, sym, [], arith, Some, None}
 use Rattle.classes.specs.Classes.{slots_of, rows_of}
 use Rattle.model.specs.declared.Totals.{Totals}
 use Rattle.model.specs.Plans.{open_from, run_from, site}

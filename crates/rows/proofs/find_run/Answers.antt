@@ -1,5 +1,5 @@
 -- `find_run` meets its contract. The invariant: the search of the whole is that of what is left.
-use Rattle.mem.proofs.Prelude.{◌∙◌, sym, ◌+◌, ◌<◌, ◌≤◌, arith, rules, length, drop}
+use Rattle.mem.proofs.Prelude.{◌∙◌, sym, ◌+◌, ◌<◌, ◌≤◌, arith, length, drop}
 use Rattle.model.specs.Tables.{Layout, row_at, view_holder, row_record_bytes}
 use Rattle.rows.specs.Rows.{Lent, next_run}
 use Rattle.rows.proofs.Rooms.{row_inside, row_below, row_past}

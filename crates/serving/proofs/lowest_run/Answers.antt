@@ -1,5 +1,5 @@
 -- `lowest_run` meets its contract. The invariant: the search of the whole is that from the first of the free rows just passed.
-use Rattle.mem.proofs.Prelude.{sym, ap, subst, ◌+◌, ◌<◌, arith, length}
+use Rattle.mem.proofs.Prelude.{sym, subst, ◌+◌, ◌<◌, arith, length}
 use Rattle.serving.proofs.MapRuns.{Scan, scan_free, scan_held, scan_end}
 use Rattle.serving.proofs.lowest_run.Goals as goal
 use Rattle.serving.proofs.lowest_run.Goals.{Joined-gap-ne1, else-gap-ne1, then-gap-ne1}

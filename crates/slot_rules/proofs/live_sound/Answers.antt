@@ -12,14 +12,14 @@ returns-then-code-eq0 c = rw c.if-code-eq0.true
 
 pub returns-then-code-gt9 : goal.returns-then-code-gt9
 unfolding live_checked
-returns-then-code-gt9 c = let a = c.args in rw (lt-leb (a.lo % 256) 9 c.if-code-gt9.true) (sym (simp and-false))
+returns-then-code-gt9 c = let a = c.args in rw (lt-leb (a.r.lo % 256) 9 c.if-code-gt9.true) (sym (simp and-false))
 
-pub returns-then-hi-ge-TOO_LARGE : goal.returns-then-hi-ge-TOO_LARGE
+pub returns-then-size-ge-TOO_LARGE : goal.returns-then-size-ge-TOO_LARGE
 unfolding live_checked size_limit
-returns-then-hi-ge-TOO_LARGE c =
+returns-then-size-ge-TOO_LARGE c =
     let a = c.args in
-    let e = enlarged (a.lo % 256) a.hi in
-    rw (le-ltb e 131052 (omega (arith, enlarged_least (a.lo % 256) a.hi, c.if-hi-ge-TOO_LARGE.true))) (sym (simp and-false))
+    let e = enlarged (a.r.lo % 256) a.r.hi in
+    rw (le-ltb e 131052 (omega (arith, enlarged_least (a.r.lo % 256) a.r.hi, c.if-size-ge-TOO_LARGE.true))) (sym (simp and-false))
 
 pub enlarged-enlarged-requires : goal.enlarged-enlarged-requires
 unfolding size_limit
@@ -39,8 +39,8 @@ returns c =
     rw (
       ← n.ensures.value,
       ← c.align_of.ensures.value,
-      le-leb 1 (a.lo % 256) (omega arith),
-      le-leb (a.lo % 256) 9 (omega arith),
+      le-leb 1 (a.r.lo % 256) (omega arith),
+      le-leb (a.r.lo % 256) 9 (omega arith),
       lt-ltb n.result 131052 (omega arith),
-      and-true (leb (16 * (a.lo / 65536) + a.hi) a.most),
+      and-true (leb (16 * (a.r.lo / 65536) + a.r.hi) a.b.most),
     )

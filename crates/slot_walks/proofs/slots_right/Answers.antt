@@ -1,45 +1,32 @@
 -- `slots_right` meets its contract: slots that pass the quick test pass every rule.
-use Rattle.mem.proofs.Prelude.{◌∙◌, ◌≡◌, sym, ℕ, ◌+◌, ◌*◌, ◌-◌, ◌<◌, arith, drop, get_or, get_or-drop, T}
-use Rattle.mem.proofs.Tests.{T_true, true-T}
+use Rattle.mem.proofs.Prelude.{◌∙◌, ◌≡◌, sym, ap, true, ℕ, ◌+◌, ◌-◌, ◌<◌, arith, drop, get_or, get_or-drop, Some}
+use Rattle.mem.proofs.Tests.{T_true, true-T, choose-true, choose-false}
 use Rattle.classes.specs.Classes.{slot_bytes, below2}
-use Rattle.classes.proofs.Laws.{bytes-units}
 use Rattle.slot_walks.specs.Slots.{slots_checked, slots_exactly}
 use Rattle.slot_walks.proofs.Laws.{quick_exact}
 use Rattle.slot_walks.proofs.slots_right.Goals as goal
-use Rattle.slot_walks.proofs.slots_right.Goals.{After-slots_found-found}
-
--- the quick test, by the class
-quick : (c : After-slots_found-found) → (let a = c.args in
-    c.slots_found-found.result.sound ≡ slots_checked (slot_bytes a.c - 4) (below2 a.c) a.n a.ready a.waiting (drop a.at a.s.now))
-quick c =
-    let a = c.args in
-    let u = c.units in
-    let m : 16 * u.result - 4 ≡ slot_bytes a.c - 4 = omega (arith, u.ensures.value, bytes-units a.c) in
-    c.slots_found-found.ensures.sound_value ∙ rw (m, c.below-least.ensures.value)
 
 pub returns-then-found : goal.returns-then-found
 returns-then-found c =
-    let a = c.args in
-    let t = drop a.at a.s.now in
-    let B : (i : ℕ) → get_or t i 0 < 256 = λ i. rw (get_or-drop a.at a.s.now i 0) (omega (arith, c.type_inv.s (a.at + i))) in
-    let u : T (slots_checked (slot_bytes a.c - 4) (below2 a.c) a.n a.ready a.waiting t) = true-T _ (sym (quick (goal.at.returns-then-found c).After-slots_found-found) ∙ c.if-found.true) in record {
-      sound_value = c.if-found.true ∙ sym (T_true (slots_exactly a.c a.begin a.n a.ready a.waiting t)
-          (quick_exact a.c (omega arith) a.n a.begin a.ready a.waiting t B (omega arith) u));
-      bytes_value = c.slots_found-found.ensures.bytes_value;
-      small = c.slots_found-found.ensures.small;
-    }
+    let g = c.args.g in
+    let k = c.args.c in
+    let m = g.masks in
+    let t = drop g.at c.args.s.now in
+    let b = c.of-b in
+    let r = b.result.of_class in
+    let B : (i : ℕ) → get_or t i 0 < 256 = λ i. rw (get_or-drop g.at c.args.s.now i 0) (omega (arith, c.type_inv.s (g.at + i))) in
+    let most : b.result.most ≡ slot_bytes k - 4 = rw (← b.ensures) (omega (arith, r.1)) in
+    let least : b.result.least ≡ below2 k = rw (← b.ensures) r.2 in
+    let u : slots_checked (slot_bytes k - 4) (below2 k) g.n m.ready m.waiting t ≡ true =
+    rw (← most, ← least) (sym c.slots_found-found.ensures.sound_value ∙ c.if-found.true) in
+    let v : slots_exactly k g.begin g.n m.ready m.waiting t ≡ true =
+    T_true _ (quick_exact k (omega arith) g.n g.begin m.ready m.waiting t B g.on_unit.1 (true-T _ u)) in
+    ap Some c.slots_found-found.ensures.bytes_value ∙ sym (choose-true _ _ _ v)
 
--- what the class says
-by_class : (c : After-slots_found-found) → (let a = c.args in
-    (16 * c.units.result ≡ slot_bytes a.c) × (c.below-least.result ≡ below2 a.c))
-by_class c =
-    let a = c.args in
-    (omega (arith, c.units.ensures.value, bytes-units a.c), c.below-least.ensures.value)
+pub returns-then-slots_tested : goal.returns-then-slots_tested
+returns-then-slots_tested c =
+    ap Some c.slots_found-found.ensures.bytes_value
+    ∙ sym (choose-true _ _ _ (rw (← c.of-b.ensures, ← c.with_masks.ensures) (sym c.slots_tested.ensures ∙ c.if-slots_tested.true)))
 
-pub slots_tested-requires : goal.slots_tested-requires
-slots_tested-requires c =
-    let p = c.requires in record { n_le_most_slots = (p.0, p.1, p.2, p.3); bytes_value = by_class (goal.at.slots_tested-requires c).After-slots_found-found }
-
-pub slots_tested-requires-2 : goal.slots_tested-requires-2
-slots_tested-requires-2 c =
-    let p = c.requires in record { n_le_most_slots = (p.0, p.1, p.2, p.3); bytes_value = by_class (goal.at.slots_tested-requires-2 c).After-slots_found-found }
+pub returns : goal.returns
+returns c = sym (choose-false _ _ _ (rw (← c.of-b.ensures, ← c.with_masks.ensures) (sym c.slots_tested.ensures ∙ c.if-slots_tested.false)))

@@ -7,5 +7,5 @@ use Rattle.slot_walks.proofs.slots_sound.Given as goal
 
 abbrev pub invariant-loop-i : goal.invariant-loop-i
 invariant-loop-i l =
-    (slots_exactly l.c l.begin l.n l.ready l.waiting (drop l.at l.s)
-    ≡ slots_exactly l.c (l.begin + l.i * slot_bytes l.c) (l.n - l.i) (l.ready / 2 ^ l.i) (l.waiting / 2 ^ l.i) (drop (l.at + 8 * l.i) l.s))
+    (slots_exactly l.b.class l.g.begin l.g.n l.g.masks.ready l.g.masks.waiting (drop l.g.at l.s)
+    ≡ slots_exactly l.b.class (l.g.begin + l.i * slot_bytes l.b.class) (l.g.n - l.i) (l.g.masks.ready / 2 ^ l.i) (l.g.masks.waiting / 2 ^ l.i) (drop (l.g.at + 8 * l.i) l.s))

@@ -9,6 +9,6 @@ use Rattle.slot_walks.proofs.slots_walk.Given as goal
 abbrev pub invariant-loop-i : goal.invariant-loop-i
 invariant-loop-i l =
     (l.bytes ≤ 16777216 * l.i)
-    × (slots_checked l.most l.least l.n l.ready l.waiting (drop l.at l.s)
-    ≡ (l.sound && slots_checked l.most l.least (l.n - l.i) (l.ready / 2 ^ l.i) (l.waiting / 2 ^ l.i) (drop (l.at + 8 * l.i) l.s)))
-    × (sizes_in l.n (drop l.at l.s) ≡ l.bytes + sizes_in (l.n - l.i) (drop (l.at + 8 * l.i) l.s))
+    × (slots_checked l.b.most l.b.least l.g.n l.g.masks.ready l.g.masks.waiting (drop l.g.at l.s)
+    ≡ (l.sound && slots_checked l.b.most l.b.least (l.g.n - l.i) (l.g.masks.ready / 2 ^ l.i) (l.g.masks.waiting / 2 ^ l.i) (drop (l.g.at + 8 * l.i) l.s)))
+    × (sizes_in l.g.n (drop l.g.at l.s) ≡ l.bytes + sizes_in (l.g.n - l.i) (drop (l.g.at + 8 * l.i) l.s))

@@ -1,7 +1,9 @@
 -- `slotpool_plain_resize_in_place` meets its contract.
+use Rattle.mem.proofs.Prelude.{◌∙◌}
 use Rattle.model.specs.Answers.{reply_answer}
 use Rattle.answers.proofs.Gives.{gives}
+use Rattle.answers.proofs.Numbers.{reply_number}
 use Rattle.slotpool_plain.proofs.slotpool_plain_resize_in_place.Goals as goal
 
 pub returns : goal.returns
-returns c = let k = c.resize_in_place-r in gives (reply_answer k.result) c.number_of.ensures c.value_of.ensures k.ensures
+returns c = let k = c.resize_in_place-r in gives (reply_answer k.result) (c.number_of.ensures ∙ reply_number k.result) c.value_of.ensures k.ensures

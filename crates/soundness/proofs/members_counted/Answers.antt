@@ -1,65 +1,74 @@
 -- `members_counted` meets its contract: the law of a group's slots, over what the calls give.
-use Rattle.mem.proofs.Prelude.{◌∙◌, ◌≡◌, sym, ap, true, ◌&&◌, not, eqb, ◌+◌, ◌-◌, arith, rules, not-true, not-false, drop, Some, None}
+use Rattle.mem.proofs.Prelude.{◌∙◌, ◌≡◌, sym, ap, refl, true, false, Bool, ◌&&◌, not, eqb, ℕ, ◌+◌, ◌-◌, arith, drop, Some, None}
 use Rattle.mem.proofs.Prelude.{eq-eqb, ne_eqb, ones}
+use Rattle.mem.specs.Lists.{choose}
 use Rattle.mem.proofs.Tests.{true-T, choose-true, choose-false}
-use Rattle.model.specs.Tables.{view_group}
+use Rattle.model.specs.Tables.{sizes_in}
+use Rattle.slot_walks.specs.Slots.{slots_exactly}
 use Rattle.soundness.specs.Checks.{members_checked}
-use Rattle.rows.specs.Counts.{group_totals}
 use Rattle.soundness.proofs.Groups.{members_law, slots_few}
 use Rattle.soundness.proofs.Counts.{members_totals}
 use Rattle.soundness.proofs.members_counted.Goals as goal
-use Rattle.soundness.proofs.members_counted.Goals.{After-group_totals-t, After-slots_right-found, Else-not-found}
+use Rattle.soundness.proofs.members_counted.Goals.{After-group_totals-t, After-slots_right, In_ok-bytes}
 
-law : (c : After-slots_right-found) → (let a = c.args in
-    let r = c.quad-r.result in
-    let w = c.quad-w.result in
-    members_checked a.c a.begin (drop a.at a.s.now) ≡ (c.slots_right-found.result.sound && not (eqb (a.n - (ones r + ones w)) 0)))
+-- a sum that is given, or not, if a test passes
+sum_given : (b : Bool) (x y : ℕ) → choose b (Some x) None ≡ Some y → (b ≡ true) × (y ≡ x)
+unfolding choose
+sum_given true x y e = (refl, cc)
+sum_given false x y e = let z : ◌≡◌ {A = ℕ} 0 1 = cc in absurd (omega arith)
+
+sum_refused : (b : Bool) (x : ℕ) → choose b (Some x) None ≡ None → b ≡ false
+unfolding choose
+sum_refused true x e = let z : ◌≡◌ {A = ℕ} 0 1 = cc in absurd (omega arith)
+sum_refused false x e = refl
+
+-- the test of the slots
+abbrev walked : After-slots_right → Bool
+walked c = let a = c.args in slots_exactly a.c a.begin a.n c.quad.result c.quad-2.result (drop (a.at + 16) a.s.now)
+
+law : (c : After-slots_right) → (let a = c.args in
+    members_checked a.c a.begin (drop a.at a.s.now) ≡ (walked c && not (eqb (a.n - (ones c.quad.result + ones c.quad-2.result)) 0)))
 law c =
     let a = c.args in
-    let r = c.quad-r in
-    let w = c.quad-w in
-    members_law a.s.now a.at a.c a.begin a.n r.result w.result c.requires.record_in_bounds.2 r.ensures w.ensures
-    ∙ rw (← c.slots_right-found.ensures.sound_value)
+    members_law a.s.now a.at a.c a.begin a.n c.quad.result c.quad-2.result c.requires.record_in_bounds.2 c.quad.ensures c.quad-2.ensures
 
-pub returns-then-not-found : goal.returns-then-not-found
-returns-then-not-found c =
+pub returns-in_err-bytes : goal.returns-in_err-bytes
+returns-in_err-bytes c =
     let a = c.args in
-    let t = drop a.at a.s.now in
-    sym (choose-false (members_checked a.c a.begin t) (Some (group_totals a.k (view_group a.c t))) None
-    (law (goal.at.returns-then-not-found c).After-slots_right-found ∙ rw (not-true c.slots_right-found.result.sound c.if-not-found.true)))
+    let e : c.from_residual.result ≡ None = grind arith in
+    let w = (goal.at.returns-in_err-bytes c).After-slots_right in
+    e ∙ sym (choose-false (members_checked a.c a.begin (drop a.at a.s.now)) _ None
+    (law w ∙ rw (sum_refused (walked w) _ (sym c.slots_right.ensures ∙ c.in_err-bytes.was))))
 
 -- the slots passed
-passed : (c : Else-not-found) → c.slots_right-found.result.sound ≡ true
-passed c = not-false c.slots_right-found.result.sound c.if-not-found.false
+passed : (c : In_ok-bytes) → (walked (goal.at.In_ok-bytes c).After-slots_right ≡ true) × (c.in_ok-bytes.bytes ≡ sizes_in c.args.n (drop (c.args.at + 16) c.args.s.now))
+passed c = sum_given _ _ _ (sym c.slots_right.ensures ∙ c.in_ok-bytes.was)
 
 pub group_totals-t-requires : goal.group_totals-t-requires
 group_totals-t-requires c =
-    let r = c.quad-r.result in
-    let w = c.quad-w.result in
     let a = c.args in
-    (search rules, slots_few a.c a.begin a.n r w _ (true-T _ (sym c.slots_right-found.ensures.sound_value ∙ passed c)))
+    slots_few a.c a.begin a.n c.quad.result c.quad-2.result _ (true-T _ (passed c).0)
 
 -- so a live one is all that is left
 live_law : (c : After-group_totals-t) → (let a = c.args in
     members_checked a.c a.begin (drop a.at a.s.now) ≡ not (eqb c.group_totals-t.result.blocks 0))
 live_law c =
-    law (goal.at.After-group_totals-t c).After-slots_right-found ∙ rw (passed (goal.at.After-group_totals-t c).Else-not-found, c.group_totals-t.ensures)
+    law (goal.at.After-group_totals-t c).After-slots_right ∙ rw ((passed (goal.at.After-group_totals-t c).In_ok-bytes).0, c.group_totals-t.ensures)
 
 pub returns-then-t-eq0 : goal.returns-then-t-eq0
 returns-then-t-eq0 c =
     let a = c.args in
-    let t = drop a.at a.s.now in
-    sym (choose-false (members_checked a.c a.begin t) (Some (group_totals a.k (view_group a.c t))) None
+    sym (choose-false (members_checked a.c a.begin (drop a.at a.s.now)) _ None
     (live_law (goal.at.returns-then-t-eq0 c).After-group_totals-t ∙ ap not (eq-eqb c.group_totals-t.result.blocks 0 (omega arith))))
 
 pub returns : goal.returns
 returns c =
-    let r = c.quad-r in
-    let w = c.quad-w in
     let a = c.args in
-    let t = drop a.at a.s.now in
-    let right : members_checked a.c a.begin t ≡ true = live_law (goal.at.returns c).After-group_totals-t ∙ ap not (ne_eqb c.group_totals-t.result.blocks 0 (λ z. omega arith)) in
+    let r = c.quad in
+    let w = c.quad-2 in
+    let right : members_checked a.c a.begin (drop a.at a.s.now) ≡ true =
+    live_law (goal.at.returns c).After-group_totals-t ∙ ap not (ne_eqb c.group_totals-t.result.blocks 0 (λ z. omega arith)) in
     ap Some (c.group_totals-t.ensures
     ∙ members_totals a.s.now a.at a.c a.begin a.n r.result w.result right c.requires.record_in_bounds.2 r.ensures w.ensures
-    c.slots_right-found.result.bytes a.k c.slots_right-found.ensures.bytes_value)
-    ∙ sym (choose-true (members_checked a.c a.begin t) (Some (group_totals a.k (view_group a.c t))) None right)
+    c.in_ok-bytes.bytes a.k (passed (goal.at.returns c).In_ok-bytes).1)
+    ∙ sym (choose-true (members_checked a.c a.begin (drop a.at a.s.now)) _ None right)

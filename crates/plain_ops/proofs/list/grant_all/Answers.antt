@@ -2,7 +2,7 @@
 use Rattle.mem.proofs.Prelude.{◌∙◌, sym, refl}
 use Rattle.model.specs.Plain.{slots_layout}
 use Rattle.frames.proofs.Grants.{one_placed, one_further, all_done}
-use Rattle.plain_tables.proofs.Opens.{by_slots}
+use Rattle.plain_tables.proofs.Rooms.{by_slots}
 use Rattle.plain_ops.proofs.list.grant_all.Goals as goal
 
 pub loop-i-init : goal.loop-i-init

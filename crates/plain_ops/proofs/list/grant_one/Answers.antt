@@ -13,7 +13,7 @@ use Rattle.mem.specs.Bytes.{put}
 use Rattle.frames.specs.Blocks.{Standing}
 use Rattle.frames.specs.Grants.{handle_of, next_arena}
 use Rattle.frames.proofs.Places.{reserved_stands}
-use Rattle.plain_tables.proofs.Opens.{by_slots}
+use Rattle.plain_tables.proofs.Rooms.{by_slots}
 use Rattle.frames.proofs.Reserved.{reserved_place}
 use Rattle.plain_ops.proofs.list.grant_one.Goals as goal
 use Rattle.plain_ops.proofs.list.grant_one.Goals.{In_ok-b}
