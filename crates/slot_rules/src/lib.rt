@@ -73,8 +73,8 @@ impl Alignment {
 
 // The record of a slot whose block is ordinary, if it has one. Every rule is tested, with no branch between them, so that the loop over the
 // slots is vectorised.
-pub fn record_sound(r: Record, ready: bool, waiting: bool, b: Bounds) -> bool
-    ensures { result ≡ record_checked b.most b.least ready waiting r.lo r.hi }
+pub fn record_sound(r: Record, ready: bool, waiting: bool, most: u32, least: u32) -> bool
+    ensures { result ≡ record_checked most least ready waiting r.lo r.hi }
 {
     let granted = r.lo % 256 == 1;
     let displacement = r.lo / 65536;
@@ -85,9 +85,9 @@ pub fn record_sound(r: Record, ready: bool, waiting: bool, b: Bounds) -> bool
     // It was granted before, or it is ready and has zeros alone.
     let begun = granted | (ready & (r.lo == 0));
     // The block ends within the slot, wherever it begins.
-    let fits = 16 * displacement + size <= b.most;
+    let fits = 16 * displacement + size <= most;
     // A live block is too large for the class two below.
-    let own_class = idle | (b.least < size + 4);
+    let own_class = idle | (least < size + 4);
     // A slot that is not live has no size.
     let cleared = !idle | (r.hi == 0);
     // The size is one that can be asked for, and the byte after it is 0.
@@ -132,7 +132,7 @@ pub fn slot_sound(r: Record, ready: bool, waiting: bool, b: Bounds, begin: usize
     ensures { result ≡ exact_checked b.most b.least begin ready waiting r.lo r.hi }
 {
     if ready | waiting {
-        return record_sound(r, ready, waiting, b);
+        return record_sound(r, ready, waiting, b.most, b.least);
     }
     live_sound(r, b, begin)
 }

@@ -98,7 +98,7 @@ fn slots_walk(s: &[u8], g: Slots, b: Bounds) -> Found
     let mut bytes = 0;
     for i in 0..g.n {
         let r = g.record_at(s, i);
-        sound = sound & slot_rules::record_sound(r, g.ready(i), g.waiting(i), b);
+        sound = sound & slot_rules::record_sound(r, g.ready(i), g.waiting(i), b.most, b.least);
         bytes += r.hi % 16777216;
     }
     Found {
