@@ -96,9 +96,9 @@ pub fn record_sound(r: Record, ready: bool, waiting: bool, most: u32, least: u32
 }
 
 // The record of a live slot that begins at a byte of the arena, whatever its alignment.
-fn live_sound(r: Record, b: Bounds, begin: usize) -> bool
-    requires { begin < 16777216 }
-    ensures { result ≡ live_checked b.most b.least begin r.lo r.hi }
+fn live_sound(r: Record, most: u32, least: u32, begin: usize) -> bool
+    requires { (most < 131072) × (begin < 16777216) }
+    ensures { result ≡ live_checked most least begin r.lo r.hi }
 {
     let code = (r.lo % 256) as u8;
     // There is such an alignment.
@@ -119,22 +119,29 @@ fn live_sound(r: Record, b: Bounds, begin: usize) -> bool
     }
     let displacement = (r.lo / 65536) as usize;
     // The block ends within the slot, and the enlarged size is of the slot's class or of the one below.
-    let fits = 16 * displacement + size <= b.most as usize;
-    let own_class = (enlarged <= b.most as usize) & ((b.least as usize) < enlarged + 4);
+    let fits = 16 * displacement + size <= most as usize;
+    let own_class = (enlarged <= most as usize) & ((least as usize) < enlarged + 4);
     // The block starts on a boundary.
     let aligned = (begin + 16 * displacement) % classes::align_of(code) == 0;
     fits & own_class & aligned
 }
 
 // The record of a slot, of which only a live one can have an alignment.
-pub fn slot_sound(r: Record, ready: bool, waiting: bool, b: Bounds, begin: usize) -> bool
-    requires { begin < 16777216 }
-    ensures { result ≡ exact_checked b.most b.least begin ready waiting r.lo r.hi }
+pub fn slot_sound(
+    r: Record,
+    ready: bool,
+    waiting: bool,
+    most: u32,
+    least: u32,
+    begin: usize,
+) -> bool
+    requires { (most < 131072) × (begin < 16777216) }
+    ensures { result ≡ exact_checked most least begin ready waiting r.lo r.hi }
 {
     if ready | waiting {
-        return record_sound(r, ready, waiting, b.most, b.least);
+        return record_sound(r, ready, waiting, most, least);
     }
-    live_sound(r, b, begin)
+    live_sound(r, most, least, begin)
 }
 
 // The record of a slot of a group whose live blocks all have one alignment, the slot beginning at a byte of the arena: as `record_sound`, every

@@ -149,7 +149,8 @@ fn slots_sound(s: &[u8], g: Slots, b: Bounds) -> bool
             g.record_at(s, i),
             g.ready(i),
             g.waiting(i),
-            b,
+            b.most,
+            b.least,
             g.begin + i * bytes,
         ) {
             return false;

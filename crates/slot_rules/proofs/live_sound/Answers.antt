@@ -42,5 +42,5 @@ returns c =
       le-leb 1 (a.r.lo % 256) (omega arith),
       le-leb (a.r.lo % 256) 9 (omega arith),
       lt-ltb n.result 131052 (omega arith),
-      and-true (leb (16 * (a.r.lo / 65536) + a.r.hi) a.b.most),
+      and-true (leb (16 * (a.r.lo / 65536) + a.r.hi) a.most),
     )
