@@ -1,5 +1,5 @@
 -- Laws of bytes: writes, parts, zeros, tests of equality, numbers low byte first, and walks over lists.
-use Rattle.mem.proofs.Prelude.{◌∙◌, ◌≡◌, sym, ap, refl, ap₂, subst, Bool, ◌&&◌, and_assoc, inl, inr, ◌⊎◌, List, [], ◌∷◌, ◌++◌}
+use Rattle.mem.proofs.Prelude.{◌∙◌, ◌≡◌, sym, ap, refl, ap₂, subst, Bool, false, ◌&&◌, and_assoc, and-false, inl, inr, ◌⊎◌, List, [], ◌∷◌, ◌++◌}
 use Rattle.mem.proofs.Prelude.{append_assoc, ◌+◌, ℕ, ◌<◌, ◌≤◌, ◌*◌, ◌-◌, suc, ◌/◌, zero, ◌^◌, ◌%◌, add-zero, zero-add, pow-suc, arith, T, eqb, ltb}
 use Rattle.mem.proofs.Prelude.{eqb→eq, ltb→lt, eqb_refl, lt→ltb, length, drop, get_or, length-append, take, set, length-drop, length-replicate}
 use Rattle.mem.proofs.Prelude.{take-append-drop, drop-drop, drop-cons, get_or-drop, length-take-le}
@@ -215,6 +215,12 @@ same→eq (x ∷ a) (y ∷ b) t =
 
 pub eq→same : (a b : List ℕ) → a ≡ b → T (same a b)
 eq→same a b e = subst (λ (l : List ℕ). T (same a l)) e (same_refl a)
+
+pub same_lengths : (a b : List ℕ) → (length a ≡ length b → ⊥) → same a b ≡ false
+same_lengths [] [] h = absurd (h refl)
+same_lengths [] (y ∷ ys) h = refl
+same_lengths (x ∷ xs) [] h = refl
+same_lengths (x ∷ xs) (y ∷ ys) h = rw (same_lengths xs ys (λ e. h (ap suc e))) (and-false (eqb x y))
 
 -- a test against two lists is a test against each
 pub same-append : (s x y : List ℕ) → same s (x ++ y) ≡ (same (take (length x) s) x && same (drop (length x) s) y)

@@ -40,7 +40,7 @@ fn site_for(row: Row, len: usize, room: &mut [u8], c: usize) -> Option<usize>
     ensures value { result ≡ site_found row.bytes (site row.bytes (view_by slots_layout row.bytes room.old) c) }
     ensures room_after { room.new ≡ site_room_by slots_layout row.bytes c room.old (site row.bytes (view_by slots_layout row.bytes room.old) c) }
 {
-    if let Some(i) = walks::find_open::<BySlots>(row, len, room, c, 0) {
+    if let Some(i) = walks::lowest_open::<BySlots>(row, len, room, c) {
         return Some(i);
     }
     let i = rows::find_run(row, len, room, c)?;

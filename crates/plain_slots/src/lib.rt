@@ -13,23 +13,6 @@ ghost use Rattle.plain_slots.specs.Slots.{slot_in, stored, live_in, Small};
 
 use model::{Alloc, Slot};
 
-// "For each group: its class, its first row, and of each slot whether it is ready, waiting or live."
-// Slot j of the group whose first row is row i.
-pub fn slot_at(room: &[u8], i: usize, j: usize) -> Slot
-    requires i_lt_most_rows { (i < most_rows) × (row_at i + row_record_bytes ≤ length room.now) }
-    requires j_lt_most_slots { j < most_slots }
-    ensures value { result ≡ slot_in j (drop (row_at i) room.now) }
-    ensures small { Small result }
-{
-    let at = slot_place(i, j);
-    slot_of(
-        room[at + model::KIND],
-        room[at + model::COUNT],
-        mem::get2(room, at + model::DISP),
-        mem::get3(room, at + model::SIZE),
-    )
-}
-
 // How many slots are live in the group of class c whose first row is row i.
 pub fn live_in(room: &[u8], i: usize, c: usize) -> usize
     requires i_lt_most_rows { (i < most_rows) × (row_at i + row_record_bytes ≤ length room.now) }
@@ -49,6 +32,23 @@ fn one_if_live(x: Slot) -> usize
     ensures small { result ≤ 1 }
 {
     usize::from(matches!(x, Slot::Live(_)))
+}
+
+// "For each group: its class, its first row, and of each slot whether it is ready, waiting or live."
+// Slot j of the group whose first row is row i.
+pub fn slot_at(room: &[u8], i: usize, j: usize) -> Slot
+    requires i_lt_most_rows { (i < most_rows) × (row_at i + row_record_bytes ≤ length room.now) }
+    requires j_lt_most_slots { j < most_slots }
+    ensures value { result ≡ slot_in j (drop (row_at i) room.now) }
+    ensures small { Small result }
+{
+    let at = slot_place(i, j);
+    slot_of(
+        room[at + model::KIND],
+        room[at + model::COUNT],
+        mem::get2(room, at + model::DISP),
+        mem::get3(room, at + model::SIZE),
+    )
 }
 
 // Where the record of slot j stands, in the group whose first row is row i.

@@ -12,14 +12,14 @@ use Rattle.model.proofs.Plain.{slots_laws}
 use Rattle.plain_slots.specs.Slots.{live_in}
 use Rattle.walks.specs.Kept.{Kept}
 
-live_few : (ss : List Slot) → live_in ss ≤ length ss
+pub live_few : (ss : List Slot) → live_in ss ≤ length ss
 live_few [] = omega arith
 live_few (Fresh ∷ ss) = omega (arith, live_few ss)
 live_few (Idle r k d ∷ ss) = omega (arith, live_few ss)
 live_few (Live a ∷ ss) = omega (arith, live_few ss)
 
 -- not all are live just if one is not
-some_idle : (ss : List Slot) → ltb (live_in ss) (length ss) ≡ any (λ x. not (is_live x)) ss
+pub some_idle : (ss : List Slot) → ltb (live_in ss) (length ss) ≡ any (λ x. not (is_live x)) ss
 some_idle [] = refl
 some_idle (Fresh ∷ ss) = lt-ltb (0 + live_in ss) (suc (length ss)) (omega (arith, live_few ss))
 some_idle (Idle r k d ∷ ss) = lt-ltb (0 + live_in ss) (suc (length ss)) (omega (arith, live_few ss))
@@ -35,7 +35,7 @@ idle_sum (Fresh ∷ ss) = omega (arith, idle_sum ss)
 idle_sum (Idle r k d ∷ ss) = omega (arith, idle_sum ss)
 idle_sum (Live a ∷ ss) = omega (arith, idle_sum ss)
 
-group-length : (c : ℕ) (t : List ℕ) → length (plain_group c t) ≡ slots_of c
+pub group-length : (c : ℕ) (t : List ℕ) → length (plain_group c t) ≡ slots_of c
 unfolding plain_group plain_slots
 group-length c t = many (slots_of c) (drop 16 t)
   where

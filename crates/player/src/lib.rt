@@ -93,17 +93,18 @@ fn play(arena: &mut [u8], room: &mut [u8], t: &mut Totals, trace: &[u8], out: &m
 pub fn replay(
     arena: &mut [u8],
     room: &mut [u8],
-    t: &mut Totals,
+    t: Totals,
     trace: &[u8],
     out: &mut [u8; TEXT],
 ) -> usize
-    ensures value { result ≡ length (printed arena.old (kept_in room.old t.old) trace.now) }
-    ensures out_after { out.new ≡ put 0 (printed arena.old (kept_in room.old t.old) trace.now) out.old }
+    ensures value { result ≡ length (printed arena.old (kept_in room.old t) trace.now) }
+    ensures out_after { out.new ≡ put 0 (printed arena.old (kept_in room.old t) trace.now) out.old }
     ensures prefix_len { IsPrefixLen result out.new }
 {
     if !trace::readable(trace) {
         return line_text::put_bad(out, 0, 0);
     }
-    let _ = pool::set_up(arena, room, t);
-    play(arena, room, t, trace, out)
+    let mut kept = t;
+    let _ = pool::set_up(arena, room, &mut kept);
+    play(arena, room, &mut kept, trace, out)
 }

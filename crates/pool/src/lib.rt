@@ -37,10 +37,11 @@ pub fn set_up(arena: &mut [u8], room: &mut [u8], t: &mut Totals) -> Result<usize
     }
     mem::fill_zero(arena);
     fresh::format(room, len);
-    *t = Totals {
+    let made = Totals {
         free: len / classes::ROW.bytes,
         ..Totals::default()
     };
+    totals::record(t, made);
     Ok(0)
 }
 

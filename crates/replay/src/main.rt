@@ -12,7 +12,7 @@ use std::io;
 use std::io::{Read, Write};
 
 // Writes the text of a trace's lines, and gives its length. Arena and table room are arrays of this program, lent to the library: 16,384
-// bytes, and the size of the tables for as many (docs/TABLES.md).
+// bytes, and the size of the tables for as many (docs/TABLES.md). The totals go with them by value.
 fn replay_text(trace: &[u8], out: &mut [u8; player::TEXT]) -> usize
     ensures value { result ≡ length (lines_text (replayed trace.now)) }
     ensures out_after { out.new ≡ put 0 (lines_text (replayed trace.now)) out.old }
@@ -20,8 +20,8 @@ fn replay_text(trace: &[u8], out: &mut [u8; player::TEXT]) -> usize
 {
     let mut arena = [0u8; 16384];
     let mut room = [0u8; 8464];
-    let mut totals = Totals::default();
-    player::replay(&mut arena, &mut room, &mut totals, trace, out)
+    let totals = Totals::default();
+    player::replay(&mut arena, &mut room, totals, trace, out)
 }
 
 // Reads until the buffer is full or the input ends, and gives the number of bytes that were read.

@@ -2,7 +2,7 @@
 // blocks and of one alignment, an exact one for others.
 #![tactic(auto)]
 
-ghost use Rattle.std.specs.Prelude.{◌≡◌, true, Bool, ◌&&◌, ◌+◌, ◌*◌, ◌/◌, ◌%◌, ◌^◌, ◌≤◌, ◌<◌, length, drop, eqb, Some, None};
+ghost use Rattle.std.specs.Prelude.{◌≡◌, true, Bool, ◌&&◌, ◌+◌, ◌*◌, ◌/◌, ◌%◌, ◌^◌, ◌≤◌, ◌<◌, length, drop, eqb, Ok, Err, MatchResult};
 ghost use Rattle.mem.specs.Lists.{choose};
 ghost use Rattle.mem.specs.Bytes.{number, part};
 ghost use Rattle.model.specs.Tables.{most_slots, slot_record_bytes, sizes_in};
@@ -93,6 +93,7 @@ fn slots_walk(s: &[u8], g: Slots, b: Bounds) -> Found
     requires { g.at + slot_record_bytes * g.n ≤ length s.now }
     ensures sound_value { result.sound ≡ slots_checked b.most b.least g.n g.masks.ready g.masks.waiting (drop g.at s.now) }
     ensures bytes_value { result.bytes ≡ sizes_in g.n (drop g.at s.now) }
+    ensures small { result.bytes ≤ 16777216 * g.n }
 {
     let mut sound = true;
     let mut bytes = 0;
@@ -113,6 +114,7 @@ fn slots_found(s: &[u8], g: Slots, b: Bounds) -> Found
     requires { g.at + slot_record_bytes * g.n ≤ length s.now }
     ensures sound_value { result.sound ≡ slots_checked b.most b.least g.n g.masks.ready g.masks.waiting (drop g.at s.now) }
     ensures bytes_value { result.bytes ≡ sizes_in g.n (drop g.at s.now) }
+    ensures small { result.bytes ≤ 16777216 * g.n }
 {
     if g.masks.ready == 0 {
         if g.masks.waiting == 0 {
@@ -214,21 +216,22 @@ fn slots_tested(s: &[u8], g: Slots, b: Bounds) -> bool
     slots_sound(s, g, b)
 }
 
-// The sum of the requested sizes of the slots of a group of class c, if they are sound. A group of ordinary blocks takes the quickest way; only
-// where that finds anything else are alignments looked at.
-pub fn slots_right(s: &[u8], g: Slots, c: usize) -> Option<u32>
+// The sum of the requested sizes of the slots of a group of class c, of slots that are not sound as the error. A group of ordinary blocks takes
+// the quickest way; only where that finds anything else are alignments looked at.
+pub fn slots_right(s: &[u8], g: Slots, c: usize) -> Result<u32, u32>
     requires { (c < 48) × (g.at + slot_record_bytes * g.n ≤ length s.now) }
-    ensures { result ≡ choose (slots_exactly c g.begin g.n g.masks.ready g.masks.waiting (drop g.at s.now))
-        (Some (sizes_in g.n (drop g.at s.now))) None }
+    ensures value { result ≡ choose (slots_exactly c g.begin g.n g.masks.ready g.masks.waiting (drop g.at s.now))
+        (Ok (sizes_in g.n (drop g.at s.now))) (Err (sizes_in g.n (drop g.at s.now))) }
+    ensures small { MatchResult result (λ bytes. bytes ≤ 16777216 * g.n) (λ bytes. bytes ≤ 16777216 * g.n) }
 {
     let b = Bounds::of(c);
     let found = slots_found(s, g, b);
     if found.sound {
-        return Some(found.bytes);
+        return Ok(found.bytes);
     }
     // A copy, so that it is laid down in memory for this call alone.
     if slots_tested(s, g.with_masks(g.masks), b) {
-        return Some(found.bytes);
+        return Ok(found.bytes);
     }
-    None
+    Err(found.bytes)
 }

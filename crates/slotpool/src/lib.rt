@@ -139,7 +139,7 @@ pub extern "C" fn slotpool_report(
         (listed out.new) }
 {
     let r = pool::report(arena, room, totals);
-    *out = answers::report_totals(r);
+    totals::record(out, answers::report_totals(r));
     answers::number_of(r)
 }
 

@@ -59,7 +59,7 @@ fn members_counted(
         },
         begin: begin,
     };
-    let bytes = slot_walks::slots_right(s, g, c)?;
+    let bytes = slot_walks::slots_right(s, g, c).ok()?;
     let t = group_totals(k, g, bytes);
     if t.blocks == 0 {
         return None;

@@ -8,14 +8,25 @@ ghost use Rattle.totals.specs.Changes.{Small, Makes, Takes, Gives, Drops, Sizes}
 
 use model::Totals;
 
+// The lent record is brought up to date: the one function that writes it.
+pub fn record(t: &mut Totals, next: Totals)
+    ensures { t.new ≡ next }
+{
+    *t = next;
+}
+
 // A group is made of so many free rows, with so many slots, all ready.
 pub fn made(t: &mut Totals, rows: usize, slots: usize)
     requires { (s : Totals) × Makes rows slots t.old s × Small s }
     ensures { (s : Totals) → Makes rows slots t.old s → t.new ≡ s }
 {
-    t.held += rows;
-    t.free -= rows;
-    t.ready += slots;
+    let next = Totals {
+        held: t.held + rows,
+        free: t.free - rows,
+        ready: t.ready + slots,
+        ..*t
+    };
+    record(t, next);
 }
 
 // A ready slot is taken for n bytes, after so many waiting ones became ready.
@@ -23,10 +34,14 @@ pub fn taken(t: &mut Totals, n: usize, refilled: usize)
     requires { (s : Totals) × Takes n refilled t.old s × Small s }
     ensures { (s : Totals) → Takes n refilled t.old s → t.new ≡ s }
 {
-    t.blocks += 1;
-    t.bytes += n;
-    t.ready = t.ready + refilled - 1;
-    t.waiting -= refilled;
+    let next = Totals {
+        blocks: t.blocks + 1,
+        bytes: t.bytes + n,
+        ready: t.ready + refilled - 1,
+        waiting: t.waiting - refilled,
+        ..*t
+    };
+    record(t, next);
 }
 
 // The slot of a block of n bytes is given back, and waits.
@@ -34,9 +49,13 @@ pub fn given(t: &mut Totals, n: usize)
     requires { (s : Totals) × Gives n t.old s × Small s }
     ensures { (s : Totals) → Gives n t.old s → t.new ≡ s }
 {
-    t.blocks -= 1;
-    t.bytes -= n;
-    t.waiting += 1;
+    let next = Totals {
+        blocks: t.blocks - 1,
+        bytes: t.bytes - n,
+        waiting: t.waiting + 1,
+        ..*t
+    };
+    record(t, next);
 }
 
 // A group of so many rows goes with its last block, of n bytes; so many of its slots were ready, and so many waiting.
@@ -44,12 +63,15 @@ pub fn dropped(t: &mut Totals, n: usize, rows: usize, ready: usize, waiting: usi
     requires { (s : Totals) × Drops n rows ready waiting t.old s × Small s }
     ensures { (s : Totals) → Drops n rows ready waiting t.old s → t.new ≡ s }
 {
-    t.blocks -= 1;
-    t.bytes -= n;
-    t.held -= rows;
-    t.free += rows;
-    t.ready -= ready;
-    t.waiting -= waiting;
+    let next = Totals {
+        blocks: t.blocks - 1,
+        bytes: t.bytes - n,
+        held: t.held - rows,
+        free: t.free + rows,
+        ready: t.ready - ready,
+        waiting: t.waiting - waiting,
+    };
+    record(t, next);
 }
 
 // A block of so many bytes gets n.
@@ -57,5 +79,9 @@ pub fn sized(t: &mut Totals, from: usize, n: usize)
     requires { (s : Totals) × Sizes from n t.old s × Small s }
     ensures { (s : Totals) → Sizes from n t.old s → t.new ≡ s }
 {
-    t.bytes = t.bytes - from + n;
+    let next = Totals {
+        bytes: t.bytes - from + n,
+        ..*t
+    };
+    record(t, next);
 }

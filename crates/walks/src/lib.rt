@@ -54,18 +54,12 @@ pub trait Keeping {
     ghost laws: { LayoutLaws layout };
 }
 
-// "groups lie inside the arena and no two share a row": what begins at row i, where n rows are left, is a free row or a whole group.
-fn span_counted<K: Keeping>(row: Row, room: &[u8], i: usize, n: usize) -> Option<Totals>
-    requires n_nonzero { (0 < n) × (i + n ≤ most_rows) × (row_at (i + n) ≤ length room.now) }
-    ensures { result ≡ span_counted K.layout row.bytes (row.bytes * i) n (drop (row_at i) room.now) }
+// "The tables are sound if: the arena length is the recorded one"; and what they count.
+pub fn counted<K: Keeping>(row: Row, len: usize, room: &[u8]) -> Option<Totals>
+    ensures { result ≡ count_if (sound_by K.layout row.bytes len room.now) (totals row.bytes (view_by K.layout row.bytes room.now)) }
 {
-    match rows::frame_at(row, room, i, n)? {
-        Frame::Free => Some(Totals {
-            free: 1,
-            ..Totals::default()
-        }),
-        Frame::Group { class, rows } => K::group_counted(row, room, i, class, rows),
-    }
+    let n = rows::rows_under(row, len, room)?;
+    rows_counted::<K>(row, room, n)
 }
 
 // The n rows of a room: "rows held plus rows free is the arena's rows", so these are the rows passed.
@@ -81,31 +75,30 @@ fn rows_counted<K: Keeping>(row: Row, room: &[u8], n: usize) -> Option<Totals>
     Some(s)
 }
 
-// "The tables are sound if: the arena length is the recorded one"; and what they count.
-pub fn counted<K: Keeping>(row: Row, len: usize, room: &[u8]) -> Option<Totals>
-    ensures { result ≡ count_if (sound_by K.layout row.bytes len room.now) (totals row.bytes (view_by K.layout row.bytes room.now)) }
+// "groups lie inside the arena and no two share a row": what begins at row i, where n rows are left, is a free row or a whole group.
+fn span_counted<K: Keeping>(row: Row, room: &[u8], i: usize, n: usize) -> Option<Totals>
+    requires n_nonzero { (0 < n) × (i + n ≤ most_rows) × (row_at (i + n) ≤ length room.now) }
+    ensures { result ≡ span_counted K.layout row.bytes (row.bytes * i) n (drop (row_at i) room.now) }
 {
-    let n = rows::rows_under(row, len, room)?;
-    rows_counted::<K>(row, room, n)
-}
-
-// Whether row i is the first row of a group of class c "with a slot not live".
-fn opens_at<K: Keeping>(room: &[u8], i: usize, c: usize) -> bool
-    requires i_lt_most_rows { (i < most_rows) × (row_at i + row_record_bytes ≤ length room.now) }
-    requires c_bound { c < 48 }
-    ensures { (row len : ℕ) (X : Pool) (s : Span) (Y : Pool) → Next K.layout row len room.now i X s Y → result ≡ opens c s }
-{
-    let h = rows::holder_at(room, i);
-    let Holder::First(k) = h else {
-        return false;
-    };
-    if mem::wide(k) != c {
-        return false;
+    match rows::frame_at(row, room, i, n)? {
+        Frame::Free => Some(Totals {
+            free: 1,
+            ..Totals::default()
+        }),
+        Frame::Group { class, rows } => K::group_counted(row, room, i, class, rows),
     }
-    K::serves(room, i, c)
 }
 
-// "Of the groups of n's class with a slot not live, take the one with the lowest first row": looked for from a row on before which there is none.
+// "Of the groups of n's class with a slot not live, take the one with the lowest first row."
+pub fn lowest_open<K: Keeping>(row: Row, len: usize, room: &[u8], c: usize) -> Option<usize>
+    requires room_value { sound_by K.layout row.bytes len room.now ≡ true }
+    requires c_bound { c < 48 }
+    ensures { result ≡ site_found row.bytes (open_from [] c (view_by K.layout row.bytes room.now)) }
+{
+    find_open::<K>(row, len, room, c, 0)
+}
+
+// The same, looked for from a row on before which there is none.
 pub fn find_open<K: Keeping>(
     row: Row,
     len: usize,
@@ -126,6 +119,22 @@ pub fn find_open<K: Keeping>(
         i += rows::rows_held(row, rows::holder_at(room, i));
     }
     None
+}
+
+// Whether row i is the first row of a group of class c "with a slot not live".
+fn opens_at<K: Keeping>(room: &[u8], i: usize, c: usize) -> bool
+    requires i_lt_most_rows { (i < most_rows) × (row_at i + row_record_bytes ≤ length room.now) }
+    requires c_bound { c < 48 }
+    ensures { (row len : ℕ) (X : Pool) (s : Span) (Y : Pool) → Next K.layout row len room.now i X s Y → result ≡ opens c s }
+{
+    let h = rows::holder_at(room, i);
+    let Holder::First(k) = h else {
+        return false;
+    };
+    if mem::wide(k) != c {
+        return false;
+    }
+    K::serves(room, i, c)
 }
 
 // The live block of a handle, undamaged, or else why not, in the order 4, 5, 10, 6, 7. 02 §7: "starts are handles with the low four bits cleared"
@@ -167,6 +176,33 @@ pub fn locate_for<K: Keeping>(
     )
 }
 
+// 02 §3: "answer 8 exactly if granting the accepted sizes in order would meet it", found without a change of the tables. The sizes are served
+// from notes.
+pub fn fits<K: Keeping>(row: Row, len: usize, room: &[u8], sizes: &[usize]) -> bool
+    requires room_value { sound_by K.layout row.bytes len room.now ≡ true }
+    requires small_sizes { every (λ n. ltb n size_limit) sizes.now ≡ true }
+    ensures { result ≡ is_some (reserve_all row.bytes (view_by K.layout row.bytes room.now) sizes.now) }
+{
+    let mut spare = [0usize; 48];
+    let mut gaps = [0u8; 512];
+    let n = len / row.bytes;
+    note::<K>(row, len, room, &mut spare, &mut gaps[0..n]);
+    serving::serve_all(row, sizes, &mut spare, &mut gaps[0..n])
+}
+
+// Notes in counts and a map that are zero, span by span: the slots of each class that are not live, and the free rows.
+fn note<K: Keeping>(row: Row, len: usize, room: &[u8], spare: &mut [usize], gaps: &mut [u8])
+    requires room_value { sound_by K.layout row.bytes len room.now ≡ true }
+    requires spare_value { (spare.old ≡ zeros 48) × (gaps.old ≡ zeros (len / row.bytes)) }
+    ensures { NotesOf row.bytes (view_by K.layout row.bytes room.now) spare.new gaps.new }
+{
+    let n = len / row.bytes;
+    let mut i = 0;
+    while i < n {
+        i += note_span::<K>(row, room, i, spare, gaps);
+    }
+}
+
 // Notes of what begins at row i, a free row or a group, and how many rows it has.
 fn note_span<K: Keeping>(
     row: Row,
@@ -189,31 +225,4 @@ fn note_span<K: Keeping>(
     let c = mem::wide(k);
     spare[c] += K::idle_in(room, i, c);
     classes::rows(row, c)
-}
-
-// Notes in counts and a map that are zero, span by span: the slots of each class that are not live, and the free rows.
-fn note<K: Keeping>(row: Row, len: usize, room: &[u8], spare: &mut [usize], gaps: &mut [u8])
-    requires room_value { sound_by K.layout row.bytes len room.now ≡ true }
-    requires spare_value { (spare.old ≡ zeros 48) × (gaps.old ≡ zeros (len / row.bytes)) }
-    ensures { NotesOf row.bytes (view_by K.layout row.bytes room.now) spare.new gaps.new }
-{
-    let n = len / row.bytes;
-    let mut i = 0;
-    while i < n {
-        i += note_span::<K>(row, room, i, spare, gaps);
-    }
-}
-
-// 02 §3: "answer 8 exactly if granting the accepted sizes in order would meet it", found without a change of the tables. The sizes are served
-// from notes.
-pub fn fits<K: Keeping>(row: Row, len: usize, room: &[u8], sizes: &[usize]) -> bool
-    requires room_value { sound_by K.layout row.bytes len room.now ≡ true }
-    requires small_sizes { every (λ n. ltb n size_limit) sizes.now ≡ true }
-    ensures { result ≡ is_some (reserve_all row.bytes (view_by K.layout row.bytes room.now) sizes.now) }
-{
-    let mut spare = [0usize; 48];
-    let mut gaps = [0u8; 512];
-    let n = len / row.bytes;
-    note::<K>(row, len, room, &mut spare, &mut gaps[0..n]);
-    serving::serve_all(row, sizes, &mut spare, &mut gaps[0..n])
 }

@@ -4,7 +4,6 @@ use Rattle.model.specs.Plans.{open_from, run_from}
 use Rattle.model.specs.Tables.{view_by}
 use Rattle.model.specs.Plain.{slots_layout}
 use Rattle.rows.specs.Rows.{Lent, site_found}
-use Rattle.rows.proofs.Walks.{open_start}
 use Rattle.frames.proofs.Sites.{site_open, site-none, run_inside, site-made}
 use Rattle.plain_tables.proofs.Rooms.{by_slots}
 use Rattle.plain_ops.proofs.site_for.Goals as goal
@@ -13,19 +12,18 @@ use Rattle.plain_ops.proofs.site_for.Goals.{In_ok-i, In_default, Start}
 room : (s : Start) → Lent slots_layout s.args.row.bytes s.args.len s.args.room.now
 room s = by_slots s.requires.room_value s.args.row.lawful
 
-pub find_open-requires : goal.find_open-requires
-find_open-requires c =
-    let a = c.args in record { room_value = c.requires.room_value; c_bound = (c.requires.c_bound, open_start slots_layout a.row.bytes a.room.now a.c) }
+pub lowest_open-requires : goal.lowest_open-requires
+lowest_open-requires c = c.requires
 
 pub returns-in-Some : goal.returns-in-Some
 returns-in-Some c =
-    let a = site_open (room (goal.at.returns-in-Some c).Start) c.args.c c.in-Some.i (sym c.in-Some.is ∙ c.find_open.ensures) in
+    let a = site_open (room (goal.at.returns-in-Some c).Start) c.args.c c.in-Some.i (sym c.in-Some.is ∙ c.lowest_open.ensures) in
     record { value = a.found; room_after = a.room }
 
 -- no group can serve
 shut : (c : In_default) → (let a = c.args in
     None ≡ site_found a.row.bytes (open_from [] a.c (view_by slots_layout a.row.bytes a.room.now)))
-shut c = sym c.in_default.is ∙ c.find_open.ensures
+shut c = sym c.in_default.is ∙ c.lowest_open.ensures
 
 pub returns-in_err-i : goal.returns-in_err-i
 returns-in_err-i c =

@@ -16,7 +16,7 @@ returns-then-not-readable c =
     let a = c.args in
     let e = c.put_bad.ensures in
     let h = sym c.readable.ensures ∙ c.if-not-readable.true in
-    let w = printed-bad a.arena.now (kept_in a.room.now a.t.now) a.trace.now h in
+    let w = printed-bad a.arena.now (kept_in a.room.now a.t) a.trace.now h in
     let o = e.out_after ∙ ap (λ (t : List ℕ). put 0 t a.out.now) (sym w) in
     let l = put-length 0 (line_text (Line.bad 0)) a.out.now in
     record { value = omega (arith, e.value, ap length w); out_after = o; prefix_len = prefix_len_of_le _ _ (omega (arith, e.small, ap length e.out_after, l)) }
@@ -33,7 +33,7 @@ returns c =
     let e = c.play.ensures in
     let h = sym c.readable.ensures ∙ c.if-not-readable.false in
     let w = ap (λ (r : EngineOutcome). played_text r.arena r.kept a.trace.now) c.set_up.ensures
-    ∙ sym (printed_played a.arena.now (kept_in a.room.now a.t.now) a.trace.now h) in
+    ∙ sym (printed_played a.arena.now (kept_in a.room.now a.t) a.trace.now h) in
     let o = e.out_after ∙ ap (λ (t : List ℕ). put 0 t a.out.now) w in
-    let l = put-length 0 (printed a.arena.now (kept_in a.room.now a.t.now) a.trace.now) a.out.now in
+    let l = put-length 0 (printed a.arena.now (kept_in a.room.now a.t) a.trace.now) a.out.now in
     record { value = e.value ∙ ap length w; out_after = o; prefix_len = prefix_len_of_le _ _ (omega (arith, e.small, ap length o, l)) }

@@ -33,7 +33,7 @@ unfolding row_bytes
 returns c =
     let a = c.args in
     let k = kept_in a.room.now a.t.now in
-    rw (zero_totals c.default.result c.default.ensures)
+    rw (c.record.ensures, zero_totals c.default.result c.default.ensures)
     (whole refl c.fill_zero.ensures (ap₂ kept_in
     (c.format.ensures ∙ formatted row_bytes (engine row_bytes) a.arena.now k a.room.now refl masks_layout (fit (goal.at.returns c).Else-room-size))
     (sym (fresh-totals row_bytes (length a.arena.now / row_bytes))))

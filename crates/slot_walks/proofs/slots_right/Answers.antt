@@ -1,5 +1,5 @@
 -- `slots_right` meets its contract: slots that pass the quick test pass every rule.
-use Rattle.mem.proofs.Prelude.{◌∙◌, ◌≡◌, sym, ap, true, ℕ, ◌+◌, ◌-◌, ◌<◌, arith, drop, get_or, get_or-drop, Some}
+use Rattle.mem.proofs.Prelude.{◌∙◌, ◌≡◌, sym, ap, true, ℕ, ◌+◌, ◌-◌, ◌<◌, arith, drop, get_or, get_or-drop, Ok, Err}
 use Rattle.mem.proofs.Tests.{T_true, true-T, choose-true, choose-false}
 use Rattle.classes.specs.Classes.{slot_bytes, below2}
 use Rattle.slot_walks.specs.Slots.{slots_checked, slots_exactly}
@@ -21,12 +21,18 @@ returns-then-found c =
     rw (← most, ← least) (sym c.slots_found-found.ensures.sound_value ∙ c.if-found.true) in
     let v : slots_exactly k g.begin g.n m.ready m.waiting t ≡ true =
     T_true _ (quick_exact k (omega arith) g.n g.begin m.ready m.waiting t B g.on_unit.1 (true-T _ u)) in
-    ap Some c.slots_found-found.ensures.bytes_value ∙ sym (choose-true _ _ _ v)
+    record { value = ap Ok c.slots_found-found.ensures.bytes_value ∙ sym (choose-true _ _ _ v); small = c.slots_found-found.ensures.small }
 
 pub returns-then-slots_tested : goal.returns-then-slots_tested
-returns-then-slots_tested c =
-    ap Some c.slots_found-found.ensures.bytes_value
-    ∙ sym (choose-true _ _ _ (rw (← c.of-b.ensures, ← c.with_masks.ensures) (sym c.slots_tested.ensures ∙ c.if-slots_tested.true)))
+returns-then-slots_tested c = record {
+  value = ap Ok c.slots_found-found.ensures.bytes_value
+      ∙ sym (choose-true _ _ _ (rw (← c.of-b.ensures, ← c.with_masks.ensures) (sym c.slots_tested.ensures ∙ c.if-slots_tested.true)));
+  small = c.slots_found-found.ensures.small;
+}
 
 pub returns : goal.returns
-returns c = sym (choose-false _ _ _ (rw (← c.of-b.ensures, ← c.with_masks.ensures) (sym c.slots_tested.ensures ∙ c.if-slots_tested.false)))
+returns c = record {
+  value = ap Err c.slots_found-found.ensures.bytes_value
+      ∙ sym (choose-false _ _ _ (rw (← c.of-b.ensures, ← c.with_masks.ensures) (sym c.slots_tested.ensures ∙ c.if-slots_tested.false)));
+  small = c.slots_found-found.ensures.small;
+}

@@ -34,4 +34,5 @@ returns c =
       sound_value = sym (l.invariant.1
           ∙ ap (λ (z : Bool). l.sound && z) (walk_end c.args.b.most c.args.b.least g.n l.i g.masks.ready g.masks.waiting t e ∙ sym c.none_past.ensures));
       bytes_value = omega (arith, l.invariant.2, sizes-end (g.n - l.i) t (omega arith));
+      small = rw (← e) l.invariant.0;
     }

@@ -1,6 +1,7 @@
 -- `members_counted` meets its contract: the law of a group's slots, over what the calls give.
-use Rattle.mem.proofs.Prelude.{◌∙◌, ◌≡◌, sym, ap, refl, true, false, Bool, ◌&&◌, not, eqb, ℕ, ◌+◌, ◌-◌, arith, drop, Some, None}
+use Rattle.mem.proofs.Prelude.{◌∙◌, ◌≡◌, sym, ap, refl, true, false, Bool, ◌&&◌, not, eqb, ℕ, ◌+◌, ◌-◌, arith, drop, Some, None, Ok, Err}
 use Rattle.mem.proofs.Prelude.{eq-eqb, ne_eqb, ones}
+use Rattle.std.specs.Result.{result_ok}
 use Rattle.mem.specs.Lists.{choose}
 use Rattle.mem.proofs.Tests.{true-T, choose-true, choose-false}
 use Rattle.model.specs.Tables.{sizes_in}
@@ -11,13 +12,13 @@ use Rattle.soundness.proofs.Counts.{members_totals}
 use Rattle.soundness.proofs.members_counted.Goals as goal
 use Rattle.soundness.proofs.members_counted.Goals.{After-group_totals-t, After-slots_right, In_ok-bytes}
 
--- a sum that is given, or not, if a test passes
-sum_given : (b : Bool) (x y : ℕ) → choose b (Some x) None ≡ Some y → (b ≡ true) × (y ≡ x)
+-- a sum that is given, or not, if a test passes: as a value or as an error, of which the value is taken
+sum_given : (b : Bool) (x y : ℕ) → result_ok (choose b (Ok x) (Err x)) ≡ Some y → (b ≡ true) × (y ≡ x)
 unfolding choose
 sum_given true x y e = (refl, cc)
 sum_given false x y e = let z : ◌≡◌ {A = ℕ} 0 1 = cc in absurd (omega arith)
 
-sum_refused : (b : Bool) (x : ℕ) → choose b (Some x) None ≡ None → b ≡ false
+sum_refused : (b : Bool) (x : ℕ) → result_ok (choose b (Ok x) (Err x)) ≡ None → b ≡ false
 unfolding choose
 sum_refused true x e = let z : ◌≡◌ {A = ℕ} 0 1 = cc in absurd (omega arith)
 sum_refused false x e = refl
@@ -38,11 +39,11 @@ returns-in_err-bytes c =
     let e : c.from_residual.result ≡ None = grind arith in
     let w = (goal.at.returns-in_err-bytes c).After-slots_right in
     e ∙ sym (choose-false (members_checked a.c a.begin (drop a.at a.s.now)) _ None
-    (law w ∙ rw (sum_refused (walked w) _ (sym c.slots_right.ensures ∙ c.in_err-bytes.was))))
+    (law w ∙ rw (sum_refused (walked w) _ (sym (ap result_ok c.slots_right.ensures.value) ∙ sym c.ok.ensures.value ∙ c.in_err-bytes.was))))
 
 -- the slots passed
 passed : (c : In_ok-bytes) → (walked (goal.at.In_ok-bytes c).After-slots_right ≡ true) × (c.in_ok-bytes.bytes ≡ sizes_in c.args.n (drop (c.args.at + 16) c.args.s.now))
-passed c = sum_given _ _ _ (sym c.slots_right.ensures ∙ c.in_ok-bytes.was)
+passed c = sum_given _ _ _ (sym (ap result_ok c.slots_right.ensures.value) ∙ sym c.ok.ensures.value ∙ c.in_ok-bytes.was)
 
 pub group_totals-t-requires : goal.group_totals-t-requires
 group_totals-t-requires c =
