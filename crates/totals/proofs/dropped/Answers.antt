@@ -22,5 +22,7 @@ pub overflow_sub-next-5 : goal.overflow_sub-next-5
 overflow_sub-next-5 c = let p = c.requires in omega (arith, p.1.waiting)
 
 pub returns : goal.returns
-returns c s h = c.record.ensures ∙ six-same s (omega (arith, h.blocks)) (omega (arith, h.bytes)) (omega (arith, h.held)) (omega (arith, h.free)) (omega (arith, h.ready))
+returns c s h =
+    c.record.ensures
+    ∙ six-same s (omega (arith, h.blocks)) (omega (arith, h.bytes)) (omega (arith, h.held)) (omega (arith, h.free)) (omega (arith, h.ready))
     (omega (arith, h.waiting))

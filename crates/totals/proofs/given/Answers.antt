@@ -13,5 +13,7 @@ pub overflow_add-next : goal.overflow_add-next
 overflow_add-next c = let p = c.requires in omega (arith, p.1.waiting, p.2.waiting)
 
 pub returns : goal.returns
-returns c s h = c.record.ensures ∙ six-same s (omega (arith, h.blocks)) (omega (arith, h.bytes)) (omega (arith, h.held)) (omega (arith, h.free)) (omega (arith, h.ready))
+returns c s h =
+    c.record.ensures
+    ∙ six-same s (omega (arith, h.blocks)) (omega (arith, h.bytes)) (omega (arith, h.held)) (omega (arith, h.free)) (omega (arith, h.ready))
     (omega (arith, h.waiting))

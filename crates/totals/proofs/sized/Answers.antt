@@ -10,5 +10,7 @@ pub overflow_add-next : goal.overflow_add-next
 overflow_add-next c = let p = c.requires in omega (arith, p.1.bytes, p.2.bytes)
 
 pub returns : goal.returns
-returns c s h = c.record.ensures ∙ six-same s (omega (arith, h.blocks)) (omega (arith, h.bytes, h.fits)) (omega (arith, h.held)) (omega (arith, h.free))
+returns c s h =
+    c.record.ensures
+    ∙ six-same s (omega (arith, h.blocks)) (omega (arith, h.bytes, h.fits)) (omega (arith, h.held)) (omega (arith, h.free))
     (omega (arith, h.ready)) (omega (arith, h.waiting))
